@@ -1,0 +1,1 @@
+-- The leaves' definitions, and what holds of whole numbers in f64.

@@ -1,0 +1,1 @@
+// The leaves: numbers taken apart and rounded, each equal to one definition for every f64.
