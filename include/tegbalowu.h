@@ -17,9 +17,9 @@
  *
  * A series of length 0 or a window of 0 is answered with count 0.
  *
- * A pointer is to as many cells as the length after it says, and is aligned for its type; where that
- * length is 0 it may be any pointer. An output overlaps nothing else that is lent. Nothing is kept
- * after the call, so calls on different memory may run at the same time.
+ * A pointer is not null, is aligned for its type, and is to as many cells as the length after it says.
+ * An output or a work slice overlaps nothing else that is lent. Nothing is kept after the call, so calls
+ * that write to different memory may run at the same time.
  *
  * Link with libcapi.a, which `rt staticlib capi` writes to target/staticlib/.
  */

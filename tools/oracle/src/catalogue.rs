@@ -4,6 +4,8 @@
 //! document 01's table, the type of a cell, `[work]` where there is a work slice, and how the
 //! expected cells are reckoned. A function counts as exported once include/tegbalowu.h declares it.
 
+use std::hint::black_box;
+
 use crate::call::{Answer, Call, Cell, Kind, words};
 use crate::library::Lent;
 use crate::{smoother, tick_mean};
@@ -19,8 +21,12 @@ pub enum Role {
     Period,
 }
 
+// The roles as the types that C passes; a role is unused until a function that has it is exported.
+#[allow(dead_code)]
 type Window = usize;
+#[allow(dead_code)]
 type Real = f64;
+#[allow(dead_code)]
 type Period = f64;
 
 /// Which values refusal 5 lets through.
@@ -39,19 +45,22 @@ pub struct Function {
     pub domain: Domain,
     /// Refusal 9 where the windows do not rise strictly.
     pub rising: bool,
+    /// The expected cells of a call that is answered.
     pub source: fn(&Call) -> Vec<u64>,
-    pub library: Option<fn(&Call, &mut Lent, &mut Lent) -> Answer>,
+    /// The same reckoning, or where `timed` is given that, with nothing kept: what a benchmark runs.
+    pub reckon: fn(&Call),
+    pub timed: Option<fn(&Call)>,
+    pub library: Option<Exported>,
 }
 
-/// The entries' numbers in a record are their places here, from 1.
-pub fn all() -> &'static [Function] {
-    FUNCTIONS
-}
+/// A C function called on the memory lent for its output and its work slice.
+pub type Exported = fn(&Call, &mut Lent, &mut Lent) -> Answer;
 
 pub fn exported() -> impl Iterator<Item = &'static Function> {
     FUNCTIONS.iter().filter(|f| f.library.is_some())
 }
 
+/// A function's number in a record: its place here, from 1.
 pub fn number(function: &Function) -> u64 {
     1 + FUNCTIONS.iter().position(|f| f.name == function.name).unwrap() as u64
 }
@@ -69,6 +78,16 @@ macro_rules! value {
     };
     ($value:expr, Period) => {
         $value.real()
+    };
+}
+
+/// Names the series and the parameters of a call.
+macro_rules! take {
+    ($call:ident, [$($series:ident),+], [$($parameter:ident: $role:ident),*]) => {
+        let mut _given = $call.series.iter();
+        $(let $series: &[f64] = _given.next().unwrap();)+
+        let mut _values = $call.parameters.iter();
+        $(let $parameter = value!(_values.next().unwrap(), $role);)*
     };
 }
 
@@ -92,48 +111,38 @@ macro_rules! functions {
         }
 
         static FUNCTIONS: &[Function] = &[$({
-            fn source(call: &Call) -> Vec<u64> {
-                let mut given = call.series.iter();
-                $(let $series: &[f64] = given.next().unwrap();)+
-                let mut values = call.parameters.iter();
-                $(let $parameter = value!(values.next().unwrap(), $role);)*
-                let _ = values.next();
-                words::<$cell>($source)
+            fn cells(call: &Call) -> Vec<$cell> {
+                take!(call, [$($series),+], [$($parameter: $role),*]);
+                $source
             }
 
             #[cfg(exported = $name)]
-            const LIBRARY: Option<fn(&Call, &mut Lent, &mut Lent) -> Answer> = {
-                fn library(call: &Call, out: &mut Lent, work: &mut Lent) -> Answer {
-                    let mut given = call.series.iter();
-                    $(let $series: &[f64] = given.next().unwrap();)+
-                    let mut values = call.parameters.iter();
-                    $(let $parameter = value!(values.next().unwrap(), $role);)*
-                    let _ = (values.next(), &work);
-                    // Each pointer is to as many cells as its length says, and none overlap.
-                    unsafe {
-                        $symbol(
-                            $($series.as_ptr(), $series.len(),)+
-                            $($parameter,)*
-                            out.pointer().cast(), out.len(),
-                            $({ let $work = work.pointer(); $work.cast() }, work.len(),)?
-                        )
-                    }
+            const LIBRARY: Option<Exported> = Some(|call, out, _work| {
+                take!(call, [$($series),+], [$($parameter: $role),*]);
+                // Each pointer is to as many cells as the length after it says, and none overlap.
+                unsafe {
+                    $symbol(
+                        $($series.as_ptr(), $series.len(),)+
+                        $($parameter,)*
+                        out.pointer().cast(), out.len(),
+                        $({ let $work = _work.pointer(); $work.cast() }, _work.len(),)?
+                    )
                 }
-                Some(library)
-            };
+            });
             #[cfg(not(exported = $name))]
-            const LIBRARY: Option<fn(&Call, &mut Lent, &mut Lent) -> Answer> = None;
+            const LIBRARY: Option<Exported> = None;
+            const WORK: &[&str] = &[$(stringify!($work))?];
 
-            #[allow(clippy::needless_update)]
             Function {
                 name: $name,
                 series: [$(stringify!($series)),+].len(),
                 roles: &[$(Role::$role),*],
                 kind: <$cell as Cell>::KIND,
-                work: { const WORK: &[&str] = &[$(stringify!($work))?]; !WORK.is_empty() },
-                $($field: $value,)*
-                source,
+                work: !WORK.is_empty(),
+                source: |call| words(cells(call)),
+                reckon: |call| drop(black_box(cells(call))),
                 library: LIBRARY,
+                $($field: $value,)*
                 ..PLAIN
             }
         }),*];
@@ -150,6 +159,8 @@ const PLAIN: Function = Function {
     domain: Domain::Accepted,
     rising: false,
     source: |_| Vec::new(),
+    reckon: |_| (),
+    timed: None,
     library: None,
 };
 
@@ -187,6 +198,7 @@ functions! {
     tegbalowu_ultimate_smoother "ultimate_smoother" {
         series: [price], parameters: [period: Period], cells: f64, work: [],
         source: smoother::line(price, period),
+        timed: Some(|call| drop(black_box(pure::ultimate_smoother(&call.series[0], call.parameters[0].real())))),
     }
     tegbalowu_true_range "true_range" {
         series: [high, low, close_prev], parameters: [], cells: f64, work: [],

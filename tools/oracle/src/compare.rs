@@ -1,6 +1,6 @@
 //! Runs calls through the library and through document 01's reading with pure.rs, and compares all they leave.
 
-use crate::call::{Call, Kind};
+use crate::call::{Call, Expected, Kind};
 use crate::catalogue::{self, Function};
 use crate::generate;
 use crate::library::Lent;
@@ -45,7 +45,7 @@ impl Trial {
         }
     }
 
-    fn difference(&mut self, call: &Call, salt: u64, expected: &crate::call::Expected) -> Option<String> {
+    fn difference(&mut self, call: &Call, salt: u64, expected: &Expected) -> Option<String> {
         self.out.fill(call.out, salt);
         self.work.fill(call.work, !salt);
         let answer = (self.function.library.expect("only exported functions are compared"))(call, &mut self.out, &mut self.work);
@@ -76,6 +76,17 @@ fn describe(call: &Call) -> String {
     let head = |s: &Vec<f64>| format!("{} bars {:?}", s.len(), &s[..s.len().min(24)]);
     let series: Vec<String> = call.series.iter().map(head).collect();
     format!("{:?}, output {}, work {}, {}", call.parameters, call.out, call.work, series.join("; "))
+}
+
+/// Whether a difference shows in the first calls of the functions named, of all where none is named. Nothing is printed.
+pub fn notices(seed: u64, calls: usize, names: &[&str]) -> bool {
+    let mut wanted = catalogue::exported().filter(|f| names.is_empty() || names.contains(&f.name));
+    wanted.any(|function| {
+        let mut trial = Trial::new(function);
+        let mut rng = Rng::new(seed);
+        let mut wrong = |call: &Call| trial.difference(call, seed, &source::expected(function, call)).is_some();
+        (0..calls).any(|_| wrong(&generate::random(&mut rng, function))) || generate::edges(&mut rng, function).iter().any(wrong)
+    })
 }
 
 /// Every exported function with each seed: its edges, then random calls up to `calls` in all. True if none differs.

@@ -249,6 +249,35 @@ pub fn edges(rng: &mut Rng, function: &Function) -> Vec<Call> {
     calls
 }
 
+/// The edges that a short series has: each window, each odd value in one place, each room, one series of another length.
+pub fn short_edges(rng: &mut Rng, function: &Function) -> Vec<Call> {
+    const LEN: usize = 7;
+    let mut calls = Vec::new();
+    calls.push(plain(rng, function, 0, modest(function)));
+    for place in 0..function.roles.len() {
+        for value in edge_values(function.roles[place], LEN) {
+            let mut parameters = modest(function);
+            parameters[place] = value;
+            calls.push(plain(rng, function, LEN, parameters));
+        }
+    }
+    for (place, odd) in DAMAGED.iter().enumerate() {
+        let mut call = plain(rng, function, LEN, modest(function));
+        call.series[place % function.series][place % LEN] = *odd;
+        calls.push(call);
+    }
+    let full = plain(rng, function, LEN, modest(function));
+    for (out, work) in [(0, full.work), (LEN - 1, full.work), (LEN + 2, full.work), (LEN, full.work.saturating_sub(1)), (LEN, full.work + 3)] {
+        calls.push(Call { out, work: if function.work { work } else { 0 }, ..full.clone() });
+    }
+    for place in 1..function.series {
+        let mut call = full.clone();
+        call.series[place].pop();
+        calls.push(call);
+    }
+    calls
+}
+
 /// Small parameters that the function takes.
 fn modest(function: &Function) -> Vec<Value> {
     let value = |(place, role): (usize, &Role)| match role {
@@ -283,6 +312,9 @@ fn every_window(rng: &mut Rng, function: &Function, calls: &mut Vec<Call>) {
                 calls.push(plain(rng, function, len, parameters));
             }
         }
+    }
+    if function.roles == [Role::Period] {
+        calls.extend((0..=512).map(|period| plain(rng, function, 40, vec![Value::Real(period as f64)])));
     }
     for n in 0..6 {
         for m in 0..6 {

@@ -6,7 +6,7 @@ use std::sync::OnceLock;
 
 pub const LONGEST: usize = 512;
 
-/// The recorded list: a line for each period with the bits of a1 and b1.
+/// The recorded list: a line that says what it was recorded on, then one for each period with the bits of a1 and b1.
 const RECORDED: &str = include_str!("../smoother.hex");
 
 /// a1 and b1 of one period.
@@ -31,7 +31,7 @@ fn recorded() -> &'static [Pair] {
     static LIST: OnceLock<Vec<Pair>> = OnceLock::new();
     LIST.get_or_init(|| {
         let word = |text: &str| u64::from_str_radix(text, 16).expect("smoother.hex: a word of 16 digits");
-        let pairs: Vec<Pair> = (RECORDED.lines())
+        let pairs: Vec<Pair> = (RECORDED.lines().skip(1))
             .map(|line| line.split_once(' ').expect("smoother.hex: two words a line"))
             .map(|(a1, b1)| Pair { a1: word(a1), b1: word(b1) })
             .collect();
@@ -74,6 +74,7 @@ fn by_table(price: &[f64], period: f64) -> Vec<f64> {
 
 /// Prints the list that smoother.hex holds.
 pub fn print_list() {
+    println!("{}", platform());
     for pair in fresh() {
         println!("{:016x} {:016x}", pair.a1, pair.b1);
     }
@@ -94,11 +95,15 @@ fn print_table(name: &str, what: &str, part: fn(&Pair) -> u64) {
     println!("];");
 }
 
-/// Compares the recorded list with a fresh run, and says what it ran on; true if they are equal.
+/// Compares the recorded list with a fresh run; false if they differ on what it was recorded on.
 pub fn check() -> bool {
+    let (here, there) = (platform(), RECORDED.lines().next().unwrap_or(""));
     let differing = fresh().iter().zip(recorded()).filter(|(a, b)| a != b).count();
-    println!("smoother table: {LONGEST} periods, {differing} differ from a fresh run ({})", platform());
-    differing == 0
+    println!("smoother table: {differing} of {LONGEST} periods differ from a fresh run on {here}");
+    if here != there {
+        println!("smoother table: it was recorded on {there}, so a difference would be the platform's");
+    }
+    differing == 0 || here != there
 }
 
 /// Platform, compiler and the C library whose exp and cos were run.

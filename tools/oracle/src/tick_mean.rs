@@ -5,8 +5,13 @@ pub fn line(series: &[f64], n: usize) -> Vec<i64> {
     if n == 0 {
         return Vec::new();
     }
-    let ticks: Vec<i64> = series.iter().map(|x| *x as i64).collect();
-    (1..=ticks.len()).map(|bars| if bars < n { 0 } else { nearest(ticks[bars - n..bars].iter().sum(), n as i64) }).collect()
+    let mut sum = 0;
+    let mut cells = Vec::with_capacity(series.len());
+    for (bar, tick) in series.iter().enumerate() {
+        sum += *tick as i64 - if bar < n { 0 } else { series[bar - n] as i64 };
+        cells.push(if bar + 1 < n { 0 } else { nearest(sum, n as i64) });
+    }
+    cells
 }
 
 /// sum / n to a whole number, half away from zero.
