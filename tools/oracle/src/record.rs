@@ -16,12 +16,18 @@ const PARAMETERS: usize = 4;
 /// What every output and work cell holds before the call: -987654321.125, and -987654321 in whole-number cells.
 const FILL: f64 = -987_654_321.125;
 
-/// Prints the number of records, then each record.
+/// Prints the number of records, then each record, a line for each of its parts.
 pub fn print() {
-    let records: Vec<Vec<u64>> = catalogue::exported().flat_map(|f| sample(f).into_iter().map(|call| record(f, &call))).collect();
-    println!("{:016x}", records.len());
-    for word in records.iter().flatten() {
-        println!("{word:016x}");
+    let records: Vec<Vec<Vec<u64>>> = catalogue::exported().flat_map(|f| sample(f).into_iter().map(|call| record(f, &call))).collect();
+    print_words(&[records.len() as u64]);
+    records.iter().flatten().for_each(|part| print_words(part));
+}
+
+/// One line of words; no line for no word.
+fn print_words(words: &[u64]) {
+    let words: Vec<String> = words.iter().map(|word| format!("{word:016x}")).collect();
+    if !words.is_empty() {
+        println!("{}", words.join(" "));
     }
 }
 
@@ -50,21 +56,21 @@ fn sample(function: &Function) -> Vec<Call> {
     calls
 }
 
-/// A call and what it must leave, in the order that RECORD.md gives.
-fn record(function: &Function, call: &Call) -> Vec<u64> {
+/// A call and what it must leave: the numbers, each series, the output's cells, in the order that RECORD.md gives.
+fn record(function: &Function, call: &Call) -> Vec<Vec<u64>> {
     let expected = source::expected(function, call);
     let series_length = |place: usize| call.series.get(place).map_or(0, |s| s.len() as u64);
     let parameter = |place: usize| call.parameters.get(place).map_or(0, |value| value.word());
+    let mut numbers = vec![catalogue::number(function)];
+    numbers.extend((0..SERIES).map(series_length));
+    numbers.extend((0..PARAMETERS).map(parameter));
+    numbers.extend([call.out as u64, call.work as u64]);
+    numbers.extend([expected.answer.refusal, expected.answer.count, expected.cleared as u64]);
+    let series = call.series.iter().map(|s| s.iter().map(|x| one_nan(Kind::F64, x.to_bits())).collect());
     let fill = if function.kind == Kind::F64 { FILL.to_bits() } else { FILL as i64 as u64 };
-    let mut words = vec![catalogue::number(function)];
-    words.extend((0..SERIES).map(series_length));
-    words.extend((0..PARAMETERS).map(parameter));
-    words.extend([call.out as u64, call.work as u64]);
-    words.extend([expected.answer.refusal, expected.answer.count, expected.cleared as u64]);
-    words.extend(call.series.iter().flatten().map(|x| one_nan(Kind::F64, x.to_bits())));
-    words.extend(expected.cells.iter().map(|word| one_nan(function.kind, *word)));
-    words.resize(words.len() + call.out - expected.cells.len(), fill);
-    words
+    let mut cells: Vec<u64> = expected.cells.iter().map(|word| one_nan(function.kind, *word)).collect();
+    cells.resize(call.out, fill);
+    [numbers].into_iter().chain(series).chain([cells]).collect()
 }
 
 /// The word of a cell, with one word for every NaN.
