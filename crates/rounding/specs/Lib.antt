@@ -1,1 +1,3 @@
 -- The leaves' definitions, and what holds of whole numbers in f64.
+pub mod Leaves
+pub mod Cases
