@@ -16,6 +16,12 @@ plusOne = one false
 abbrev pub minusOne : Float
 minusOne = one true
 
+-- whether the sign is set: -0.0 and below
+unfoldable pub negative : Float → Bool
+negative nan = false
+negative (inf s) = s
+negative (fin s m e) = s
+
 -- The number without its sign, as Rust's `f64::abs`.
 unfoldable pub magnitudeOf : Float → Float
 magnitudeOf nan = nan
