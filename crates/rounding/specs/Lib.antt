@@ -1,1 +1,2 @@
 -- The leaves' definitions, and what holds of whole numbers in f64.
+pub mod Root
