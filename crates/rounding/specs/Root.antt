@@ -3,6 +3,7 @@
 pub mod Examples
 pub mod Meaning
 pub mod Squares
+pub mod Steps
 pub mod Neighbours
 pub mod Units
 use Prim.Native.Nat.{ℕ, zero, suc, _+_, _-_, _*_, _/_, _^_, compare}
