@@ -1,5 +1,5 @@
 -- The product of a number of 53 digits with itself, by its halves of 26 digits. Assumes nothing.
-use mathlib.Core.Path.{_≡_, refl, sym, ap, _∙_}
+use mathlib.Core.Path.{_≡_, sym, ap, _∙_}
 use Prim.Native.Nat.{ℕ, _+_, _*_, _/_, _%_, _^_, _≤_, _<_}
 use native.Mathlib.Nat.{mul-assoc, mul-comm, mul-left-comm, mul-add, add-mul, mul-le-mul, div-add-mod', div-div-eq-div-mul, mul-add-div-right}
 use native.Mathlib.Omega.{arith}

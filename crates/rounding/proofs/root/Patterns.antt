@@ -3,20 +3,19 @@ use mathlib.Core.Path.{_≡_, refl, sym, ap, _∙_, subst}
 use mathlib.Core.Bool.{Bool, true, false, not, cond, _||_, Bool·beq, false≢true, true≢false}
 use lib.IntN.{ℤ, pos}
 use Prim.Native.Nat.{ℕ, zero, suc, _+_, _-_, _*_, _/_, _%_, _^_, _≤_, _<_}
-use native.Mathlib.Nat.{le-trans, le-of-eq, le-of-lt, lt-of-lt-of-le, lt-irrefl, zero-lt-suc, zero-add, zero-mul, mul-one, mul-assoc, mul-pos, mul-le-mul-right, mul-div-cancel, mod-lt}
+use native.Mathlib.Nat.{le-trans, le-of-eq, le-of-lt, lt-of-lt-of-le, zero-lt-suc, zero-add, zero-mul, mul-one, mul-assoc, mul-pos, mul-le-mul-right, mul-div-cancel}
 use native.Mathlib.Omega.{arith}
 use borrow.Author.Tests.{ltb-true, ltb-false, le-ltb, ne-eqb}
-use lib.Count.{leadingZeros, leading-top}
-use lib.Dec.{T, leb, ltb, eqb, eqb→eq}
-use lib.Pow.{pow-add, pow-pos, pow-mono, shl-lt, shl-exact}
+use lib.Dec.{T, leb, eqb, eqb→eq}
+use lib.Pow.{pow-add, pow-pos, pow-mono, shl-lt}
 use lib.Pow as Pow
 use lib.Ieee.{Float, nan, inf, fin, binary64, low, up, down, size, odd, units, lt, eq, fits, isNan, nanBits, ofFields, ofBits, toBits}
-use lib.Ieee.Bits.{ofBits-toBits, nanBits-above, is-true}
+use lib.Ieee.Bits.{ofBits-toBits, nanBits-above}
 use lib.Ieee.Exact.{HasValue, odd-sign, units-val}
-use lib.Ieee.Fits.{and-l, up-pos, down-pos}
+use lib.Ieee.Fits.{and-l, up-pos}
 use lib.Ieee.Positive.{first-pos}
 use lib.Ieee.Scale.{overflow}
-use Rattle.rounding.specs.Root.{inUnits, nearestRoot, sqrtOf}
+use Rattle.rounding.specs.Root.{nearestRoot, sqrtOf}
 use Rattle.rounding.specs.Root.Steps.{Digits}
 use Rattle.rounding.specs.Root.Units.{value-units, units-fits}
 use Rattle.rounding.proofs.root.Nearest.{size-is}

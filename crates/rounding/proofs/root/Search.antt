@@ -1,9 +1,9 @@
 -- The range that the closest root lies in, as `searched` halves it. Assumes nothing.
-use mathlib.Core.Path.{_≡_, refl, sym, ap, _∙_, subst}
+use mathlib.Core.Path.{_≡_, subst}
 use Prim.Native.Nat.{ℕ, _+_, _-_, _*_, _/_, _^_, _≤_, _<_}
 use native.Mathlib.Omega.{arith}
 use Rattle.rounding.specs.Root.Squares.{square-next, Closest}
-use Rattle.rounding.specs.Root.Steps.{Digits, Square, Rooted}
+use Rattle.rounding.specs.Root.Steps.{Rooted}
 
 -- h * (h + 1) < m * 2 ^ 52 at the low end, m * 2 ^ 52 ≤ (h + 1) * (h + 2) at the high one: where they meet, h + 1 is closest
 pub record Span (m lo hi : ℕ) : Type 0 where

@@ -1,23 +1,23 @@
 -- `sqrtOf` is right: no other float of the format is as near to the true root. So a tie never comes up, and the whole numbers that are
 -- compared say what document and reader mean by "nearest". Assumes nothing.
 use mathlib.Core.Path.{_≡_, refl, sym, ap, _∙_, subst}
-use mathlib.Core.Bool.{Bool, true, false}
+use mathlib.Core.Bool.{false}
 use mathlib.Core.Logic.{_⊎_, inl, inr}
 use lib.IntN.{ℤ}
-use Prim.Native.Nat.{ℕ, zero, suc, _+_, _-_, _*_, _^_, _≤_, _<_, compare}
-use native.Mathlib.Nat.{le-trans, le-of-eq, le-of-lt, lt-of-lt-of-le, lt-of-le-of-lt, lt-of-not-le, not-le-of-lt, lt-irrefl, zero-lt-suc, suc-mul, add-mul, mul-one, mul-assoc, mul-comm, mul-left-comm, mul-right-comm, mul-mul-mul-comm, mul-pos, mul-le-mul-right, mul-lt-mul-of-pos-right, lt-of-mul-lt-mul-right, eq-of-mul-eq-mul-right}
+use Prim.Native.Nat.{ℕ, zero, suc, _+_, _-_, _*_, _^_, _≤_, _<_}
+use native.Mathlib.Nat.{le-trans, le-of-eq, le-of-lt, lt-of-lt-of-le, lt-of-le-of-lt, lt-of-not-le, not-le-of-lt, zero-lt-suc, suc-mul, add-mul, mul-one, mul-assoc, mul-mul-mul-comm, mul-pos, mul-le-mul-right, lt-of-mul-lt-mul-right}
 use native.Mathlib.Numerals.{add-one}
 use native.Mathlib.Omega.{arith}
 use lib.Dec.{T, lit≤, lit<}
 use lib.Pow.{pow-add, pow-pos, pow-mono, pow-lt, shl-lt}
-use lib.Ieee.{Float, fin, Format, binary32, binary64, prec, emax, low, nearest, units, fits}
+use lib.Ieee.{Float, fin, Format, binary32, binary64, prec, emax, low, units, fits}
 use lib.Ieee.Exact.{units-val}
 use lib.Ieee.Fits.{two}
 use lib.Ieee.Positive.{positive, positive-of-value}
 use lib.Ieee.Scale.{finite, overflow}
-use Rattle.rounding.specs.Root.{inUnits, root, nearestRoot, sqrtOf}
-use Rattle.rounding.specs.Root.Neighbours.{dropped, kept, sumOf, nearestRoot-is, Between, between, pick}
-use Rattle.rounding.specs.Root.Squares.{square-le, square-lt, square-lt-back, square-odd}
+use Rattle.rounding.specs.Root.{inUnits, sqrtOf}
+use Rattle.rounding.specs.Root.Neighbours.{dropped, kept, sumOf, nearestRoot-is, Between, between, Chosen, pick, no-tie-at}
+use Rattle.rounding.specs.Root.Squares.{square-le, square-lt, square-lt-back}
 use Rattle.rounding.specs.Root.Units.{value-units, units-fits, made-some, made}
 
 -- ---- the statement
@@ -60,15 +60,10 @@ no-tie : (f : Format) (n m t q k : ℕ) → n ≡ m * 2 ^ t → m < 2 ^ prec f �
 no-tie f n m t q k e short b tie =
     let k-le : k + k < suc t = lt-of-not-le (few (b .full)) in
     let back : t - (k + k) + (k + k) ≡ t = omega arith in
-    let c = m * 2 ^ (t - (k + k)) in
+    let c = 2 ^ (t - (k + k)) in
     let w = 2 ^ k * 2 ^ k in
-    let as-square : n ≡ c * w =
-    e ∙ ap (λ (x : ℕ). m * 2 ^ x) (sym back) ∙ ap (λ (x : ℕ). m * x) (pow-add 2 (t - (k + k)) (k + k) ∙ ap (λ (x : ℕ). 2 ^ (t - (k + k)) * x) (pow-add 2 k k)) ∙ sym (mul-assoc m (2 ^ (t - (k + k))) w) in
-    let even : 4 * c ≡ (2 * q + 1) * (2 * q + 1) =
-    eq-of-mul-eq-mul-right w (mul-pos (pow-pos k) (pow-pos k)) (4 * c) ((2 * q + 1) * (2 * q + 1))
-    (mul-assoc 4 c w ∙ ap (λ (x : ℕ). 4 * x) (sym as-square) ∙ tie ∙ mul-mul-mul-comm (2 * q + 1) (2 ^ k) (2 * q + 1) (2 ^ k)) in
-    let odd = square-odd q in
-    omega arith
+    let power : 2 ^ t ≡ c * w = ap (λ (x : ℕ). 2 ^ x) (sym back) ∙ pow-add 2 (t - (k + k)) (k + k) ∙ ap (λ (x : ℕ). c * x) (pow-add 2 k k) in
+    no-tie-at n (m * c) q k (e ∙ ap (λ (x : ℕ). m * x) power ∙ sym (mul-assoc m c w)) tie
   where
     few : (k ≡ 0) ⊎ (2 ^ (prec f - 1) ≤ q) → t < k + k → ⊥
     few (inl z) g = omega arith
@@ -88,8 +83,7 @@ double : (r : ℕ) → 2 * r * (2 * r) ≡ 4 * (r * r)
 double r = mul-mul-mul-comm 2 r 2 r
 
 nearer-at : (f : Format) (n q k z m j : ℕ) → Between f n q k
-    → ((z ≡ q) × (4 * n < sumOf q k * sumOf q k)) ⊎ ((z ≡ q + 1) × (sumOf q k * sumOf q k < 4 * n))
-    → m < 2 ^ prec f → Nearer n (z * 2 ^ k) (m * 2 ^ j)
+    → Chosen q z (4 * n) (sumOf q k * sumOf q k) → m < 2 ^ prec f → Nearer n (z * 2 ^ k) (m * 2 ^ j)
 nearer-at f n q k z m j b (inl (e, h)) short = subst (λ (x : ℕ). Nearer n (x * 2 ^ k) (m * 2 ^ j)) (sym e) (record {
   from-below = λ l.
       let next = none-between f q k m j (b .full) short l in
@@ -154,20 +148,16 @@ some f n (suc q) k h b = zero-lt-suc q
 
 -- ---- the theorem
 
--- z is the nearer one of q and q + 1
-abbrev Chosen : ℕ → ℕ → ℕ → ℕ → Type 0
-Chosen n q k z = ((z ≡ q) × (4 * n < sumOf q k * sumOf q k)) ⊎ ((z ≡ q + 1) × (sumOf q k * sumOf q k < 4 * n))
-
-one-of : (n q k z : ℕ) → Chosen n q k z → (q ≤ z) × (z ≤ q + 1)
-one-of n q k z (inl (e, h)) = omega arith
-one-of n q k z (inr (e, h)) = omega arith
+one-of : (q z a b : ℕ) → Chosen q z a b → (q ≤ z) × (z ≤ q + 1)
+one-of q z a b (inl (e, h)) = omega arith
+one-of q z a b (inr (e, h)) = omega arith
 
 chosen-nearest : (f : Format) (x : Float) (q k z : ℕ) → let n = inUnits f x * 2 ^ low f in
-    0 < n → inUnits f x < overflow f → Between f n q k → Chosen n q k z → NearestRoot f x (units f false z k)
+    0 < n → inUnits f x < overflow f → Between f n q k → Chosen q z (4 * n) (sumOf q k * sumOf q k) → NearestRoot f x (units f false z k)
 chosen-nearest f x q k z pos-n small b c =
     let n = inUnits f x * 2 ^ low f in
     let short = b .short in
-    let r = one-of n q k z c in
+    let r = one-of q z (4 * n) (sumOf q k * sumOf q k) c in
     let fine : z * 2 ^ k < overflow f = lt-of-le-of-lt (mul-le-mul-right (2 ^ k) (r .1)) (under f n (inUnits f x) q k refl small b) in
     let value = units-val f false z k fine in
     let z-pos : 0 < z = lt-of-lt-of-le (some f n q k pos-n b) (r .0) in

@@ -2,18 +2,18 @@
 use mathlib.Core.Path.{_≡_, refl, sym, ap, _∙_, subst}
 use mathlib.Core.Bool.{false, not}
 use mathlib.Core.Logic.{_⊎_, inl, inr}
-use Prim.Native.Nat.{ℕ, suc, _+_, _-_, _*_, _/_, _^_, _≤_, _<_, compare, Ordering, Ordering·lt, Ordering·eq, Ordering·gt}
-use native.Mathlib.Nat.{le-trans, lt-of-lt-of-le, eq-zero-or-pos, suc-mul, div-mul-le-self, lt-div-mul-add, le-div-iff-mul-le}
+use Prim.Native.Nat.{ℕ, _+_, _-_, _*_, _/_, _^_, _≤_, _<_, compare, Ordering, Ordering·lt, Ordering·eq, Ordering·gt}
+use native.Mathlib.Nat.{le-trans, lt-of-lt-of-le, eq-zero-or-pos, suc-mul, mul-assoc, mul-mul-mul-comm, mul-pos, eq-of-mul-eq-mul-right, div-mul-le-self, lt-div-mul-add, le-div-iff-mul-le}
 use native.Mathlib.Numerals.{add-one}
 use native.Mathlib.Omega.{arith}
 use lib.Arith.{lt-of-le-ne}
 use lib.Dec.{T, isLe, isEq, leb→le, nleb→lt, eqb→eq}
 use lib.Pow.{pow-add, pow-pos}
-use lib.Ieee.{Float, Format, prec, size, nearest, units}
+use lib.Ieee.{Format, prec, size, nearest, units}
 use lib.Ieee.Digits.{size-reaches}
 use lib.Ieee.Fits.{two, kept-lt}
 use Rattle.rounding.specs.Root.{root, nearestRoot}
-use Rattle.rounding.specs.Root.Squares.{square-le, root-is}
+use Rattle.rounding.specs.Root.Squares.{square-le, square-odd, root-is}
 
 -- how many digits of the root are dropped, and the number that is kept
 abbrev pub dropped : Format → ℕ → ℕ
@@ -59,12 +59,26 @@ between f n =
       ];
     }
 
--- which one is taken where there is no tie, a and b being 4 * n and the square of the sum
-pub pick : (q a b : ℕ) → (a ≡ b → ⊥) → ((nearest q (compare a b) ≡ q) × (a < b)) ⊎ ((nearest q (compare a b) ≡ q + 1) × (b < a))
+-- z is the one of q and q + 1 that a < b or b < a says
+abbrev pub Chosen : ℕ → ℕ → ℕ → ℕ → Type 0
+Chosen q z a b = ((z ≡ q) × (a < b)) ⊎ ((z ≡ q + 1) × (b < a))
+
+pub pick : (q a b : ℕ) → (a ≡ b → ⊥) → Chosen q (nearest q (compare a b)) a b
 pick q a b none = go (compare a b) (leb→le a b) (nleb→lt a b) (eqb→eq a b)
   where
-    go : (o : Ordering) → (T (isLe o) → a ≤ b) → (T (not (isLe o)) → b < a) → (T (isEq o) → a ≡ b)
-        → ((nearest q o ≡ q) × (a < b)) ⊎ ((nearest q o ≡ q + 1) × (b < a))
+    go : (o : Ordering) → (T (isLe o) → a ≤ b) → (T (not (isLe o)) → b < a) → (T (isEq o) → a ≡ b) → Chosen q (nearest q o) a b
     go Ordering·lt h g e = inl (refl, lt-of-le-ne (h tt) none)
     go Ordering·eq h g e = absurd (none (e tt))
     go Ordering·gt h g e = inr (sym (add-one q), g tt)
+
+-- the square of the sum, with 4 ^ k taken out: an odd number, so that it is not four times another
+pub sum-square : (q k : ℕ) → sumOf q k * sumOf q k ≡ (4 * (q * q) + 4 * q + 1) * (2 ^ k * 2 ^ k)
+sum-square q k = mul-mul-mul-comm (2 * q + 1) (2 ^ k) (2 * q + 1) (2 ^ k) ∙ ap (λ (y : ℕ). y * (2 ^ k * 2 ^ k)) (square-odd q)
+
+pub no-tie-at : (n x q k : ℕ) → n ≡ x * (2 ^ k * 2 ^ k) → 4 * n ≡ sumOf q k * sumOf q k → ⊥
+no-tie-at n x q k is tie =
+    let w = 2 ^ k * 2 ^ k in
+    let even : 4 * x ≡ 4 * (q * q) + 4 * q + 1 =
+    eq-of-mul-eq-mul-right w (mul-pos (pow-pos k) (pow-pos k)) (4 * x) (4 * (q * q) + 4 * q + 1)
+    (mul-assoc 4 x w ∙ ap (λ (y : ℕ). 4 * y) (sym is) ∙ tie ∙ sum-square q k) in
+    omega arith

@@ -1,10 +1,8 @@
 -- Squares of whole numbers: `root n` is the whole root of n, and a number has one closest whole root. Assumes nothing.
-use mathlib.Core.Path.{_≡_, refl, sym, ap, _∙_, subst}
+use mathlib.Core.Path.{_≡_, ap, _∙_, subst}
 use mathlib.Core.Bool.{Bool, true, false, not, cond}
-use mathlib.Core.Logic.{inl, inr}
 use Prim.Native.Nat.{ℕ, zero, suc, _+_, _-_, _*_, _/_, _^_, _≤_, _<_}
-use native.Mathlib.Nat.{le-trans, lt-of-lt-of-le, lt-of-not-le, not-le-of-lt, mul-le-mul, mul-suc, suc-mul, mul-one, one-mul, mul-add, add-mul, mul-mul-mul-comm, pow-suc}
-use native.Mathlib.Numerals.{add-one}
+use native.Mathlib.Nat.{lt-of-not-le, not-le-of-lt, mul-le-mul, mul-suc, suc-mul, one-mul, mul-add, add-mul, mul-mul-mul-comm, pow-suc}
 use native.Mathlib.Omega.{arith}
 use lib.Dec.{T, leb, leb→le, nleb→lt}
 use lib.Ieee.Digits.{size-lt}

@@ -1,15 +1,15 @@
 -- Floats as multiples of their format's smallest value. Assumes nothing.
-use mathlib.Core.Path.{_≡_, refl, sym, ap, _∙_, subst}
-use mathlib.Core.Bool.{Bool, true, false, cond, _&&_}
+use mathlib.Core.Path.{_≡_, sym, ap, _∙_, subst}
+use mathlib.Core.Bool.{Bool, cond, _&&_}
 use lib.IntN.{ℤ, pos, negsuc}
 use Prim.Native.Nat.{ℕ, zero, suc, _+_, _-_, _*_, _/_, _%_, _^_, _≤_, _<_}
-use native.Mathlib.Nat.{le-trans, le-refl, lt-of-lt-of-le, lt-of-le-of-lt, lt-of-not-le, not-le-of-lt, zero-mul, zero-div, mul-one, mul-assoc, mul-comm, mul-left-comm, mul-lt-mul-of-pos-right, lt-of-mul-lt-mul-right, mul-div-cancel, div-one}
+use native.Mathlib.Nat.{le-refl, lt-of-le-of-lt, lt-of-not-le, not-le-of-lt, zero-mul, zero-div, mul-one, mul-assoc, mul-comm, mul-left-comm, mul-lt-mul-of-pos-right, lt-of-mul-lt-mul-right, mul-div-cancel}
 use native.Mathlib.Omega.{arith}
 use lib.Dec.{T, leb, ltb, eqb, lt→ltb, ltb→lt, leb→le}
-use lib.Pow.{pow-add, pow-pos, pow-mono, pow-lt, shl-lt}
+use lib.Pow.{pow-add, pow-pos, pow-lt}
 use lib.Ieee.{Float, nan, inf, fin, Format, prec, emax, low, up, down, odd, units, fits}
 use lib.Ieee.Bits.{is-true}
-use lib.Ieee.Exact.{HasValue, units-val}
+use lib.Ieee.Exact.{HasValue}
 use lib.Ieee.Fits.{and-l, and-r, down-pos, odd-fits}
 use lib.Ieee.Scale.{finite, overflow}
 use Rattle.rounding.specs.Root.{inUnits}
