@@ -6,11 +6,12 @@ use native.Mathlib.Nat.{le-of-lt, lt-of-lt-of-le, le-add-right, mul-pos}
 use native.Mathlib.Omega.{arith}
 use borrow.Author.Tests.{eq-eqb, ltb-true, lt-ltb, le-ltb}
 use lib.Dec.{T, leb, eqb, ltb}
+use lib.IntN.{pos}
 use lib.Ieee.{Float, nan, inf, fin, binary64, up, down, neg, odd, units, round, sum, sub, lt, eq, ne, fits, isNan, ofFields, ofBits, toBits}
 use lib.Ieee.Bits.{ofBits-toBits}
 use lib.Ieee.Fits.{round-is, down-pos}
 use lib.Ieee.Scale.{finite}
-use Rattle.rounding.specs.Leaves.{plusZero, one, plusOne, minusOne, negative, magnitudeOf, signOf}
+use Rattle.rounding.specs.Leaves.{one, plusOne, minusOne, negative, magnitudeOf, signOf}
 
 -- only a NaN differs from itself
 pub differs-nan : (x : Float) → ne x x ≡ isNan x
@@ -116,7 +117,7 @@ sign-more a b c = go (ltb a b) (ltb b a) (λ l. le-ltb b a (le-of-lt (ltb-true a
     go false false h = sign-round false (a - b) c
 
 -- The sign of x - y, for numbers x and y: -1 where x is below y, else +1. Only -0.0 less +0.0 is left out, which has the sign -1.
-pub sign-difference : (x y : Float) → T (finite x) → T (finite y) → (negative x ≡ true → lt x plusZero ≡ true)
+pub sign-difference : (x y : Float) → T (finite x) → T (finite y) → (negative x ≡ true → lt x (fin false 0 (pos 0)) ≡ true)
     → signOf (sub binary64 x y) ≡ cond (lt x y) minusOne plusOne
 unfolding sub lt negative
 sign-difference nan y p q h = absurd p

@@ -1,0 +1,2 @@
+-- Recorded words, and the f64 that one stands for.
+pub mod Words
