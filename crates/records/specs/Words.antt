@@ -1,8 +1,8 @@
 -- A recorded word is 16 hexadecimal digits, the highest first, and a blank or a line feed after them. Assumes nothing.
 use mathlib.Core.Bool.{Bool, true, false, _&&_, _||_, cond}
-use mathlib.Core.List.{List, [], _∷_}
+use mathlib.Core.List.{List, [], _∷_, _++_}
 use mathlib.Core.Logic.{_⊎_, inl, inr}
-use mathlib.Core.Path.{_≡_, refl, ap, _∙_}
+use mathlib.Core.Path.{_≡_, refl}
 use Prim.Native.Nat.{ℕ, zero, suc, _+_, _-_, _*_, _^_, _≤_, _<_}
 use native.Mathlib.Nat.{lt-of-lt-of-le, not-suc-le-zero, le-of-suc-le-suc, eq-or-lt-of-le}
 use native.Mathlib.Numerals.{add-one}
@@ -10,7 +10,7 @@ use native.Mathlib.Omega.{arith}
 use borrow.Author.Tests.{lt-ltb, le-ltb, le-leb, lt-leb}
 use lib.Dec.{leb, ltb, eqb, lit<}
 use lib.Pow.{pow-add, pow-mono}
-use lib.ListN.{length, getD}
+use lib.ListN.{length, getD, take, replicate}
 use Rattle.records.specs.declared.Word.{Word}
 use Rattle.records.specs.declared.Word.the-variants.{Bits, Missing}
 
@@ -42,6 +42,11 @@ numberIn s at = cond (digitsAt s at 16) (Bits (numberAt s at 16)) Missing
 -- the word that stands at an index, or that none does
 unfoldable pub wordAt : List ℕ → ℕ → Word
 wordAt s at = cond (leb (at + 17) (length s) && isEnd (getD s (at + 16) 0)) (numberIn s at) Missing
+
+-- 14 zeros and `af`, with a line feed after them; and the same with a capital letter
+word-cases : (wordAt (replicate 14 48 ++ (97 ∷ 102 ∷ 10 ∷ [])) 0 ≡ Bits 175) × (wordAt (replicate 14 48 ++ (65 ∷ 102 ∷ 10 ∷ [])) 0 ≡ Missing)
+unfolding wordAt numberIn digitsAt numberAt digitOf
+word-cases = (refl, refl)
 
 -- ---- reading digit by digit
 
@@ -113,3 +118,13 @@ module _ (s : List ℕ) (at : ℕ) where
   pub has-end : at + 17 ≤ length s → isEnd (getD s (at + 16) 0) ≡ true → numberIn s at ≡ wordAt s at
   unfolding wordAt
   has-end h e = rw (le-leb (at + 17) (length s) h, e)
+
+-- the word that was read stands before the place where the next one is looked for, in the part of the block that was filled
+pub record Stepped (block : List ℕ) (at end : ℕ) (w : Word) : Type 0 where
+  pub filled : end ≤ length block
+  pub word : w ≡ wordAt (take end block) (at - 17)
+
+pub stepped : {block : List ℕ} {end : ℕ} {w : Word} (at : ℕ) → end ≤ length block → w ≡ wordAt (take end block) at → Stepped block (at + 17) end w
+stepped at h e =
+    let back : at + 17 - 17 ≡ at = omega arith in
+    record { filled = h; word = rw back e }

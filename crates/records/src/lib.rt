@@ -1,4 +1,7 @@
 // Reads recorded words: 16 hexadecimal digits each, with a blank or a line feed after them.
+pub mod floats;
+pub mod stream;
+
 ghost use mathlib.Core.Path.{_≡_};
 ghost use Prim.Native.Nat.{_+_, _≤_};
 ghost use lib.ListN.{length};

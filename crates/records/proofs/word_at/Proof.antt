@@ -1,5 +1,5 @@
 -- `word_at` meets its contract: the text is long enough, the word has its end, and its digits are read. Assumes nothing.
-use mathlib.Core.Path.{_≡_, sym, _∙_}
+use mathlib.Core.Path.{sym, _∙_}
 use native.Mathlib.Omega.{arith}
 use borrow.Author.Needs.{needs}
 use denote.Ref.{now}
