@@ -2,3 +2,4 @@
 pub mod Window
 pub mod Averages
 pub mod Eight
+pub mod Stages
