@@ -1,13 +1,20 @@
 -- What the functions under `sma`, `ema` and `exponential_smoothing` ask of each other. Assumes nothing.
-use mathlib.Core.Path.{_≡_}
-use mathlib.Core.List.{List}
+use mathlib.Core.Path.{_≡_, sym, _∙_}
+use mathlib.Core.Bool.{Bool}
+use mathlib.Core.List.{List, [], _∷_}
 use Prim.Native.Nat.{ℕ, _+_, _-_, _<_, _≤_}
 use native.Mathlib.Omega.{arith}
 use lib.ListN.{length, set}
 use lib.Ieee.{Float, nan}
+use Rattle.calls.specs.declared.Answer.{Answer}
+use Rattle.calls.specs.declared.Answer.the-variants.{Cells}
+use Rattle.calls.specs.Answer.{answered}
+use Rattle.calls.specs.Room.{room, opened}
+use Rattle.calls.specs.Call.{Call, counted}
 use Rattle.calls.specs.Line.{line, Led, lead-stands}
-use Rattle.calls.specs.Written.{Writing, step, then-written}
+use Rattle.calls.specs.Written.{Writing, none-written, step, ends, then-written}
 use Rattle.averages.specs.Window.{windowSum, over, Running, first-running}
+use Rattle.averages.specs.Eight.{WindowRoom}
 use Rattle.averages.specs.Averages.{addDifference, smaLine, sma-cell, smoothLine}
 
 -- the first n cells of `sma` stand in `now`, which has room for the rest, and `sum` is that of the first n bars
@@ -45,3 +52,21 @@ pub record Seeded (s : List Float) (alpha : Float) (first : ℕ) (seed : Float) 
   pub inside : first < length s
   pub room : length s ≤ length now
   pub cells : Writing (first + 1) (smoothLine alpha first seed (line s)) now now
+
+-- ---- a call with one window
+
+module _ (ok : Float → Bool) (s : List Float) (n out : ℕ) {r : Answer} {k : ℕ} (e : r ≡ answered ok s (n ∷ []) out []) (q : r ≡ Cells k) where
+  -- where there are cells to be written, there is room for them, and a window
+  pub window-room : 0 < k → WindowRoom n (length s) out
+  window-room h =
+      let o = opened ok s n out [] k (sym e ∙ q) h in
+      record { some = o .some; short = o .narrow; room = room ok s (n ∷ []) out [] k (sym e ∙ q) .out-long }
+
+  -- and they are all written
+  pub all-called : {A : Type 0} {f : ℕ → A} {old now : List A} → 0 < k → Writing (length s) f old now
+      → Call (answered ok s (n ∷ []) out []) f old (Cells k) now
+  all-called h w = counted (sym q ∙ e) (ends w (sym (opened ok s n out [] k (sym e ∙ q) h .whole)))
+
+  -- no cells
+  pub none-called : {A : Type 0} {f : ℕ → A} {old : List A} → k ≤ 0 → Call (answered ok s (n ∷ []) out []) f old (Cells k) old
+  none-called h = counted (sym q ∙ e) (ends none-written (omega arith))

@@ -1,13 +1,19 @@
 // Averages: each window summed afresh, one bar and eight bars side by side.
+use calls::Answer;
+use calls::Refusal;
 ghost use mathlib.Core.Path.{_≡_};
+ghost use mathlib.Core.List.{[], _∷_};
 ghost use Prim.Native.Nat.{_-_};
 ghost use lib.ListN.{length};
 ghost use lib.Ieee.{nan};
+ghost use Rattle.calls.specs.Accepted.{accepted};
+ghost use Rattle.calls.specs.Answer.{answered};
+ghost use Rattle.calls.specs.Call.{Call};
 ghost use Rattle.calls.specs.Line.{line, Led};
 ghost use Rattle.calls.specs.Written.{Writing};
 ghost use Rattle.averages.specs.Window.{windowSum, mean};
 ghost use Rattle.averages.specs.Eight.{Windows, WindowRoom, Eight, Begun, Reached};
-ghost use Rattle.averages.specs.Averages.{smaLine, blend, emaLine};
+ghost use Rattle.averages.specs.Averages.{smaLine, blend, emaLine, exponentialLine, exponentialAnswer};
 ghost use Rattle.averages.specs.Stages.{Sliding, Leading, Seeded, Smooth};
 
 // A number for each of eight bars side by side.
@@ -221,5 +227,52 @@ fn write_ema(series: &[f64], n: usize, out: &mut [f64])
         let alpha = 2.0 / ((n + 1) as f64);
         let seed = mean_at(series, n, n - 1);
         write_smooth(series, alpha, n - 1, seed, out);
+    }
+}
+
+// The mean of the last n prices: TA-Lib's SMA.
+pub fn sma(series: &[f64], n: usize, out: &mut [f64]) -> Answer
+    ensures { λ r. ⌜ Call (answered accepted (now (series .entry)) (n ∷ []) (length (now (out .entry))) []) (smaLine n (line (now (series .entry))))
+        (now (out .entry)) r (now (out .exit)) ⌝ }
+{
+    let due = calls::answer_window(series, n, out.len());
+    if let Answer::Cells(count) = due {
+        if count > 0 {
+            write_sma(series, n, out);
+        }
+    }
+    due
+}
+
+// The exponential mean with the weight 2 / (n + 1), from the mean of the first n prices on: TA-Lib's EMA.
+pub fn ema(series: &[f64], n: usize, out: &mut [f64]) -> Answer
+    ensures { λ r. ⌜ Call (answered accepted (now (series .entry)) (n ∷ []) (length (now (out .entry))) []) (emaLine n (line (now (series .entry))))
+        (now (out .entry)) r (now (out .exit)) ⌝ }
+{
+    let due = calls::answer_window(series, n, out.len());
+    if let Answer::Cells(count) = due {
+        if count > 0 {
+            write_ema(series, n, out);
+        }
+    }
+    due
+}
+
+// The exponential mean with the weight alpha, from the first price on.
+pub fn exponential_smoothing(series: &[f64], alpha: f64, out: &mut [f64]) -> Answer
+    ensures { λ r. ⌜ Call (exponentialAnswer (now (series .entry)) alpha (length (now (out .entry)))) (exponentialLine alpha (line (now (series .entry))))
+        (now (out .entry)) r (now (out .exit)) ⌝ }
+{
+    let due = calls::check(series, out.len());
+    if let Answer::Refused(_) = due {
+        return due;
+    }
+    if calls::is_finite(alpha) {
+        if series.len() > 0 {
+            write_smooth(series, alpha, 0, series[0], out);
+        }
+        Answer::Cells(series.len())
+    } else {
+        Answer::Refused(Refusal::ParameterNotFinite)
     }
 }
