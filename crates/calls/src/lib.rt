@@ -40,6 +40,23 @@ pub fn is_accepted(x: f64) -> bool
     false
 }
 
+// Whether x is a whole tick.
+pub fn is_tick(x: f64) -> bool
+    ensures { λ r. ⌜ r ≡ tick x ⌝ }
+{
+    let size = rounding::magnitude(x);
+    if size <= 16777216.0 {
+        let whole = std::num::truncating_f64_to_u64(size);
+        if (whole as f64) == size {
+            if x == 0.0 {
+                return rounding::sign(x) > 0.0;
+            }
+            return true;
+        }
+    }
+    false
+}
+
 // Whether x may be a parameter.
 pub fn is_finite(x: f64) -> bool
     ensures { λ r. ⌜ r ≡ finite x ⌝ }
@@ -55,6 +72,21 @@ pub fn all_accepted(s: &[f64]) -> bool
     let mut i = 0;
     while i < s.len() {
         if is_accepted(s[i]) {
+            i += 1;
+        } else {
+            return false;
+        }
+    }
+    true
+}
+
+// Whether every number of s is a whole tick.
+pub fn all_ticks(s: &[f64]) -> bool
+    ensures { λ r. ⌜ r ≡ all tick (now (s .entry)) ⌝ }
+{
+    let mut i = 0;
+    while i < s.len() {
+        if is_tick(s[i]) {
             i += 1;
         } else {
             return false;
@@ -136,6 +168,20 @@ fn check_values(due: Answer, series: &[f64]) -> Answer
     }
 }
 
+// The same for whole ticks.
+fn check_tick_values(due: Answer, series: &[f64]) -> Answer
+    ensures { λ r. ⌜ r ≡ andThen due (unless (all tick (now (series .entry))) ValueNotAccepted (Cells (length (now (series .entry))))) ⌝ }
+{
+    if let Answer::Refused(_) = due {
+        return due;
+    }
+    if all_ticks(series) {
+        Answer::Cells(series.len())
+    } else {
+        Answer::Refused(Refusal::ValueNotAccepted)
+    }
+}
+
 // The first refusal of a call with one series, its output and no work slice, before its parameters; else the series' length.
 pub fn check(series: &[f64], out: usize) -> Answer
     ensures { λ r. ⌜ r ≡ checked accepted (now (series .entry) ∷ []) (out ∷ []) [] ⌝ }
@@ -153,6 +199,14 @@ pub fn check_with_work(series: &[f64], out: usize, work: usize) -> Answer
     let room = check_work(bars, work);
     let due = and_then(lengths, room);
     check_values(due, series)
+}
+
+// The same for whole ticks and no work slice.
+pub fn check_ticks(series: &[f64], out: usize) -> Answer
+    ensures { λ r. ⌜ r ≡ checked tick (now (series .entry) ∷ []) (out ∷ []) [] ⌝ }
+{
+    let due = check_lengths(series.len(), out);
+    check_tick_values(due, series)
 }
 
 // The same with three series and no work slice.
@@ -192,6 +246,15 @@ pub fn answer_window_with_work(series: &[f64], n: usize, out: usize, work: usize
     ensures { λ r. ⌜ r ≡ answered accepted (now (series .entry)) (n ∷ []) out (work ∷ []) ⌝ }
 {
     let due = check_with_work(series, out, work);
+    let next = check_window(series.len(), n);
+    and_then(due, next)
+}
+
+// The answer of a call with one series of whole ticks, one window, its output and no work slice.
+pub fn answer_tick_window(series: &[f64], n: usize, out: usize) -> Answer
+    ensures { λ r. ⌜ r ≡ answered tick (now (series .entry)) (n ∷ []) out [] ⌝ }
+{
+    let due = check_ticks(series, out);
     let next = check_window(series.len(), n);
     and_then(due, next)
 }
