@@ -51,21 +51,10 @@ fn searched(m: u64) -> u64
     lo + 1
 }
 
-// The digits of a float from 1 up to 2, as a number of 53 digits.
-fn digits_of(x: f64) -> u64
-    ensures { λ r. ⌜ Digits r ⌝ }
-{
-    if x > 0.0 {
-        return FIRST + f64::to_bits(x) % FIRST;
-    }
-    FIRST
-}
-
-// A guess at the number closest to √(p * 2 ^ twice * 2 ^ 52), nearly always right: that of p * 2 ^ twice / 2 ^ 52, from 1 up to 4, by floats.
-// The first guess at the inverse root comes from the bits, three steps double its digits each, and the last one has an exact error.
-fn guess(p: u64, twice: u64) -> u64
+// A guess at the root of p * 2 ^ twice / 2 ^ 52, which lies from 1 up to 4. The first guess at the inverse root comes from the bits, three steps
+// double its digits, and the last step has an exact error. It is nearly always right, which only the speed rests on.
+fn guess(p: u64, twice: u64) -> f64
     requires { ⌜ (Digits p) × (twice ≤ 1) ⌝ }
-    ensures { λ r. ⌜ Digits r ⌝ }
 {
     let bits = p + (1022 + twice) * FIRST;
     let x = f64::from_bits(bits);
@@ -82,15 +71,21 @@ fn guess(p: u64, twice: u64) -> u64
     let s = s2 * r2;
     let h = h2 * r2;
     let a = (s + 201326592.0) - 201326592.0;
-    digits_of(s + ((x - a * a) - (s - a) * (s + a)) * h)
+    s + ((x - a * a) - (s - a) * (s + a)) * h
 }
 
-// The number closest to √(m * 2 ^ 52): q, if it is, and else what a search finds.
-fn closest(m: u64, q: u64) -> u64
-    requires { ⌜ (Square m) × (Digits q) ⌝ }
+// The number closest to √(m * 2 ^ 52): the digits of a guess, if they pass the test, and else what a search finds.
+fn closest(m: u64, guess: f64) -> u64
+    requires { ⌜ Square m ⌝ }
     ensures { λ r. ⌜ Rooted m r ⌝ }
 {
-    if is_closest(m, q) { q } else { searched(m) }
+    if guess > 0.0 {
+        let q = FIRST + f64::to_bits(guess) % FIRST;
+        if is_closest(m, q) {
+            return q;
+        }
+    }
+    searched(m)
 }
 
 // The root of p * 2 ^ (e + 53) squares of the smallest f64.
