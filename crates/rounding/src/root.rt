@@ -8,7 +8,7 @@ ghost use Rattle.rounding.specs.Root.{nearestRoot, sqrtOf};
 ghost use Rattle.rounding.specs.Root.Squares.{Closest};
 ghost use Rattle.rounding.specs.Root.Steps.{Digits, Square, Rooted};
 
-// 2 ^ 52, the weight of the first of 53 digits
+// 2 ^ 52: the weight of the first of 53 digits.
 const FIRST: u64 = 0x10_0000_0000_0000;
 
 // (h * h + e) / 2 ^ 52, by the halves of h, so that no number has more than 64 bits.
@@ -51,8 +51,9 @@ fn searched(m: u64) -> u64
     lo + 1
 }
 
-// A guess at the root of p * 2 ^ twice / 2 ^ 52, which lies from 1 up to 4. The first guess at the inverse root comes from the bits, three steps
-// double its digits, and the last step has an exact error. It is nearly always right, which only the speed rests on.
+// A guess at the root of p * 2 ^ twice / 2 ^ 52, which lies from 1 up to 4. The first guess at the inverse root comes from the bits, and three
+// steps double its digits. In the last step a is s cut to 26 digits, so that a * a is exact and x - s * s is known to its last digits.
+// The guess is nearly always right, and only the speed rests on that.
 fn guess(p: u64, twice: u64) -> f64
     requires { ⌜ (Digits p) × (twice ≤ 1) ⌝ }
 {
@@ -98,7 +99,7 @@ fn root_of(p: u64, e: u64) -> f64
     f64::from_bits((e + 1) / 2 * FIRST + q)
 }
 
-// The root of t smallest f64s: the digits of t are moved up to be 53.
+// The root of t smallest f64s. The digits of t are moved up, so that there are 53.
 fn root_of_subnormal(t: u64) -> f64
     requires { ⌜ (0 < t) × (t < 2 ^ 52) ⌝ }
     ensures { λ r. ⌜ r ≡ nearestRoot binary64 (t * 2 ^ 1074) ⌝ }
