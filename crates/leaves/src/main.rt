@@ -19,11 +19,8 @@ struct Tally {
 fn miss(x: f64, bits: u64) -> u64
     ensures { λ r. ⌜ (r ≡ 0 → x ≡ ofBits binary64 bits) × (x ≡ ofBits binary64 bits → r ≡ 0) ⌝ }
 {
-    if records::floats::is_float_of(x, bits) {
-        0
-    } else {
-        1
-    }
+    let same = records::floats::is_float_of(x, bits);
+    if same { 0 } else { 1 }
 }
 
 // An answer as it is recorded.
