@@ -3,3 +3,4 @@ pub mod Window
 pub mod Averages
 pub mod Eight
 pub mod Stages
+pub mod Whole

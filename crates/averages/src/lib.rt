@@ -3,8 +3,9 @@ use calls::Answer;
 use calls::Refusal;
 ghost use mathlib.Core.Path.{_≡_};
 ghost use mathlib.Core.List.{[], _∷_};
-ghost use Prim.Native.Nat.{_-_};
+ghost use Prim.Native.Nat.{_+_, _-_, _*_, _/_, _<_, _≤_};
 ghost use lib.ListN.{length};
+ghost use lib.IntN.{natAbs};
 ghost use lib.Ieee.{nan};
 ghost use Rattle.calls.specs.Accepted.{accepted};
 ghost use Rattle.calls.specs.Answer.{answered};
@@ -13,7 +14,7 @@ ghost use Rattle.calls.specs.Line.{line, Led};
 ghost use Rattle.calls.specs.Written.{Writing};
 ghost use Rattle.averages.specs.Window.{windowSum, mean};
 ghost use Rattle.averages.specs.Eight.{Windows, WindowRoom, Eight, Begun, Reached};
-ghost use Rattle.averages.specs.Averages.{smaLine, blend, emaLine, exponentialLine, exponentialAnswer};
+ghost use Rattle.averages.specs.Averages.{smaLine, blend, emaLine, exponentialLine, exponentialAnswer, toTick};
 ghost use Rattle.averages.specs.Stages.{Sliding, Leading, Seeded, Smooth};
 
 // A number for each of eight bars side by side.
@@ -275,4 +276,29 @@ pub fn exponential_smoothing(series: &[f64], alpha: f64, out: &mut [f64]) -> Ans
     } else {
         Answer::Refused(Refusal::ParameterNotFinite)
     }
+}
+
+// size / n to a whole tick, a half up.
+fn half_up(size: usize, n: usize) -> usize
+    requires { ⌜ (0 < n) × (n ≤ 4096) × (size ≤ 68719476736) ⌝ }
+    ensures { λ r. ⌜ r ≡ (2 * size + n) / (2 * n) ⌝ }
+{
+    (2 * size + n) / (2 * n)
+}
+
+// z without its sign.
+fn size_of(z: i64) -> usize
+    requires { ⌜ natAbs z ≤ 68719476736 ⌝ }
+    ensures { λ r. ⌜ r ≡ natAbs z ⌝ }
+{
+    if z < 0 { (0 - z) as usize } else { z as usize }
+}
+
+// sum / n to a whole tick, a half away from zero.
+fn to_tick(sum: i64, n: usize) -> i64
+    requires { ⌜ (0 < n) × (n ≤ 4096) × (natAbs sum ≤ 68719476736) ⌝ }
+    ensures { λ r. ⌜ r ≡ toTick sum n ⌝ }
+{
+    let size = half_up(size_of(sum), n) as i64;
+    if sum < 0 { 0 - size } else { size }
 }
