@@ -2,5 +2,6 @@
 pub mod Window
 pub mod Averages
 pub mod Eight
-pub mod Stages
 pub mod Whole
+pub mod Ticks
+pub mod Stages

@@ -16,8 +16,11 @@ pub in-i64 : (z : ℤ) → natAbs z ≤ 2 ^ 40 → SFits w64 z
 in-i64 (pos n) h = record { sfits = omega arith }
 in-i64 (negsuc n) h = record { sfits = omega arith }
 
--- an i64 is read as it was written
-pub kept : (z : ℤ) → natAbs z ≤ 2 ^ 40 → toZ w64 (ofZ w64 z) ≡ z
+-- z, as it is read from an i64 that it was written to
+abbrev pub held : ℤ → ℤ
+held z = toZ w64 (ofZ w64 z)
+
+pub kept : (z : ℤ) → natAbs z ≤ 2 ^ 40 → held z ≡ z
 kept z h = toZ-ofZ w64 z (in-i64 z h)
 
 pub size-neg : (z : ℤ) → natAbs (negℤ z) ≡ natAbs z
