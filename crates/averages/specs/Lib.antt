@@ -5,3 +5,4 @@ pub mod Eight
 pub mod Whole
 pub mod Ticks
 pub mod Stages
+pub mod Cases
