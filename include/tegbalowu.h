@@ -48,6 +48,9 @@ tegbalowu_answer tegbalowu_ema(const double *series, size_t series_len, size_t p
 tegbalowu_answer tegbalowu_exponential_smoothing(const double *series, size_t series_len, double alpha, double *out,
                                                  size_t out_len);
 
+/* The mean of the last n whole ticks to a whole tick, half away from zero; 0 before bar n-1. */
+tegbalowu_answer tegbalowu_tick_mean(const double *series, size_t series_len, size_t n, int64_t *out, size_t out_len);
+
 #ifdef __cplusplus
 }
 #endif
