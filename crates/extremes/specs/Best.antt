@@ -93,26 +93,29 @@ module _ {high : Bool} {f : Line} where
   unfolding pickFrom
   one-bar a = record { order = omega arith; is = rw sub-self }
 
+  -- the same bars, said otherwise
+  pub spans : {a e a′ e′ : ℕ} {x : Float} → Best high f a e x → (a ≡ a′) × (e ≡ e′) → Best high f a′ e′ x
+  spans p (d, g) = rw (← d, ← g) p
+
   module _ {bars : ℕ} (all : Numbers f bars) where
     -- the bars after bar e joined to those up to it
-    pub joins : {a e e′ g : ℕ} {x y : Float} → Best high f a e x → Best high f e′ g y → (e′ ≡ e + 1) × (g < bars)
-        → Best high f a g (pickOf high x y)
-    joins {a} {e} {e′} {g} p q (d, h) =
+    pub joins : {a e e′ g : ℕ} {x y z : Float} → Best high f a e x → Best high f e′ g y → z ≡ pickOf high x y → (e′ ≡ e + 1) × (g < bars)
+        → Best high f a g z
+    joins {a} {e} {e′} {g} p q r (d, h) =
         let u = p .order in
         let v = q .order in
         let start : e′ ≡ a + suc (e - a) = omega arith in
         let span : g - a ≡ e - a + suc (g - e′) = omega arith in
-        record { order = omega arith; is = rw (p .is, q .is, span, ← joined high f all a (e - a) (g - e′) (omega arith), ← start) }
+        record { order = omega arith; is = rw (r, p .is, q .is, span, ← joined high f all a (e - a) (g - e′) (omega arith), ← start) }
 
     -- the bars from bar e on joined to those up to it
-    pub meets : {a e g : ℕ} {x y : Float} → Best high f a e x → Best high f e g y → g < bars
-        → Best high f a g (pickOf high x y)
-    meets {a} {e} {g} p q h =
+    pub meets : {a e g : ℕ} {x y z : Float} → Best high f a e x → Best high f e g y → z ≡ pickOf high x y → g < bars → Best high f a g z
+    meets {a} {e} {g} p q r h =
         let u = p .order in
         let v = q .order in
         let start : e ≡ a + (e - a) = omega arith in
         let span : g - a ≡ e - a + (g - e) = omega arith in
-        record { order = omega arith; is = rw (p .is, q .is, span, ← met high f all a (e - a) (g - e) (omega arith), ← start) }
+        record { order = omega arith; is = rw (r, p .is, q .is, span, ← met high f all a (e - a) (g - e) (omega arith), ← start) }
 
   -- a whole window
   pub extreme-is : (n : ℕ) {a i : ℕ} {x : Float} → Best high f a i x → (0 < n) × (a + n ≡ i + 1) → x ≡ extreme (pickOf high) n f i

@@ -25,6 +25,10 @@ module _ {Q : ℕ → Float → Type 0} {old : List Float} where
   pub none-replaced : {lo hi : ℕ} → lo ≡ hi → Replacing lo hi Q old old
   none-replaced e = record { long = refl; inside = λ i h. absurd (omega arith); below = λ i l. refl; above = λ i l. refl }
 
+  -- the loop is over, and the part ends at hi
+  pub part-ends : {lo k hi : ℕ} {now : List Float} → Replacing lo k Q old now → k ≡ hi → Replacing lo hi Q old now
+  part-ends w e = rw (← e) w
+
   -- one cell is as Q asks already
   pub one-stands : {lo hi : ℕ} (i : ℕ) → Q i (line old i) → (lo ≡ i) × (i + 1 ≡ hi) → Replacing lo hi Q old old
   one-stands i q (d, e) = record {

@@ -1,9 +1,10 @@
 // The highest and the lowest of the last n cells, in time that does not grow with n: a window that reaches over bar e is the bars up to e
 // and the bars from e on, and the best of either kind is had from its neighbour's in one step.
 ghost use mathlib.Core.Path.{_≡_};
-ghost use Prim.Native.Nat.{_+_, _<_, _≤_};
+ghost use Prim.Native.Nat.{_+_, _<_, _≤_, min};
 ghost use lib.ListN.{length};
 ghost use Rattle.calls.specs.Line.{line};
+ghost use Rattle.calls.specs.Written.{Writing};
 ghost use Rattle.extremes.specs.Extreme.{pickOf, extreme};
 ghost use Rattle.extremes.specs.Best.{Numbers, Best};
 ghost use Rattle.extremes.specs.Blocks.{Windows, UpTo, Whole};
@@ -61,5 +62,36 @@ fn join_from(cells: &[f64], high: bool, n: usize, e: usize, last: usize, out: &m
         i += 1;
         best = pick(high, best, cells[i]);
         out[i] = pick(high, out[i], best);
+    }
+}
+
+// Writes the best of the windows that end at bars e to `last`.
+fn write_block(cells: &[f64], high: bool, n: usize, e: usize, last: usize, out: &mut [f64])
+    requires { ⌜ Windows (now cells) n e last (length (now out)) ⌝ }
+    ensures { λ _. ⌜ Replacing e (last + 1) (Whole high (now (cells .entry)) n) (now (out .entry)) (now (out .exit)) ⌝ }
+{
+    write_up_to(cells, high, n, e, last, out);
+    join_from(cells, high, n, e, last, out);
+}
+
+// The last of n bars from e on, or the last of all.
+fn last_of(e: usize, n: usize, bars: usize) -> usize
+    requires { ⌜ (0 < n) × (n ≤ 4096) × (e < bars) × (bars ≤ 65536) ⌝ }
+    ensures { λ r. ⌜ (e ≤ r) × (r < e + n) × (r < bars) × (min (e + n) bars ≡ r + 1) ⌝ }
+{
+    if e + n < bars { e + n - 1 } else { bars - 1 }
+}
+
+// Writes the highest, or the lowest, of the last n cells of each bar, 0.0 before the first whole window.
+pub fn write_extremes(cells: &[f64], high: bool, n: usize, out: &mut [f64])
+    requires { ⌜ (0 < n) × (n ≤ 4096) × (length (now cells) ≤ 65536) × (length (now cells) ≤ length (now out)) ⌝ }
+    requires { ⌜ Numbers (line (now cells)) (length (now cells)) ⌝ }
+    ensures { λ _. ⌜ Writing (length (now (cells .entry))) (extreme (pickOf high) n (line (now (cells .entry)))) (now (out .entry)) (now (out .exit)) ⌝ }
+{
+    calls::fill_lead(out, n - 1, cells.len(), 0.0);
+    let mut e = n - 1;
+    while e < cells.len() {
+        write_block(cells, high, n, e, last_of(e, n, cells.len()), out);
+        e += n;
     }
 }
