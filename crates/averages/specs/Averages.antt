@@ -14,6 +14,7 @@ use Rattle.calls.specs.Accepted.{accepted, finite}
 use Rattle.calls.specs.Answer.{checked, andThen, unless}
 use Rattle.calls.specs.Line.{Line, minusZero, fromBar, Causal, causal-from}
 use Rattle.calls.specs.Recur.{recur, recur-same}
+use Rattle.rounding.specs.Leaves.{plusOne}
 use Rattle.averages.specs.Window.{sumFrom, sumFrom-same, over, runningSum, runningSum-same}
 
 -- ---- sma: TA-Lib's SMA, with the difference of the new price and the old one added to the running sum in one step
@@ -32,15 +33,12 @@ causal-sma n p = causal-from (n - 1) nan (λ f g b s l. ap (over n) (runningSum-
 
 -- ---- ema and exponential_smoothing
 
-abbrev pub one : Float
-one = fin false 1 (pos 0)
-
 abbrev pub two : Float
 two = fin false 1 (pos 1)
 
 -- alpha · x + (1 - alpha) · last
 abbrev pub blend : Float → Float → Float → Float
-blend alpha last x = add binary64 (mul binary64 alpha x) (mul binary64 (sub binary64 one alpha) last)
+blend alpha last x = add binary64 (mul binary64 alpha x) (mul binary64 (sub binary64 plusOne alpha) last)
 
 -- 2 / (n + 1)
 abbrev pub emaAlpha : ℕ → Float

@@ -45,13 +45,17 @@ pub one-added : {z : Float} {f : Line} {a k : ℕ} {x : Float} → Summing z f a
 unfolding sumFrom
 one-added s = record { is = rw (add-one, s .is) }
 
--- the mean at bar i, from the sum of its window, which starts at bar a
-pub mean-at : (n i : ℕ) {f : Line} {a k : ℕ} {x : Float} → Summing minusZero f a k x
-    → (k ≡ n) × (a + n ≡ i + 1) → over n x ≡ mean n f i
-unfolding mean windowSum
-mean-at n i {f} {a} s (p, q) =
+-- the window's sum at bar i, from the sum of its n cells, which start at bar a
+pub window-sum : (n i : ℕ) {f : Line} {a k : ℕ} {x : Float} → Summing minusZero f a k x → (k ≡ n) × (a + n ≡ i + 1) → x ≡ windowSum n f i
+unfolding windowSum
+window-sum n i {f} {a} s (p, q) =
     let start : i + 1 - n ≡ a = omega arith in
-    rw (s .is, p, from-bar (n - 1) plusZero _ i (omega arith), start)
+    rw (s .is, p, start)
+
+-- the mean at bar i, from the window's sum there
+pub mean-of : (n i : ℕ) (f : Line) {x : Float} → x ≡ windowSum n f i → n ≤ i + 1 → over n x ≡ mean n f i
+unfolding mean
+mean-of n i f e h = rw (e, from-bar (n - 1) plusZero _ i (omega arith))
 
 -- a window's length is a float
 pub count-is-float : (n : ℕ) → n ≤ 4097 → T (inFloat binary64 (pos n))
