@@ -1,2 +1,4 @@
 -- The position rules: what each of them answers and writes.
 pub mod Rules
+pub mod Numbers
+pub mod Stages

@@ -1,1 +1,60 @@
 // The position rules.
+ghost use mathlib.Core.Path.{_≡_};
+ghost use Prim.Native.Nat.{_+_, _*_, _<_, _≤_};
+ghost use lib.ListN.{length};
+ghost use Rattle.calls.specs.Line.{line, plusZero};
+ghost use Rattle.calls.specs.Written.{Writing};
+ghost use Rattle.averages.specs.Eight.{Windows};
+ghost use Rattle.averages.specs.Window.{mean};
+ghost use Rattle.rules.specs.Rules.{againstMean, singleLine, againstMiddle, doubleLine};
+ghost use Rattle.rules.specs.Stages.{Sliding, Started, crossing};
+
+// The sign of the short average less the long one, from the sums of n and of m prices.
+fn cross(short: f64, n: usize, long: f64, m: usize) -> f64
+    requires { ⌜ (n ≤ 4096) × (m ≤ 4096) ⌝ }
+    ensures { λ r. ⌜ r ≡ crossing n m short long ⌝ }
+{
+    rounding::sign(short / (n as f64) - long / (m as f64))
+}
+
+// The running sum of n prices at bar i.
+fn running_sum(series: &[f64], n: usize, i: usize) -> f64
+    requires { ⌜ Windows n i 1 (length (now series)) ⌝ }
+    ensures { λ r. ⌜ Sliding n (line (now (series .entry))) i r ⌝ }
+{
+    let mut j = n - 1;
+    let mut sum = averages::sum_at(series, n, j);
+    while j < i {
+        j += 1;
+        sum = sum + series[j] - series[j - n];
+    }
+    sum
+}
+
+// Writes the positions from bar m - 1 on, where both averages are there, by running sums.
+fn write_crossings(series: &[f64], n: usize, m: usize, out: &mut [f64])
+    requires { ⌜ Started n m (now series) (now out) ⌝ }
+    ensures { λ _. ⌜ Writing (length (now (series .entry))) (doubleLine n m (line (now (series .entry)))) (now (out .entry)) (now (out .exit)) ⌝ }
+{
+    let mut i = m - 1;
+    let mut short = running_sum(series, n, i);
+    let mut long = running_sum(series, m, i);
+    while i + 1 < series.len() {
+        out[i] = cross(short, n, long, m);
+        i += 1;
+        short = short + series[i] - series[i - n];
+        long = long + series[i] - series[i - m];
+    }
+    out[i] = cross(short, n, long, m);
+}
+
+// Writes each bar's position.
+fn write_double(series: &[f64], n: usize, m: usize, out: &mut [f64])
+    requires { ⌜ (0 < n) × (n < m) × (m ≤ 4096) × (length (now series) ≤ length (now out)) ⌝ }
+    ensures { λ _. ⌜ Writing (length (now (series .entry))) (doubleLine n m (line (now (series .entry)))) (now (out .entry)) (now (out .exit)) ⌝ }
+{
+    let first = calls::fill_lead(out, m - 1, series.len(), 0.0);
+    if first < series.len() {
+        write_crossings(series, n, m, out);
+    }
+}

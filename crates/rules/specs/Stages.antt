@@ -1,0 +1,74 @@
+-- How the stages of a rule fit together: what they ask of each other, and a cell from what the stages before it wrote. Assumes nothing.
+use mathlib.Core.Path.{_≡_, refl, sym, _∙_}
+use mathlib.Core.List.{List}
+use Prim.Native.Nat.{ℕ, suc, _+_, _-_, _*_, _<_, _≤_}
+use native.Mathlib.Omega.{arith}
+use lib.ListN.{length}
+use lib.Ieee.{Float, nan, binary64, sub}
+use Rattle.calls.specs.Line.{Line, line, plusZero, from-bar}
+use Rattle.calls.specs.Recur.{recur}
+use Rattle.calls.specs.Written.{Writing, getD-untouched}
+use Rattle.rounding.specs.Leaves.{signOf}
+use Rattle.averages.specs.Window.{mean, over, windowSum, runningSum}
+use Rattle.extremes.specs.Extreme.{larger, smaller, extreme}
+use Rattle.rules.specs.Rules.{againstMean, singleLine, addThenSubtract, runningMean, doubleLine, againstMiddle, midLine}
+
+-- a cell that is not yet written, read
+pub not-yet : {k : ℕ} {f : Line} {old now : List Float} (i : ℕ) → Writing k f old now → k ≤ i → line now i ≡ line old i
+not-yet {k} {f} {old} i w h = rw (w .is) (getD-untouched k f old i nan h)
+
+-- ---- one average
+
+pub single-at : (n : ℕ) (f : Line) (i : ℕ) {m : Float} → m ≡ mean n (mean n f) i → 2 * n - 2 ≤ i → againstMean (f i) m ≡ singleLine n f i
+unfolding singleLine
+single-at n f i e h = rw (e, from-bar (2 * n - 2) plusZero _ i h)
+
+-- ---- the middle
+
+pub mid-at : (n : ℕ) (f : Line) (i : ℕ) {m h l : Float} → m ≡ mean n f i → h ≡ extreme larger n (mean n f) i → l ≡ extreme smaller n (mean n f) i
+    → 2 * n - 2 ≤ i → againstMiddle m h l ≡ midLine n f i
+unfolding midLine
+mid-at n f i e g k p = rw (e, g, k, from-bar (2 * n - 2) plusZero _ i p)
+
+-- ---- two averages
+
+-- x is the running sum of n prices at bar i
+pub record Sliding (n : ℕ) (f : Line) (i : ℕ) (x : Float) : Type 0 where
+  pub is : x ≡ runningSum addThenSubtract n f (i + 1 - n)
+
+-- it begins with a window summed afresh
+pub begins : {n : ℕ} {f : Line} {i : ℕ} {x : Float} → x ≡ windowSum n f i → i + 1 ≡ n → Sliding n f i x
+unfolding runningSum recur windowSum
+begins {n} {f} {i} e h =
+    let zero-steps : i + 1 - n ≡ 0 = omega arith in
+    record { is = rw (e, zero-steps) }
+
+-- and slides one bar on
+pub slides : {n : ℕ} {f : Line} {i : ℕ} {x : Float} → Sliding n f i x → n ≤ i + 1
+    → Sliding n f (i + 1) (addThenSubtract x (f (i + 1)) (f (i + 1 - n)))
+unfolding runningSum recur
+slides {n} {f} {i} s h =
+    let next : i + 1 + 1 - n ≡ suc (i + 1 - n) = omega arith in
+    let new : n + (i + 1 - n) ≡ i + 1 = omega arith in
+    record { is = rw (s .is, next, new) }
+
+-- the same bar, said otherwise
+pub at-bar : {n : ℕ} {f : Line} {i j : ℕ} {x : Float} → Sliding n f i x → i ≡ j → Sliding n f j x
+at-bar s e = rw (← e) s
+
+-- the sign of the short average less the long one, from the two running sums
+abbrev pub crossing : ℕ → ℕ → Float → Float → Float
+crossing n m short long = signOf (sub binary64 (over n short) (over m long))
+
+pub double-at : {n m : ℕ} {f : Line} {i : ℕ} {x y : Float} → Sliding n f i x → Sliding m f i y → m ≤ i + 1 → crossing n m x y ≡ doubleLine n m f i
+unfolding doubleLine runningMean
+double-at {n} {m} {f} {i} s t h = rw (s .is, t .is, from-bar (m - 1) plusZero _ i (omega arith))
+
+-- two windows that are in order and full at bar m - 1, and the cells before it
+pub record Started (n m : ℕ) (s now : List Float) : Type 0 where
+  pub some : 0 < n
+  pub order : n < m
+  pub narrow : m ≤ 4096
+  pub full : m ≤ length s
+  pub room : length s ≤ length now
+  pub before : Writing (m - 1) (doubleLine n m (line s)) now now
