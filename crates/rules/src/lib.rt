@@ -1,12 +1,20 @@
 // The position rules.
+use calls::Answer;
+use calls::Refusal;
 ghost use mathlib.Core.Path.{_≡_};
 ghost use Prim.Native.Nat.{_+_, _*_, _<_, _≤_};
+ghost use mathlib.Core.List.{[], _∷_};
+ghost use lib.Dec.{ltb};
 ghost use lib.ListN.{length};
+ghost use Rattle.calls.specs.declared.Refusal.the-variants.{WindowsOutOfOrder};
+ghost use Rattle.calls.specs.declared.Answer.the-variants.{Cells};
+ghost use Rattle.calls.specs.Answer.{unless, windowed};
+ghost use Rattle.calls.specs.Call.{Call};
 ghost use Rattle.calls.specs.Line.{line, plusZero};
 ghost use Rattle.calls.specs.Written.{Writing};
 ghost use Rattle.averages.specs.Eight.{Windows};
 ghost use Rattle.averages.specs.Window.{mean};
-ghost use Rattle.rules.specs.Rules.{againstMean, singleLine, againstMiddle, doubleLine};
+ghost use Rattle.rules.specs.Rules.{againstMean, singleLine, againstMiddle, doubleLine, doubleAnswer};
 ghost use Rattle.rules.specs.Stages.{Sliding, Started, crossing};
 
 // The sign of the short average less the long one, from the sums of n and of m prices.
@@ -57,4 +65,53 @@ fn write_double(series: &[f64], n: usize, m: usize, out: &mut [f64])
     if first < series.len() {
         write_crossings(series, n, m, out);
     }
+}
+
+// What two windows make of an answer of `bars` cells: too long, none, out of order.
+fn check_windows(bars: usize, n: usize, m: usize) -> Answer
+    ensures { λ r. ⌜ r ≡ windowed bars (n ∷ m ∷ []) (unless (ltb n m) WindowsOutOfOrder (Cells bars)) ⌝ }
+{
+    if n > 4096 {
+        return Answer::Refused(Refusal::WindowTooLong);
+    }
+    if m > 4096 {
+        return Answer::Refused(Refusal::WindowTooLong);
+    }
+    if bars == 0 {
+        return Answer::Cells(0);
+    }
+    if n == 0 {
+        return Answer::Cells(0);
+    }
+    if m == 0 {
+        return Answer::Cells(0);
+    }
+    if n >= m {
+        return Answer::Refused(Refusal::WindowsOutOfOrder);
+    }
+    Answer::Cells(bars)
+}
+
+// The answer of `double_sma_positions`.
+fn answer_double(series: &[f64], n: usize, m: usize, out: usize) -> Answer
+    ensures { λ r. ⌜ r ≡ doubleAnswer (now (series .entry)) n m out ⌝ }
+{
+    let due = calls::check(series, out);
+    if let Answer::Refused(_) = due {
+        return due;
+    }
+    check_windows(series.len(), n, m)
+}
+
+// Double: the sign of the average of n prices less that of m prices, from bar m - 1 on.
+pub fn double_sma_positions(series: &[f64], n: usize, m: usize, out: &mut [f64]) -> Answer
+    ensures { λ r. ⌜ Call (doubleAnswer (now (series .entry)) n m (length (now (out .entry)))) (doubleLine n m (line (now (series .entry)))) (now (out .entry)) r (now (out .exit)) ⌝ }
+{
+    let due = answer_double(series, n, m, out.len());
+    if let Answer::Cells(count) = due {
+        if count > 0 {
+            write_double(series, n, m, out);
+        }
+    }
+    due
 }
