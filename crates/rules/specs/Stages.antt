@@ -3,19 +3,46 @@ use mathlib.Core.Path.{_≡_, refl, sym, _∙_}
 use mathlib.Core.List.{List}
 use Prim.Native.Nat.{ℕ, suc, _+_, _-_, _*_, _<_, _≤_}
 use native.Mathlib.Omega.{arith}
-use lib.ListN.{length}
+use lib.ListN.{length, take, length-take}
+use lib.Seq.{getD-take}
 use lib.Ieee.{Float, nan, binary64, sub}
-use Rattle.calls.specs.Line.{Line, line, plusZero, from-bar}
+use Rattle.calls.specs.Line.{Line, line, plusZero, from-bar, Causal}
 use Rattle.calls.specs.Recur.{recur}
-use Rattle.calls.specs.Written.{Writing, getD-untouched}
+use Rattle.calls.specs.Written.{Writing, getD-untouched, read-back, ends, writing-same}
 use Rattle.rounding.specs.Leaves.{signOf}
 use Rattle.averages.specs.Window.{mean, over, windowSum, runningSum}
 use Rattle.extremes.specs.Extreme.{larger, smaller, extreme}
 use Rattle.rules.specs.Rules.{againstMean, singleLine, addThenSubtract, runningMean, doubleLine, againstMiddle, midLine}
 
--- a cell that is not yet written, read
-pub not-yet : {k : ℕ} {f : Line} {old now : List Float} (i : ℕ) → Writing k f old now → k ≤ i → line now i ≡ line old i
+-- ---- stages in one slice
+
+not-yet : {k : ℕ} {f : Line} {old now : List Float} (i : ℕ) → Writing k f old now → k ≤ i → line now i ≡ line old i
 not-yet {k} {f} {old} i w h = rw (w .is) (getD-untouched k f old i nan h)
+
+-- a cell that the lead and the loop have not reached still holds what stood there
+pub still : {r k l : ℕ} {f g h : Line} {old mid now : List Float} (i : ℕ) → Writing l g old old → Writing r h old mid → Writing k f mid now
+    → (r ≤ i) × (k ≤ i) × (i < l) × (i < length old) → line now i ≡ g i
+still i stood lead w (a, b, c, d) = not-yet i w b ∙ not-yet i lead a ∙ read-back i nan stood (c, d)
+
+-- ---- a stage that reads the first part of a slice, which holds the line g
+
+module _ {k : ℕ} {g : Line} {old mid : List Float} (w : Writing k g old mid) (h : k ≤ length old) where
+  pub part-long : length (take k mid) ≡ k
+  part-long = rw length-take (let e = w .long in omega arith)
+
+  pub part-is : (i : ℕ) → i < k → line (take k mid) i ≡ g i
+  part-is i l = getD-take k mid i nan l ∙ read-back i nan w (omega arith)
+
+  -- a causal operator on that part is the operator on g
+  pub through : (F : Line → Line) {a b : List Float} → Causal F → Writing (length (take k mid)) (F (line (take k mid))) a b → Writing k (F g) a b
+  through F p v = writing-same (ends v part-long) (λ i l. p (line (take k mid)) g i (λ j m. part-is j (omega arith)))
+
+-- the cells of the line f, made of the means of s, stand in `now`, each to be turned into its bar's position
+pub record Averaged (n : ℕ) (s : List Float) (f : Line) (now : List Float) : Type 0 where
+  pub some : 0 < n
+  pub narrow : n ≤ 4096
+  pub room : length s ≤ length now
+  pub means : Writing (length s) f now now
 
 -- ---- one average
 

@@ -15,7 +15,43 @@ ghost use Rattle.calls.specs.Written.{Writing};
 ghost use Rattle.averages.specs.Eight.{Windows};
 ghost use Rattle.averages.specs.Window.{mean};
 ghost use Rattle.rules.specs.Rules.{againstMean, singleLine, againstMiddle, doubleLine, doubleAnswer};
-ghost use Rattle.rules.specs.Stages.{Sliding, Started, crossing};
+ghost use Rattle.rules.specs.Stages.{Averaged, Sliding, Started, crossing};
+
+// The sign of a price less its average, 0 where that average is 0.0.
+fn against_mean(price: f64, average: f64) -> f64
+    ensures { λ r. ⌜ r ≡ againstMean price average ⌝ }
+{
+    if average == 0.0 {
+        0.0
+    } else {
+        rounding::sign(price - average)
+    }
+}
+
+// Writes each bar's position over the doubly averaged price that stands in its cell.
+fn write_against_means(series: &[f64], n: usize, out: &mut [f64])
+    requires { ⌜ Averaged n (now series) (mean n (mean n (line (now series)))) (now out) ⌝ }
+    ensures { λ _. ⌜ Writing (length (now (series .entry))) (singleLine n (line (now (series .entry)))) (now (out .entry)) (now (out .exit)) ⌝ }
+{
+    let mut i = calls::fill_lead(out, 2 * n - 2, series.len(), 0.0);
+    while i < series.len() {
+        out[i] = against_mean(series[i], out[i]);
+        i += 1;
+    }
+}
+
+// Writes each bar's position by way of `work`, which is cleared.
+fn write_single(series: &[f64], n: usize, out: &mut [f64], work: &mut [f64])
+    requires { ⌜ (0 < n) × (n ≤ 4096) × (length (now series) ≤ length (now out)) × (8 * length (now series) ≤ length (now work)) ⌝ }
+    ensures { λ _. ⌜ Writing (length (now (series .entry))) (singleLine n (line (now (series .entry)))) (now (out .entry)) (now (out .exit))
+        × Writing (8 * length (now (series .entry))) (λ i. plusZero) (now (work .entry)) (now (work .exit)) ⌝ }
+{
+    let bars = series.len();
+    averages::write_means(series, n, work);
+    averages::write_means(&work[..bars], n, out);
+    write_against_means(series, n, out);
+    calls::clear(work, 8 * bars);
+}
 
 // The sign of the short average less the long one, from the sums of n and of m prices.
 fn cross(short: f64, n: usize, long: f64, m: usize) -> f64
