@@ -2,16 +2,42 @@
 use mathlib.Core.Path.{_≡_, refl, sym}
 use mathlib.Core.Bool.{true, false, _&&_, _||_}
 use mathlib.Core.List.{List, [], _∷_}
-use Prim.Native.Nat.{ℕ, _<_, _≤_}
+use Prim.Native.Nat.{ℕ, _*_, _<_, _≤_}
 use borrow.Author.Tests.{leb-true, ltb-true}
 use lib.Dec.{leb, ltb, eqb}
 use lib.ListN.{length}
 use lib.Ieee.{Float}
 use Rattle.calls.specs.declared.Answer.the-variants.{Cells}
-use Rattle.calls.specs.Accepted.{accepted}
-use Rattle.calls.specs.Answer.{windowed}
-use Rattle.calls.specs.Room.{and-parts, or-parts, unless-cells, andThen-cells, emptyIf-cells, nonzero, same-count, checked-room}
+use Rattle.calls.specs.Accepted.{accepted, all}
+use Rattle.calls.specs.Answer.{windowed, answered}
+use Rattle.calls.specs.Line.{line}
+use Rattle.calls.specs.Room.{and-parts, or-parts, unless-cells, andThen-cells, emptyIf-cells, nonzero, same-count, checked-room, room, opened}
+use Rattle.averages.specs.Window.{mean}
+use Rattle.extremes.specs.Best.{Numbers}
+use Rattle.rules.specs.Numbers.{means-are-numbers}
 use Rattle.rules.specs.Rules.{doubleAnswer}
+
+-- a window, room for the cells and in the work slice, and accepted prices
+pub record Priced (n : ℕ) (s : List Float) (out work : ℕ) : Type 0 where
+  pub some : 0 < n
+  pub narrow : n ≤ 4096
+  pub short : length s ≤ 65536
+  pub out-long : length s ≤ out
+  pub work-long : 8 * length s ≤ work
+  pub values : all accepted s ≡ true
+
+pub priced : (s : List Float) (n out work k : ℕ) → answered accepted s (n ∷ []) out (work ∷ []) ≡ Cells k → 0 < k
+    → Priced n s out work × (k ≡ length s)
+priced s n out work k e h =
+    let r = room accepted s (n ∷ []) out (work ∷ []) k e in
+    let o = opened accepted s n out (work ∷ []) k e h in (
+      record { some = o .some; narrow = o .narrow; short = r .short; out-long = r .out-long; work-long = r .work-long .0; values = r .values },
+      o .whole,
+    )
+
+-- its means are numbers
+pub priced-means : {n : ℕ} {s : List Float} {out work : ℕ} → Priced n s out work → Numbers (mean n (line s)) (length s)
+priced-means {n} {s} p = means-are-numbers n s (p .some, p .narrow) (p .values)
 
 -- two windows in order, room in the output, and cells for all bars
 pub record DoubleOpen (s : List Float) (n m output k : ℕ) : Type 0 where

@@ -8,9 +8,11 @@ use lib.Seq.{getD-take}
 use lib.Ieee.{Float, nan, binary64, sub}
 use Rattle.calls.specs.Line.{Line, line, plusZero, from-bar, Causal}
 use Rattle.calls.specs.Recur.{recur}
+use Rattle.calls.specs.Rows.{beside}
 use Rattle.calls.specs.Written.{Writing, getD-untouched, read-back, ends, writing-same}
 use Rattle.rounding.specs.Leaves.{signOf}
 use Rattle.averages.specs.Window.{mean, over, windowSum, runningSum}
+use Rattle.extremes.specs.Best.{Numbers}
 use Rattle.extremes.specs.Extreme.{larger, smaller, extreme}
 use Rattle.rules.specs.Rules.{againstMean, singleLine, addThenSubtract, runningMean, doubleLine, againstMiddle, midLine}
 
@@ -37,6 +39,9 @@ module _ {k : ℕ} {g : Line} {old mid : List Float} (w : Writing k g old mid) (
   pub through : (F : Line → Line) {a b : List Float} → Causal F → Writing (length (take k mid)) (F (line (take k mid))) a b → Writing k (F g) a b
   through F p v = writing-same (ends v part-long) (λ i l. p (line (take k mid)) g i (λ j m. part-is j (omega arith)))
 
+  pub part-numbers : Numbers g k → Numbers (line (take k mid)) (length (take k mid))
+  part-numbers p = record { at = λ i l. let long = part-long in let m : i < k = omega arith in rw (part-is i m) (p .at i m) }
+
 -- the cells of the line f, made of the means of s, stand in `now`, each to be turned into its bar's position
 pub record Averaged (n : ℕ) (s : List Float) (f : Line) (now : List Float) : Type 0 where
   pub some : 0 < n
@@ -51,6 +56,12 @@ unfolding singleLine
 single-at n f i e h = rw (e, from-bar (2 * n - 2) plusZero _ i h)
 
 -- ---- the middle
+
+-- the highest and the lowest of the last n means, in two rows
+abbrev pub Ranges : ℕ → List Float → List Float → List Float → Type 0
+Ranges n s old now =
+    let f = mean n (line s) in
+    Writing (length s + length s) (beside (length s) (extreme larger n f) (extreme smaller n f)) old now
 
 pub mid-at : (n : ℕ) (f : Line) (i : ℕ) {m h l : Float} → m ≡ mean n f i → h ≡ extreme larger n (mean n f) i → l ≡ extreme smaller n (mean n f) i
     → 2 * n - 2 ≤ i → againstMiddle m h l ≡ midLine n f i
