@@ -18,7 +18,7 @@ pub record Windows (n i count bars : ℕ) : Type 0 where
   pub inside : i + count ≤ bars
 
 -- a window that is not empty, and a cell for each bar
-pub record Room (n bars cells : ℕ) : Type 0 where
+pub record WindowRoom (n bars cells : ℕ) : Type 0 where
   pub some : 0 < n
   pub short : n ≤ 4096
   pub room : bars ≤ cells

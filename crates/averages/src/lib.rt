@@ -1,11 +1,22 @@
 // Averages: each window summed afresh, one bar and eight bars side by side.
+use calls::Answer;
+use calls::Refusal;
 ghost use mathlib.Core.Path.{_≡_};
-ghost use Prim.Native.Nat.{_≤_, min};
+ghost use mathlib.Core.List.{[], _∷_};
+ghost use Prim.Native.Nat.{_+_, _-_, _*_, _/_, _<_, _≤_};
 ghost use lib.ListN.{length};
-ghost use Rattle.calls.specs.Line.{line, plusZero, Led};
+ghost use lib.IntN.{pos, natAbs};
+ghost use lib.Ieee.{nan};
+ghost use Rattle.calls.specs.Accepted.{accepted, tick};
+ghost use Rattle.calls.specs.Answer.{answered};
+ghost use Rattle.calls.specs.Call.{Call};
+ghost use Rattle.calls.specs.Line.{line, fromBar, Led};
 ghost use Rattle.calls.specs.Written.{Writing};
 ghost use Rattle.averages.specs.Window.{windowSum, mean};
-ghost use Rattle.averages.specs.Eight.{Windows, Room, Eight, Begun, Reached};
+ghost use Rattle.averages.specs.Eight.{Windows, WindowRoom, Eight, Begun, Reached};
+ghost use Rattle.averages.specs.Averages.{smaLine, blend, emaLine, exponentialLine, exponentialAnswer, toTick, tickMeanLine};
+ghost use Rattle.averages.specs.Ticks.{TickRoom, Passed, TickRunning};
+ghost use Rattle.averages.specs.Stages.{Sliding, Leading, Seeded, Smooth};
 
 // A number for each of eight bars side by side.
 pub struct Lanes {
@@ -132,28 +143,212 @@ fn means_by_one(series: &[f64], n: usize, from: usize, means: &mut [f64])
     }
 }
 
-// Writes x to the bars before bar `first`, as far as there are bars, and gives the bar after them.
-fn fill_lead(cells: &mut [f64], first: usize, bars: usize, x: f64) -> usize
-    requires { ⌜ bars ≤ length (now cells) ⌝ }
-    ensures { λ r. ⌜ Led first bars x r (now (cells .entry)) (now (cells .exit)) ⌝ }
-{
-    let mut i = 0;
-    while i < bars {
-        if i == first {
-            return i;
-        }
-        cells[i] = x;
-        i += 1;
-    }
-    i
-}
-
 // Writes the mean of each bar's window, and 0.0 before the first whole one.
 pub fn write_means(series: &[f64], n: usize, means: &mut [f64])
-    requires { ⌜ Room n (length (now series)) (length (now means)) ⌝ }
+    requires { ⌜ WindowRoom n (length (now series)) (length (now means)) ⌝ }
     ensures { λ _. ⌜ Writing (length (now (series .entry))) (mean n (line (now (series .entry)))) (now (means .entry)) (now (means .exit)) ⌝ }
 {
-    let first = fill_lead(means, n - 1, series.len(), 0.0);
+    let first = calls::fill_lead(means, n - 1, series.len(), 0.0);
     let reached = means_by_eight(series, n, first, means);
     means_by_one(series, n, reached, means);
+}
+
+// Writes the running means from bar n on: the new price less the old one is added to the sum in one step.
+fn slide_means(series: &[f64], n: usize, first: f64, out: &mut [f64])
+    requires { ⌜ Sliding (now series) n first (now out) ⌝ }
+    ensures { λ _. ⌜ Writing (length (now (series .entry))) (smaLine n (line (now (series .entry)))) (now (out .entry)) (now (out .exit)) ⌝ }
+{
+    let count = n as f64;
+    let mut sum = first;
+    let mut i = n;
+    while i < series.len() {
+        sum = sum + (series[i] - series[i - n]);
+        out[i] = sum / count;
+        i += 1;
+    }
+}
+
+// Writes NaN before bar n - 1, and gives the bar after those cells.
+fn fill_nan(out: &mut [f64], n: usize, bars: usize) -> usize
+    requires { ⌜ WindowRoom n bars (length (now out)) ⌝ }
+    ensures { λ r. ⌜ Led (n - 1) bars nan r (now (out .entry)) (now (out .exit)) ⌝ }
+{
+    calls::fill_lead(out, n - 1, bars, 0.0 / 0.0)
+}
+
+// Writes the cells of `sma`.
+fn write_sma(series: &[f64], n: usize, out: &mut [f64])
+    requires { ⌜ WindowRoom n (length (now series)) (length (now out)) ⌝ }
+    ensures { λ _. ⌜ Writing (length (now (series .entry))) (smaLine n (line (now (series .entry)))) (now (out .entry)) (now (out .exit)) ⌝ }
+{
+    fill_nan(out, n, series.len());
+    if n <= series.len() {
+        let sum = sum_at(series, n, n - 1);
+        out[n - 1] = sum / (n as f64);
+        slide_means(series, n, sum, out);
+    }
+}
+
+// alpha of x and the rest of `last`.
+fn blended(alpha: f64, last: f64, x: f64) -> f64
+    ensures { λ r. ⌜ r ≡ blend alpha last x ⌝ }
+{
+    alpha * x + (1.0 - alpha) * last
+}
+
+// Writes the blended cells after bar `first`, where the seed stands.
+fn blend_on(series: &[f64], alpha: f64, first: usize, seed: f64, out: &mut [f64])
+    requires { ⌜ Seeded (now series) alpha first seed (now out) ⌝ }
+    ensures { λ _. ⌜ Smooth (now (series .entry)) alpha first seed (now (out .entry)) (now (out .exit)) ⌝ }
+{
+    let mut last = seed;
+    let mut i = first + 1;
+    while i < series.len() {
+        last = blended(alpha, last, series[i]);
+        out[i] = last;
+        i += 1;
+    }
+}
+
+// Writes the seed at bar `first` and the blended cells after it.
+fn write_smooth(series: &[f64], alpha: f64, first: usize, seed: f64, out: &mut [f64])
+    requires { ⌜ Leading (now series) alpha first seed (now out) ⌝ }
+    ensures { λ _. ⌜ Smooth (now (series .entry)) alpha first seed (now (out .entry)) (now (out .exit)) ⌝ }
+{
+    out[first] = seed;
+    blend_on(series, alpha, first, seed, out);
+}
+
+// Writes the cells of `ema`.
+fn write_ema(series: &[f64], n: usize, out: &mut [f64])
+    requires { ⌜ WindowRoom n (length (now series)) (length (now out)) ⌝ }
+    ensures { λ _. ⌜ Writing (length (now (series .entry))) (emaLine n (line (now (series .entry)))) (now (out .entry)) (now (out .exit)) ⌝ }
+{
+    fill_nan(out, n, series.len());
+    if n <= series.len() {
+        let alpha = 2.0 / ((n + 1) as f64);
+        let seed = mean_at(series, n, n - 1);
+        write_smooth(series, alpha, n - 1, seed, out);
+    }
+}
+
+// The mean of the last n prices: TA-Lib's SMA.
+pub fn sma(series: &[f64], n: usize, out: &mut [f64]) -> Answer
+    ensures { λ r. ⌜ Call (answered accepted (now (series .entry)) (n ∷ []) (length (now (out .entry))) []) (smaLine n (line (now (series .entry))))
+        (now (out .entry)) r (now (out .exit)) ⌝ }
+{
+    let due = calls::answer_window(series, n, out.len());
+    if let Answer::Cells(count) = due {
+        if count > 0 {
+            write_sma(series, n, out);
+        }
+    }
+    due
+}
+
+// The exponential mean with the weight 2 / (n + 1), from the mean of the first n prices on: TA-Lib's EMA.
+pub fn ema(series: &[f64], n: usize, out: &mut [f64]) -> Answer
+    ensures { λ r. ⌜ Call (answered accepted (now (series .entry)) (n ∷ []) (length (now (out .entry))) []) (emaLine n (line (now (series .entry))))
+        (now (out .entry)) r (now (out .exit)) ⌝ }
+{
+    let due = calls::answer_window(series, n, out.len());
+    if let Answer::Cells(count) = due {
+        if count > 0 {
+            write_ema(series, n, out);
+        }
+    }
+    due
+}
+
+// The exponential mean with the weight alpha, from the first price on.
+pub fn exponential_smoothing(series: &[f64], alpha: f64, out: &mut [f64]) -> Answer
+    ensures { λ r. ⌜ Call (exponentialAnswer (now (series .entry)) alpha (length (now (out .entry)))) (exponentialLine alpha (line (now (series .entry))))
+        (now (out .entry)) r (now (out .exit)) ⌝ }
+{
+    let due = calls::check(series, out.len());
+    if let Answer::Refused(_) = due {
+        return due;
+    }
+    if calls::is_finite(alpha) {
+        if series.len() > 0 {
+            write_smooth(series, alpha, 0, series[0], out);
+        }
+        Answer::Cells(series.len())
+    } else {
+        Answer::Refused(Refusal::ParameterNotFinite)
+    }
+}
+
+// size / n to a whole tick, a half up.
+fn half_up(size: usize, n: usize) -> usize
+    requires { ⌜ (0 < n) × (n ≤ 4096) × (size ≤ 68719476736) ⌝ }
+    ensures { λ r. ⌜ r ≡ (2 * size + n) / (2 * n) ⌝ }
+{
+    (2 * size + n) / (2 * n)
+}
+
+// z without its sign.
+fn size_of(z: i64) -> usize
+    requires { ⌜ natAbs z ≤ 68719476736 ⌝ }
+    ensures { λ r. ⌜ r ≡ natAbs z ⌝ }
+{
+    if z < 0 { (0 - z) as usize } else { z as usize }
+}
+
+// sum / n to a whole tick, a half away from zero.
+fn to_tick(sum: i64, n: usize) -> i64
+    requires { ⌜ (0 < n) × (n ≤ 4096) × (natAbs sum ≤ 68719476736) ⌝ }
+    ensures { λ r. ⌜ r ≡ toTick sum n ⌝ }
+{
+    let size = half_up(size_of(sum), n) as i64;
+    if sum < 0 { 0 - size } else { size }
+}
+
+// The sum of the last n ticks with bar i in it: the new tick is added, and the one that leaves the window is subtracted.
+fn next_sum(series: &[f64], n: usize, i: usize, sum: i64) -> i64
+    requires { ⌜ Passed (now series) n i sum ⌝ }
+    ensures { λ r. ⌜ TickRunning n (now (series .entry)) (i + 1) r ⌝ }
+{
+    let more = sum + (series[i] as i64);
+    if i < n {
+        more
+    } else {
+        more - (series[i - n] as i64)
+    }
+}
+
+// The cell of bar i, from the sum of its ticks.
+fn tick_cell(sum: i64, n: usize, i: usize) -> i64
+    requires { ⌜ (0 < n) × (n ≤ 4096) × (natAbs sum ≤ 68719476736) ⌝ }
+    ensures { λ r. ⌜ r ≡ fromBar (n - 1) (pos 0) (λ j. toTick sum n) i ⌝ }
+{
+    if i < n - 1 { 0 } else { to_tick(sum, n) }
+}
+
+// Writes the cells of `tick_mean`.
+fn write_tick_means(series: &[f64], n: usize, out: &mut [i64])
+    requires { ⌜ TickRoom (now series) n (length (now out)) ⌝ }
+    ensures { λ _. ⌜ Writing (length (now (series .entry))) (tickMeanLine n (line (now (series .entry)))) (now (out .entry)) (now (out .exit)) ⌝ }
+{
+    let mut sum = 0;
+    let mut i = 0;
+    while i < series.len() {
+        sum = next_sum(series, n, i, sum);
+        out[i] = tick_cell(sum, n, i);
+        i += 1;
+    }
+}
+
+// The mean of the last n whole ticks, to a whole tick.
+pub fn tick_mean(series: &[f64], n: usize, out: &mut [i64]) -> Answer
+    ensures { λ r. ⌜ Call (answered tick (now (series .entry)) (n ∷ []) (length (now (out .entry))) []) (tickMeanLine n (line (now (series .entry))))
+        (now (out .entry)) r (now (out .exit)) ⌝ }
+{
+    let due = calls::answer_tick_window(series, n, out.len());
+    if let Answer::Cells(count) = due {
+        if count > 0 {
+            write_tick_means(series, n, out);
+        }
+    }
+    due
 }
