@@ -1,0 +1,6 @@
+-- The ultimate smoother with its coefficients, and true range.
+pub mod Recorded
+pub mod Coefficients
+pub mod Bounds
+pub mod Smoother
+pub mod Range

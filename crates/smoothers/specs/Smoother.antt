@@ -1,0 +1,135 @@
+-- The ultimate smoother of John Ehlers: what `ultimate_smoother` answers and writes. Assumes nothing.
+use mathlib.Core.Path.{_≡_, refl, sym}
+use mathlib.Core.Bool.{Bool, true, _&&_}
+use mathlib.Core.List.{List, [], _∷_}
+use Prim.Native.Nat.{ℕ, zero, suc, _+_, _-_, _<_, _≤_}
+use native.Mathlib.Omega.{arith}
+use lib.IntN.{pos}
+use lib.ListN.{length}
+use lib.Ieee.{Float, nan, inf, fin, binary64, neg, add, sub, mul, div, le, eq, ofInt, toUnsigned}
+use Rattle.calls.specs.declared.Refusal.the-variants.{ParameterNotFinite, WindowTooLong}
+use Rattle.calls.specs.declared.Answer.{Answer}
+use Rattle.calls.specs.declared.Answer.the-variants.{Cells}
+use Rattle.calls.specs.Accepted.{accepted, finite}
+use Rattle.calls.specs.Answer.{checked, andThen, unless}
+use Rattle.calls.specs.Line.{Line, plusZero, Same, Causal}
+use Rattle.smoothers.specs.declared.Coefficients.{Coefficients}
+use Rattle.smoothers.specs.Coefficients.{power, a1Of, b1Of, ofPair, coefficients}
+
+-- ---- the line
+
+-- (1 - c1) * p0 + (2 * c1 - c2) * p1 - (c1 + c3) * p2 + c2 * us1 + c3 * us2, from left to right:
+-- p0, p1 and p2 are the last three prices, the newest first, and us1 and us2 the last two cells
+unfoldable pub formula : Coefficients → Float → Float → Float → Float → Float → Float
+formula c p0 p1 p2 us1 us2 =
+    let newest = mul binary64 (sub binary64 (power 0) (c .c1)) p0 in
+    let second = mul binary64 (sub binary64 (mul binary64 (power 1) (c .c1)) (c .c2)) p1 in
+    let third = mul binary64 (add binary64 (c .c1) (c .c3)) p2 in
+    add binary64 (add binary64 (sub binary64 (add binary64 newest second) third) (mul binary64 (c .c2) us1)) (mul binary64 (c .c3) us2)
+
+-- The first four cells copy the input, and from bar 4 on the formula holds.
+unfoldable pub smooth : Coefficients → Line → Line
+smooth c f zero = f 0
+smooth c f (suc zero) = f 1
+smooth c f (suc (suc zero)) = f 2
+smooth c f (suc (suc (suc zero))) = f 3
+smooth c f (suc (suc (suc (suc i)))) =
+    formula c (f (suc (suc (suc (suc i))))) (f (suc (suc (suc i)))) (f (suc (suc i))) (smooth c f (suc (suc (suc i)))) (smooth c f (suc (suc i)))
+
+-- the smoother of a period up to 512
+unfoldable pub ultimateLine : ℕ → Line → Line
+ultimateLine period = smooth (coefficients period)
+
+module _ (c : Coefficients) (f : Line) where
+  -- the cells as the code finds them
+  pub smooth-first : (i : ℕ) → i < 4 → f i ≡ smooth c f i
+  unfolding smooth
+  smooth-first zero h = refl
+  smooth-first (suc zero) h = refl
+  smooth-first (suc (suc zero)) h = refl
+  smooth-first (suc (suc (suc zero))) h = refl
+  smooth-first (suc (suc (suc (suc i)))) h = absurd (omega arith)
+
+  pub smooth-next : (i : ℕ) → 4 ≤ i
+      → formula c (f i) (f (i - 1)) (f (i - 2)) (smooth c f (i - 1)) (smooth c f (i - 2)) ≡ smooth c f i
+  unfolding smooth
+  smooth-next zero h = absurd (omega arith)
+  smooth-next (suc zero) h = absurd (omega arith)
+  smooth-next (suc (suc zero)) h = absurd (omega arith)
+  smooth-next (suc (suc (suc zero))) h = absurd (omega arith)
+  smooth-next (suc (suc (suc (suc i)))) h =
+      let one : suc (suc (suc (suc i))) - 1 ≡ suc (suc (suc i)) = omega arith in
+      let two : suc (suc (suc (suc i))) - 2 ≡ suc (suc i) = omega arith in
+      rw (one, two)
+
+-- no look-ahead
+pub causal-smooth : (c : Coefficients) → Causal (smooth c)
+unfolding smooth
+causal-smooth c f g zero s = s 0 (omega arith)
+causal-smooth c f g (suc zero) s = s 1 (omega arith)
+causal-smooth c f g (suc (suc zero)) s = s 2 (omega arith)
+causal-smooth c f g (suc (suc (suc zero))) s = s 3 (omega arith)
+causal-smooth c f g (suc (suc (suc (suc i)))) s =
+    rw (
+      s (suc (suc (suc (suc i)))) (omega arith),
+      s (suc (suc (suc i))) (omega arith),
+      s (suc (suc i)) (omega arith),
+      causal-smooth c f g (suc (suc (suc i))) (λ j l. s j (omega arith)),
+      causal-smooth c f g (suc (suc i)) (λ j l. s j (omega arith)),
+    )
+
+pub causal-ultimate : (period : ℕ) → Causal (ultimateLine period)
+unfolding ultimateLine
+causal-ultimate period = causal-smooth (coefficients period)
+
+-- ---- the answer
+
+-- the whole part of a number that is not below 0
+abbrev pub wholePart : Float → ℕ
+wholePart = toUnsigned 64
+
+-- A period is a whole number from 0 to 512; -0.0 is the whole number 0.
+unfoldable pub isPeriod : Float → Bool
+isPeriod x = le plusZero x && le x (power 9) && eq (ofInt binary64 (pos (wholePart x))) x
+
+-- No period makes the answer empty; with no bars the count is 0.
+unfoldable pub smootherAnswer : List Float → Float → ℕ → Answer
+unfolding checked
+smootherAnswer s period output =
+    andThen (checked accepted (s ∷ []) (output ∷ []) [])
+    (unless (finite period) ParameterNotFinite
+    (unless (isPeriod period) WindowTooLong
+    (Cells (length s))))
+
+-- ---- NaN
+
+-- An input that is NaN makes the cell NaN, and so does a cell before it that is.
+nan-last : (x : Float) → add binary64 x nan ≡ nan
+unfolding add
+nan-last nan = refl
+nan-last (inf s) = refl
+nan-last (fin s m e) = refl
+
+nan-factor : (x : Float) → mul binary64 x nan ≡ nan
+unfolding mul
+nan-factor nan = refl
+nan-factor (inf s) = refl
+nan-factor (fin s m e) = refl
+
+module _ (c : Coefficients) (x y z u : Float) where
+  pub nan-newest : formula c nan x y z u ≡ nan
+  unfolding formula add sub
+  nan-newest = rw nan-factor
+
+  pub nan-second : formula c x nan y z u ≡ nan
+  unfolding formula add sub
+  nan-second = rw (nan-factor, nan-last)
+
+  pub nan-third : formula c x y nan z u ≡ nan
+  unfolding formula add sub neg
+  nan-third = rw (nan-factor, nan-last)
+
+-- period 0 gives NaN from bar 4 on
+pub period-0 : (f : Line) (i : ℕ) → 4 ≤ i → ultimateLine 0 f i ≡ nan
+unfolding ultimateLine coefficients ofPair a1Of b1Of formula add sub mul div neg
+period-0 f i h = sym (smooth-next (coefficients 0) f i h)

@@ -1,0 +1,109 @@
+// The ultimate smoother with its coefficients, and true range.
+mod table;
+ghost use mathlib.Core.Path.{_≡_};
+ghost use Prim.Native.Nat.{_<_, _≤_, min};
+ghost use lib.ListN.{length};
+ghost use lib.Ieee.{toUnsigned};
+ghost use Rattle.calls.specs.Line.{line};
+ghost use Rattle.calls.specs.Written.{Writing};
+ghost use Rattle.smoothers.specs.Coefficients.{ofPair, coefficients};
+ghost use Rattle.smoothers.specs.Smoother.{formula, smooth, ultimateLine, isPeriod};
+ghost use Rattle.smoothers.specs.Range.{larger, trueRange, trueRangeLine};
+
+// What the smoother's step needs of its period.
+pub struct Coefficients {
+    pub c1: f64,
+    pub c2: f64,
+    pub c3: f64,
+}
+
+impl Coefficients {
+    // Period 0. Its c1 and c2 are NaN, which no constant holds today: here they are 0.0, and `of_period` divides each by itself.
+    const PERIOD_0: Coefficients = Coefficients {
+        c1: 0.0,
+        c2: 0.0,
+        c3: -0.0,
+    };
+
+    fn of_pair(a1: f64, b1: f64) -> Coefficients
+        ensures { λ r. ⌜ r ≡ ofPair a1 b1 ⌝ }
+    {
+        let c2 = b1;
+        let c3 = -a1 * a1;
+        Coefficients {
+            c1: (1.0 + c2 - c3) / 4.0,
+            c2: c2,
+            c3: c3,
+        }
+    }
+
+    // The coefficients of a whole period.
+    pub fn of_period(period: usize) -> Coefficients
+        requires { ⌜ period ≤ 512 ⌝ }
+        ensures { λ r. ⌜ r ≡ coefficients period ⌝ }
+    {
+        if period == 0 {
+            let zero = Coefficients::PERIOD_0;
+            return Coefficients {
+                c1: zero.c1 / zero.c1,
+                c2: zero.c2 / zero.c2,
+                c3: zero.c3,
+            };
+        }
+        Coefficients::of_pair(table::A1[period - 1], table::B1[period - 1])
+    }
+}
+
+// One cell, from the last three prices, the newest first, and the last two cells.
+pub fn step(c: Coefficients, p0: f64, p1: f64, p2: f64, us1: f64, us2: f64) -> f64
+    ensures { λ r. ⌜ r ≡ formula c p0 p1 p2 us1 us2 ⌝ }
+{
+    (1.0 - c.c1) * p0 + (2.0 * c.c1 - c.c2) * p1 - (c.c1 + c.c3) * p2 + c.c2 * us1 + c.c3 * us2
+}
+
+// Copies the first bars, at most four.
+fn copy_first(price: &[f64], out: &mut [f64])
+    requires { ⌜ length (now price) ≤ length (now out) ⌝ }
+    ensures { λ _. ⌜ Writing (min 4 (length (now (price .entry)))) (line (now (price .entry))) (now (out .entry)) (now (out .exit)) ⌝ }
+{
+    let mut i = 0;
+    while i < 4 && i < price.len() {
+        out[i] = price[i];
+        i += 1;
+    }
+}
+
+// Writes the cells from bar 4 on, where the first four stand.
+fn write_steps(price: &[f64], c: Coefficients, out: &mut [f64])
+    requires { ⌜ length (now price) ≤ length (now out) ⌝ }
+    requires { ⌜ Writing (min 4 (length (now price))) (smooth c (line (now price))) (now out) (now out) ⌝ }
+    ensures { λ _. ⌜ Writing (length (now (price .entry))) (smooth c (line (now (price .entry)))) (now (out .entry)) (now (out .exit)) ⌝ }
+{
+    let mut i = 4;
+    while i < price.len() {
+        out[i] = step(c, price[i], price[i - 1], price[i - 2], out[i - 1], out[i - 2]);
+        i += 1;
+    }
+}
+
+// Writes the smoother's line of any series.
+pub fn write_smooth(price: &[f64], period: usize, out: &mut [f64])
+    requires { ⌜ (period ≤ 512) × (length (now price) ≤ length (now out)) ⌝ }
+    ensures { λ _. ⌜ Writing (length (now (price .entry))) (ultimateLine period (line (now (price .entry)))) (now (out .entry)) (now (out .exit)) ⌝ }
+{
+    copy_first(price, out);
+    let c = Coefficients::of_period(period);
+    write_steps(price, c, out);
+}
+
+// Whether x is whole from 0 to 512.
+fn is_period(x: f64) -> bool
+    ensures { λ r. ⌜ r ≡ isPeriod x ⌝ }
+{
+    if x >= 0.0 {
+        if x <= 512.0 {
+            return std::num::truncating_f64_to_u64(x) as f64 == x;
+        }
+    }
+    false
+}
