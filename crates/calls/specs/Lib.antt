@@ -5,4 +5,5 @@ pub mod Line
 pub mod Recur
 pub mod Accepted
 pub mod Answer
+pub mod Room
 pub mod Call
