@@ -1,7 +1,10 @@
 -- The coefficients of Ehlers' ultimate smoother, made from a period. Assumes nothing.
+use mathlib.Core.Path.{_≡_, refl}
 use mathlib.Core.Bool.{false}
 use mathlib.Core.List.{List, map}
-use Prim.Native.Nat.{ℕ, zero, suc}
+use Prim.Native.Nat.{ℕ, zero, suc, _-_, _<_}
+use native.Mathlib.Nat.{not-suc-le-zero}
+use native.Mathlib.Omega.{arith}
 use lib.IntN.{pos}
 use lib.ListN.{getD}
 use lib.Ieee.{Float, nan, fin, binary64, ofBits, neg, add, sub, mul, div}
@@ -37,3 +40,11 @@ ofPair a1 b1 =
 
 unfoldable pub coefficients : ℕ → Coefficients
 coefficients period = ofPair (a1Of period) (b1Of period)
+
+-- the tables begin at period 1
+pub at-index : (period : ℕ) → 0 < period → ofPair (getD a1Table (period - 1) nan) (getD b1Table (period - 1) nan) ≡ coefficients period
+unfolding coefficients a1Of b1Of
+at-index zero p = absurd (not-suc-le-zero p)
+at-index (suc k) p =
+    let same : suc k - 1 ≡ k = omega arith in
+    rw same

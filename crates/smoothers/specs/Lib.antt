@@ -2,5 +2,6 @@
 pub mod Recorded
 pub mod Coefficients
 pub mod Bounds
+pub mod Period
 pub mod Smoother
 pub mod Range

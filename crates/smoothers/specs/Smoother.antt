@@ -1,18 +1,20 @@
 -- The ultimate smoother of John Ehlers: what `ultimate_smoother` answers and writes. Assumes nothing.
 use mathlib.Core.Path.{_≡_, refl, sym}
-use mathlib.Core.Bool.{Bool, true, _&&_}
+use mathlib.Core.Bool.{true}
 use mathlib.Core.List.{List, [], _∷_}
 use Prim.Native.Nat.{ℕ, zero, suc, _+_, _-_, _<_, _≤_}
 use native.Mathlib.Omega.{arith}
 use lib.IntN.{pos}
 use lib.ListN.{length}
-use lib.Ieee.{Float, nan, inf, fin, binary64, neg, add, sub, mul, div, le, eq, ofInt, toUnsigned}
+use lib.Ieee.{Float, nan, inf, fin, binary64, neg, add, sub, mul, div}
 use Rattle.calls.specs.declared.Refusal.the-variants.{ParameterNotFinite, WindowTooLong}
 use Rattle.calls.specs.declared.Answer.{Answer}
 use Rattle.calls.specs.declared.Answer.the-variants.{Cells}
 use Rattle.calls.specs.Accepted.{accepted, finite}
 use Rattle.calls.specs.Answer.{checked, andThen, unless}
-use Rattle.calls.specs.Line.{Line, plusZero, Same, Causal}
+use Rattle.calls.specs.Line.{Line, line, Causal}
+use Rattle.calls.specs.Written.{Writing}
+use Rattle.smoothers.specs.Period.{isPeriod}
 use Rattle.smoothers.specs.declared.Coefficients.{Coefficients}
 use Rattle.smoothers.specs.Coefficients.{power, a1Of, b1Of, ofPair, coefficients}
 
@@ -35,10 +37,6 @@ smooth c f (suc (suc zero)) = f 2
 smooth c f (suc (suc (suc zero))) = f 3
 smooth c f (suc (suc (suc (suc i)))) =
     formula c (f (suc (suc (suc (suc i))))) (f (suc (suc (suc i)))) (f (suc (suc i))) (smooth c f (suc (suc (suc i)))) (smooth c f (suc (suc i)))
-
--- the smoother of a period up to 512
-unfoldable pub ultimateLine : ℕ → Line → Line
-ultimateLine period = smooth (coefficients period)
 
 module _ (c : Coefficients) (f : Line) where
   -- the cells as the code finds them
@@ -78,23 +76,22 @@ causal-smooth c f g (suc (suc (suc (suc i)))) s =
       causal-smooth c f g (suc (suc i)) (λ j l. s j (omega arith)),
     )
 
-pub causal-ultimate : (period : ℕ) → Causal (ultimateLine period)
-unfolding ultimateLine
-causal-ultimate period = causal-smooth (coefficients period)
+-- ---- what the functions under `ultimate_smoother` ask of each other
+
+-- the smoother's line of s is written
+abbrev pub Smoothed : Coefficients → List Float → List Float → List Float → Type 0
+Smoothed c s old now = Writing (length s) (smooth c (line s)) old now
+
+-- the first four cells stand in `now`, which has room for the rest
+pub record Begun (c : Coefficients) (s now : List Float) : Type 0 where
+  pub some : 4 ≤ length s
+  pub room : length s ≤ length now
+  pub first : Writing 4 (smooth c (line s)) now now
 
 -- ---- the answer
 
--- the whole part of a number that is not below 0
-abbrev pub wholePart : Float → ℕ
-wholePart = toUnsigned 64
-
--- A period is a whole number from 0 to 512; -0.0 is the whole number 0.
-unfoldable pub isPeriod : Float → Bool
-isPeriod x = le plusZero x && le x (power 9) && eq (ofInt binary64 (pos (wholePart x))) x
-
 -- No period makes the answer empty; with no bars the count is 0.
 unfoldable pub smootherAnswer : List Float → Float → ℕ → Answer
-unfolding checked
 smootherAnswer s period output =
     andThen (checked accepted (s ∷ []) (output ∷ []) [])
     (unless (finite period) ParameterNotFinite
@@ -130,6 +127,6 @@ module _ (c : Coefficients) (x y z u : Float) where
   nan-third = rw (nan-factor, nan-last)
 
 -- period 0 gives NaN from bar 4 on
-pub period-0 : (f : Line) (i : ℕ) → 4 ≤ i → ultimateLine 0 f i ≡ nan
-unfolding ultimateLine coefficients ofPair a1Of b1Of formula add sub mul div neg
+pub period-0 : (f : Line) (i : ℕ) → 4 ≤ i → smooth (coefficients 0) f i ≡ nan
+unfolding coefficients ofPair a1Of b1Of formula add sub mul div neg
 period-0 f i h = sym (smooth-next (coefficients 0) f i h)

@@ -1,13 +1,13 @@
 // The ultimate smoother with its coefficients, and true range.
 mod table;
 ghost use mathlib.Core.Path.{_≡_};
-ghost use Prim.Native.Nat.{_<_, _≤_, min};
+ghost use Prim.Native.Nat.{_<_, _≤_};
 ghost use lib.ListN.{length};
-ghost use lib.Ieee.{toUnsigned};
 ghost use Rattle.calls.specs.Line.{line};
 ghost use Rattle.calls.specs.Written.{Writing};
 ghost use Rattle.smoothers.specs.Coefficients.{ofPair, coefficients};
-ghost use Rattle.smoothers.specs.Smoother.{formula, smooth, ultimateLine, isPeriod};
+ghost use Rattle.smoothers.specs.Smoother.{formula, Begun, Smoothed};
+ghost use Rattle.smoothers.specs.Period.{isPeriod};
 ghost use Rattle.smoothers.specs.Range.{larger, trueRange, trueRangeLine};
 
 // What the smoother's step needs of its period.
@@ -61,23 +61,22 @@ pub fn step(c: Coefficients, p0: f64, p1: f64, p2: f64, us1: f64, us2: f64) -> f
     (1.0 - c.c1) * p0 + (2.0 * c.c1 - c.c2) * p1 - (c.c1 + c.c3) * p2 + c.c2 * us1 + c.c3 * us2
 }
 
-// Copies the first bars, at most four.
-fn copy_first(price: &[f64], out: &mut [f64])
-    requires { ⌜ length (now price) ≤ length (now out) ⌝ }
-    ensures { λ _. ⌜ Writing (min 4 (length (now (price .entry)))) (line (now (price .entry))) (now (out .entry)) (now (out .exit)) ⌝ }
+// Copies the first n cells.
+fn copy(from: &[f64], n: usize, to: &mut [f64])
+    requires { ⌜ (n ≤ length (now from)) × (n ≤ length (now to)) ⌝ }
+    ensures { λ _. ⌜ Writing n (line (now (from .entry))) (now (to .entry)) (now (to .exit)) ⌝ }
 {
     let mut i = 0;
-    while i < 4 && i < price.len() {
-        out[i] = price[i];
+    while i < n {
+        to[i] = from[i];
         i += 1;
     }
 }
 
 // Writes the cells from bar 4 on, where the first four stand.
 fn write_steps(price: &[f64], c: Coefficients, out: &mut [f64])
-    requires { ⌜ length (now price) ≤ length (now out) ⌝ }
-    requires { ⌜ Writing (min 4 (length (now price))) (smooth c (line (now price))) (now out) (now out) ⌝ }
-    ensures { λ _. ⌜ Writing (length (now (price .entry))) (smooth c (line (now (price .entry)))) (now (out .entry)) (now (out .exit)) ⌝ }
+    requires { ⌜ Begun c (now price) (now out) ⌝ }
+    ensures { λ _. ⌜ Smoothed c (now (price .entry)) (now (out .entry)) (now (out .exit)) ⌝ }
 {
     let mut i = 4;
     while i < price.len() {
@@ -89,11 +88,14 @@ fn write_steps(price: &[f64], c: Coefficients, out: &mut [f64])
 // Writes the smoother's line of any series.
 pub fn write_smooth(price: &[f64], period: usize, out: &mut [f64])
     requires { ⌜ (period ≤ 512) × (length (now price) ≤ length (now out)) ⌝ }
-    ensures { λ _. ⌜ Writing (length (now (price .entry))) (ultimateLine period (line (now (price .entry)))) (now (out .entry)) (now (out .exit)) ⌝ }
+    ensures { λ _. ⌜ Smoothed (coefficients period) (now (price .entry)) (now (out .entry)) (now (out .exit)) ⌝ }
 {
-    copy_first(price, out);
-    let c = Coefficients::of_period(period);
-    write_steps(price, c, out);
+    if price.len() <= 4 {
+        copy(price, price.len(), out);
+    } else {
+        copy(price, 4, out);
+        write_steps(price, Coefficients::of_period(period), out);
+    }
 }
 
 // Whether x is whole from 0 to 512.

@@ -2,6 +2,8 @@ use mathlib.Core.Path.{_≡_, refl, sym, ap, _∙_, subst}
 use Prim.Native.Nat.{ℕ, _+_, _-_, _*_, _≤_, _<_}
 use native.Mathlib.Omega.{arith}
 use lib.ListN.{length, length-set}
+use lib.Ieee.{ofBits}
+use Rattle.smoothers.specs.Smoother.{formula}
 use borrow.Author.Needs.{needs}
 use Rattle.smoothers.proofs.step.Statement.{statement}
 use Rattle.smoothers.proofs.step.Tie as tie
@@ -10,7 +12,8 @@ use Rattle.smoothers.proofs.step.Lts as lts
 
 -- src/lib.rt:58:1
 returns : tie.Need-returns
-returns c = search needs
+unfolding formula ofBits
+returns c = refl
 
 pub step-spec : {M : Type 1} → statement M
 step-spec = tie.close (tie.spec returns)

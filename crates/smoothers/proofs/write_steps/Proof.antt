@@ -1,7 +1,11 @@
 use mathlib.Core.Path.{_≡_, refl, sym, ap, _∙_, subst}
 use Prim.Native.Nat.{ℕ, _+_, _-_, _*_, _≤_, _<_}
 use native.Mathlib.Omega.{arith}
+use lib.Ieee.{nan}
 use lib.ListN.{length, length-set}
+use Rattle.calls.specs.Line.{line}
+use Rattle.calls.specs.Written.{Writing, none-written, one-more, ends, read-back}
+use Rattle.smoothers.specs.Smoother.{smooth, smooth-next}
 use borrow.Author.Needs.{needs}
 use Rattle.smoothers.proofs.write_steps.Statement.{statement}
 use Rattle.smoothers.proofs.write_steps.Tie as tie
@@ -10,14 +14,14 @@ use Rattle.smoothers.proofs.write_steps.Lts as lts
 use Rattle.smoothers.proofs.step.Reads as step-reads
 
 abbrev Inv-loop : tie.InvT-loop
-Inv-loop price c out₀ i₀ out i = ?
+Inv-loop price c out₀ i₀ out i = (4 ≤ i) × (i ≤ length price) × Writing i (smooth c (line price)) out₀ out
 
 abbrev μ-loop : tie.MeasureT-loop
-μ-loop price c out₀ i₀ out i = ?
+μ-loop price c out₀ i₀ out i = length price - i
 
 -- src/lib.rt:83:5
 loop-holds : tie.Need-loop-holds Inv-loop μ-loop
-loop-holds c = search needs
+loop-holds c = (search needs, search needs, c .before .before .pre .first)
 
 -- src/lib.rt:84:26
 mul-step : tie.Need-mul-step Inv-loop μ-loop
@@ -97,7 +101,11 @@ loop-less c = search needs
 
 -- src/lib.rt:83:5
 loop-again : tie.Need-loop-again Inv-loop μ-loop
-loop-again c = search needs
+loop-again c =
+    let at = c .before .before .before .before .before .before .before .loop in
+    let last = read-back (at .i - 1) nan (at .inv .2) (omega arith) in
+    let before-last = read-back (at .i - 2) nan (at .inv .2) (omega arith) in
+    (omega arith, omega arith, one-more (at .inv .2) (rw (c .step .ensures, last, before-last) (smooth-next _ _ (at .i) (at .inv .0))) (omega arith))
 
 -- src/lib.rt:77:1
 same-length : tie.Need-same-length Inv-loop μ-loop
@@ -105,7 +113,7 @@ same-length c = search needs
 
 -- src/lib.rt:77:1
 returns : tie.Need-returns Inv-loop μ-loop
-returns c = search needs
+returns c = ends (c .before .loop .inv .2) (omega arith)
 
 pub write-steps-spec : {M : Type 1} → statement M
 write-steps-spec =

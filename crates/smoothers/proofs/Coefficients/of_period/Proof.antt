@@ -2,6 +2,9 @@ use mathlib.Core.Path.{_≡_, refl, sym, ap, _∙_, subst}
 use Prim.Native.Nat.{ℕ, _+_, _-_, _*_, _≤_, _<_}
 use native.Mathlib.Omega.{arith}
 use lib.ListN.{length, length-set}
+use lib.Ieee.{ofBits, neg, add, sub, mul, div}
+use Rattle.smoothers.specs.Coefficients.{a1Table, b1Table, a1Of, b1Of, ofPair, coefficients, at-index}
+use Rattle.smoothers.specs.Recorded.{a1Bits, b1Bits}
 use borrow.Author.Needs.{needs}
 use Rattle.smoothers.proofs.Coefficients.of_period.Statement.{statement}
 use Rattle.smoothers.proofs.Coefficients.of_period.Tie as tie
@@ -11,7 +14,8 @@ use Rattle.smoothers.proofs.Coefficients.of_pair.Reads as of-pair-reads
 
 -- src/lib.rt:47:13
 returns : tie.Need-returns
-returns c = search needs
+unfolding coefficients ofPair a1Of b1Of ofBits add sub mul div neg
+returns c = rw (c .before .before .if1 .taken)
 
 -- src/lib.rt:53:41
 sub-of-pair : tie.Need-sub-of-pair
@@ -43,7 +47,8 @@ of-pair-requires c κs = search needs
 
 -- src/lib.rt:41:5
 returns-2 : tie.Need-returns-2
-returns-2 c = search needs
+unfolding a1Table a1Bits b1Table b1Bits
+returns-2 c = c .of-pair .ensures ∙ at-index (c .before .before .args .period) (omega arith)
 
 pub of-period-spec : {M : Type 1} → statement M
 of-period-spec =
