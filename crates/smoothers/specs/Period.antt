@@ -71,3 +71,12 @@ cut (fin true m e) h l =
       below = lt→ltb 0 (n * 1 + 1 * 2 ^ 64 * d) (omega arith);
       small = zero-le
     }
+
+both : (p q r : Bool) → p && q && r ≡ true → (p ≡ true) × (q ≡ true)
+both true true r h = (refl, refl)
+both true false r h = absurd (true≢false (sym h))
+both false q r h = absurd (true≢false (sym h))
+
+pub cut-period : (x : Float) → isPeriod x ≡ true → Cut x
+unfolding isPeriod
+cut-period x h = let parts = both _ _ _ h in cut x (parts .0) (parts .1)

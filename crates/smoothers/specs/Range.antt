@@ -1,12 +1,13 @@
 -- Wilder's true range: what `true_range` writes. Assumes nothing.
 use mathlib.Core.Path.{_≡_, refl}
 use mathlib.Core.Bool.{cond}
-use mathlib.Core.List.{List, [], _∷_}
+use mathlib.Core.List.{List}
 use Prim.Native.Nat.{ℕ, zero, suc, _<_}
 use native.Mathlib.Nat.{not-suc-le-zero, le-refl}
 use lib.Ieee.{Float, binary64, sub, lt}
 use Rattle.rounding.specs.Leaves.{magnitudeOf}
-use Rattle.calls.specs.Line.{Line, Same}
+use Rattle.calls.specs.Line.{Line, line, Same}
+use Rattle.calls.specs.Written.{Writing}
 
 -- the larger of two, the first of equals
 abbrev pub larger : Float → Float → Float
@@ -32,3 +33,9 @@ pub causal-range : (h h′ l l′ c c′ : Line) (b : ℕ) → Same h h′ b →
 unfolding trueRangeLine
 causal-range h h′ l l′ c c′ zero p q r = rw (p 0 (le-refl 0), q 0 (le-refl 0))
 causal-range h h′ l l′ c c′ (suc i) p q r = rw (p (suc i) (le-refl (suc i)), q (suc i) (le-refl (suc i)), r (suc i) (le-refl (suc i)))
+
+-- ---- what the functions under `true_range` ask of each other
+
+-- the true ranges before bar k are written
+abbrev pub Ranging : ℕ → List Float → List Float → List Float → List Float → List Float → Type 0
+Ranging k high low before old now = Writing k (trueRangeLine (line high) (line low) (line before)) old now

@@ -13,7 +13,7 @@ use Rattle.calls.specs.declared.Answer.the-variants.{Cells}
 use Rattle.calls.specs.Accepted.{accepted, finite}
 use Rattle.calls.specs.Answer.{checked, andThen, unless}
 use Rattle.calls.specs.Line.{Line, line, Causal}
-use Rattle.calls.specs.Written.{Writing}
+use Rattle.calls.specs.Written.{Writing, writing-same}
 use Rattle.smoothers.specs.Period.{isPeriod}
 use Rattle.smoothers.specs.declared.Coefficients.{Coefficients}
 use Rattle.smoothers.specs.Coefficients.{power, a1Of, b1Of, ofPair, coefficients}
@@ -87,6 +87,10 @@ pub record Begun (c : Coefficients) (s now : List Float) : Type 0 where
   pub some : 4 ≤ length s
   pub room : length s ≤ length now
   pub first : Writing 4 (smooth c (line s)) now now
+
+-- the first cells, copied
+pub copied : {n : ℕ} {f : Line} {old now : List Float} (c : Coefficients) → Writing n f old now → n ≤ 4 → Writing n (smooth c f) old now
+copied {f = f} c w h = writing-same w (λ i l. smooth-first c f i (omega arith))
 
 -- ---- the answer
 

@@ -2,6 +2,9 @@ use mathlib.Core.Path.{_≡_, refl, sym, ap, _∙_, subst}
 use Prim.Native.Nat.{ℕ, _+_, _-_, _*_, _≤_, _<_}
 use native.Mathlib.Omega.{arith}
 use lib.ListN.{length, length-set}
+use Rattle.calls.specs.Line.{line}
+use Rattle.calls.specs.Written.{Writing, stands, then-written}
+use Rattle.smoothers.specs.Smoother.{copied}
 use borrow.Author.Needs.{needs}
 use Rattle.smoothers.proofs.write_smooth.Statement.{statement}
 use Rattle.smoothers.proofs.write_smooth.Tie as tie
@@ -25,7 +28,7 @@ of-period-requires c κs = search needs
 
 -- src/lib.rt:97:9
 write-steps-requires : tie.Need-write-steps-requires
-write-steps-requires c κs = search needs
+write-steps-requires c κs = search (needs, stands, copied)
 
 -- src/lib.rt:89:1
 same-length : tie.Need-same-length
@@ -33,7 +36,7 @@ same-length c = search needs
 
 -- src/lib.rt:89:1
 returns : tie.Need-returns
-returns c = search needs
+returns c = copied _ (c .before .before .copy .ensures) (omega arith)
 
 -- src/lib.rt:89:1
 same-length-2 : tie.Need-same-length-2
@@ -41,7 +44,11 @@ same-length-2 c = search needs
 
 -- src/lib.rt:89:1
 returns-2 : tie.Need-returns-2
-returns-2 c = search needs
+returns-2 c =
+    let at-steps = c .before .before in
+    let at-period = at-steps .before .before in
+    let at-copy = at-period .before .before .before in
+    then-written (at-copy .copy2 .ensures) (rw (← at-period .of-period .ensures) (at-steps .write-steps .ensures)) (omega arith)
 
 pub write-smooth-spec : {M : Type 1} → statement M
 write-smooth-spec =
