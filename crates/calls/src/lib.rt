@@ -5,7 +5,7 @@ ghost use Prim.Native.Nat.{_*_, _≤_, min};
 ghost use lib.Dec.{leb};
 ghost use lib.ListN.{length};
 ghost use Rattle.calls.specs.Accepted.{accepted, tick, finite, all};
-ghost use Rattle.calls.specs.Answer.{unless, andThen, slices, checked, windowed, answered};
+ghost use Rattle.calls.specs.Answer.{number, refusalOf, countOf, unless, andThen, slices, checked, windowed, answered};
 ghost use Rattle.calls.specs.Line.{plusZero, Led};
 ghost use Rattle.calls.specs.Written.{Writing};
 ghost use Rattle.calls.specs.declared.Answer.the-variants.{Cells};
@@ -28,6 +28,43 @@ pub enum Answer {
     Refused(Refusal),
 }
 
+// Document 01's number of a refusal.
+pub fn number_of(reason: Refusal) -> u64
+    ensures { λ r. ⌜ r ≡ number reason ⌝ }
+{
+    match reason {
+        Refusal::SeriesTooLong => 1,
+        Refusal::LengthsDiffer => 2,
+        Refusal::OutputTooShort => 3,
+        Refusal::WorkTooShort => 4,
+        Refusal::ValueNotAccepted => 5,
+        Refusal::ParameterNotFinite => 6,
+        Refusal::WindowTooLong => 7,
+        Refusal::SeriesTooShort => 8,
+        Refusal::WindowsOutOfOrder => 9,
+    }
+}
+
+// The number of an answer's refusal, 0 where there is none.
+pub fn refusal_of(answer: Answer) -> u64
+    ensures { λ r. ⌜ r ≡ refusalOf answer ⌝ }
+{
+    match answer {
+        Answer::Cells(_) => 0,
+        Answer::Refused(reason) => number_of(reason),
+    }
+}
+
+// How many cells of each output were written.
+pub fn count_of(answer: Answer) -> usize
+    ensures { λ r. ⌜ r ≡ countOf answer ⌝ }
+{
+    match answer {
+        Answer::Cells(count) => count,
+        Answer::Refused(_) => 0,
+    }
+}
+
 // Whether a series may hold x.
 pub fn is_accepted(x: f64) -> bool
     ensures { λ r. ⌜ r ≡ accepted x ⌝ }
@@ -35,6 +72,23 @@ pub fn is_accepted(x: f64) -> bool
     if x >= -1073741824.0 {
         if x <= 1073741824.0 {
             return f64::to_bits(x) != 0x8000_0000_0000_0000;
+        }
+    }
+    false
+}
+
+// Whether x is a whole tick.
+pub fn is_tick(x: f64) -> bool
+    ensures { λ r. ⌜ r ≡ tick x ⌝ }
+{
+    let size = rounding::magnitude(x);
+    if size <= 16777216.0 {
+        let whole = std::num::truncating_f64_to_u64(size);
+        if (whole as f64) == size {
+            if x == 0.0 {
+                return rounding::sign(x) > 0.0;
+            }
+            return true;
         }
     }
     false
@@ -55,6 +109,21 @@ pub fn all_accepted(s: &[f64]) -> bool
     let mut i = 0;
     while i < s.len() {
         if is_accepted(s[i]) {
+            i += 1;
+        } else {
+            return false;
+        }
+    }
+    true
+}
+
+// Whether every number of s is a whole tick.
+pub fn all_ticks(s: &[f64]) -> bool
+    ensures { λ r. ⌜ r ≡ all tick (now (s .entry)) ⌝ }
+{
+    let mut i = 0;
+    while i < s.len() {
+        if is_tick(s[i]) {
             i += 1;
         } else {
             return false;
@@ -136,6 +205,20 @@ fn check_values(due: Answer, series: &[f64]) -> Answer
     }
 }
 
+// The same for whole ticks.
+fn check_tick_values(due: Answer, series: &[f64]) -> Answer
+    ensures { λ r. ⌜ r ≡ andThen due (unless (all tick (now (series .entry))) ValueNotAccepted (Cells (length (now (series .entry))))) ⌝ }
+{
+    if let Answer::Refused(_) = due {
+        return due;
+    }
+    if all_ticks(series) {
+        Answer::Cells(series.len())
+    } else {
+        Answer::Refused(Refusal::ValueNotAccepted)
+    }
+}
+
 // The first refusal of a call with one series, its output and no work slice, before its parameters; else the series' length.
 pub fn check(series: &[f64], out: usize) -> Answer
     ensures { λ r. ⌜ r ≡ checked accepted (now (series .entry) ∷ []) (out ∷ []) [] ⌝ }
@@ -153,6 +236,14 @@ pub fn check_with_work(series: &[f64], out: usize, work: usize) -> Answer
     let room = check_work(bars, work);
     let due = and_then(lengths, room);
     check_values(due, series)
+}
+
+// The same for whole ticks and no work slice.
+pub fn check_ticks(series: &[f64], out: usize) -> Answer
+    ensures { λ r. ⌜ r ≡ checked tick (now (series .entry) ∷ []) (out ∷ []) [] ⌝ }
+{
+    let due = check_lengths(series.len(), out);
+    check_tick_values(due, series)
 }
 
 // The same with three series and no work slice.
@@ -192,6 +283,15 @@ pub fn answer_window_with_work(series: &[f64], n: usize, out: usize, work: usize
     ensures { λ r. ⌜ r ≡ answered accepted (now (series .entry)) (n ∷ []) out (work ∷ []) ⌝ }
 {
     let due = check_with_work(series, out, work);
+    let next = check_window(series.len(), n);
+    and_then(due, next)
+}
+
+// The answer of a call with one series of whole ticks, one window, its output and no work slice.
+pub fn answer_tick_window(series: &[f64], n: usize, out: usize) -> Answer
+    ensures { λ r. ⌜ r ≡ answered tick (now (series .entry)) (n ∷ []) out [] ⌝ }
+{
+    let due = check_ticks(series, out);
     let next = check_window(series.len(), n);
     and_then(due, next)
 }
