@@ -209,6 +209,7 @@ checked-three-room ok s t u out k e =
     let c = unless-cells (leb (length u) 65536) _ _ _ (b .1) in
     let second = unless-cells (eqb (length t) (length s)) _ _ _ (c .1) in
     let third = unless-cells (eqb (length u) (length s)) _ _ _ (second .1) in
-    let room = unless-cells (leb (length s) out) _ _ _ (third .1) in
-    (record { second = eqb-true _ _ (second .0); third = eqb-true _ _ (third .0); out-long = leb-true _ _ (room .0) },
-    unless-cells (all ok s) _ _ k (one .1) .1)
+    let room = unless-cells (leb (length s) out) _ _ _ (third .1) in (
+      record { second = eqb-true _ _ (second .0); third = eqb-true _ _ (third .0); out-long = leb-true _ _ (room .0) },
+      unless-cells (all ok s) _ _ k (one .1) .1,
+    )

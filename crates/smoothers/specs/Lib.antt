@@ -5,3 +5,4 @@ pub mod Bounds
 pub mod Period
 pub mod Smoother
 pub mod Range
+pub mod Cases

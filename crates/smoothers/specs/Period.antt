@@ -53,7 +53,7 @@ cut (fin false m e) h l =
     record {
       above = lt→ltb 0 (1 * d + n * 1) (omega arith);
       below = lt→ltb (n * 1) (1 * 2 ^ 64 * d) (omega arith);
-      small = capped (n / d) part
+      small = capped (n / d) part;
     }
   where
     wider : (n d : ℕ) → 0 < d → n * 1 ≤ 1 * 2 ^ 9 * d → n < 513 * d
@@ -69,7 +69,7 @@ cut (fin true m e) h l =
     record {
       above = lt→ltb (n * 1) (1 * 1 * d) (omega arith);
       below = lt→ltb 0 (n * 1 + 1 * 2 ^ 64 * d) (omega arith);
-      small = zero-le
+      small = zero-le;
     }
 
 both : (p q r : Bool) → p && q && r ≡ true → (p ≡ true) × (q ≡ true)

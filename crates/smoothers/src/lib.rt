@@ -1,5 +1,6 @@
 // The ultimate smoother with its coefficients, and true range.
 mod table;
+
 use calls::Answer;
 use calls::Refusal;
 ghost use mathlib.Core.Path.{_≡_};
@@ -87,7 +88,14 @@ fn write_steps(price: &[f64], c: Coefficients, out: &mut [f64])
 {
     let mut i = 4;
     while i < price.len() {
-        out[i] = step(c, price[i], price[i - 1], price[i - 2], out[i - 1], out[i - 2]);
+        out[i] = step(
+            c,
+            price[i],
+            price[i - 1],
+            price[i - 2],
+            out[i - 1],
+            out[i - 2],
+        );
         i += 1;
     }
 }
