@@ -1,6 +1,6 @@
-// The smoother's two numbers for the periods 1 to 512, recorded once by running the source's two formulas.
+// The coefficients a1 and b1 of periods 1 to 512, recorded by tools/smoother_table.
 
-// exp(-1.414 * PI / period)
+// a1 of period i + 1.
 pub const A1: [f64; 512] = [
     0.011769874597603045,
     0.10848905289292116,
@@ -516,7 +516,7 @@ pub const A1: [f64; 512] = [
     0.9913613342300966,
 ];
 
-// 2.0 * a1 * cos(to_radians(1.414 * 180.0 / period))
+// b1 of period i + 1.
 pub const B1: [f64; 512] = [
     -0.00628280588830322,
     -0.13136568542394497,
