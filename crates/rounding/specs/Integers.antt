@@ -1,0 +1,115 @@
+-- Integers as differences of natural numbers: z is `above z` - `below z`, one of which is 0. What is linear in the parts is then
+-- plain arithmetic. Beside them the sum of a run of integers. Assumes nothing.
+use mathlib.Core.Path.{_≡_, refl, sym, ap, _∙_}
+use mathlib.Core.Bool.{Bool, true, false, not, cond}
+use Prim.Native.Nat.{ℕ, zero, suc, _+_, _-_, _*_, _≤_, _<_, zero-le}
+use native.Mathlib.Nat.{le-refl, le-of-suc-le-suc, lt-of-not-le, not-le-of-lt, zero-mul, add-zero, zero-add}
+use native.Mathlib.Numerals.{add-one}
+use native.Mathlib.Omega.{arith}
+use lib.Dec.{T, ltb, ltb→lt, nltb→le}
+use lib.IntN.{ℤ, pos, negsuc, negℤ, natAbs, subℕ, _+ℤ_, _-ℤ_, _*ℤ_, +ℤ-assoc, +ℤ-comm, +ℤ-idl, +ℤ-invr}
+use lib.Signed.{ltZ}
+use borrow.Author.Tests.{lt-ltb, le-ltb}
+
+abbrev pub above : ℤ → ℕ
+above (pos n) = n
+above (negsuc n) = 0
+
+abbrev pub below : ℤ → ℕ
+below (pos n) = 0
+below (negsuc n) = suc n
+
+pub parts-abs : (z : ℤ) → above z + below z ≡ natAbs z
+parts-abs (pos n) = add-zero n
+parts-abs (negsuc n) = zero-add (suc n)
+
+pub parts-neg : (z : ℤ) → (above (negℤ z) ≡ below z) × (below (negℤ z) ≡ above z)
+parts-neg (pos zero) = (refl, refl)
+parts-neg (pos (suc n)) = (refl, refl)
+parts-neg (negsuc n) = (refl, refl)
+
+-- the parts of a - b
+parts-sub : (a b : ℕ) → above (subℕ a b) + b ≡ a + below (subℕ a b)
+parts-sub a b = go (ltb a b) (ltb→lt a b) (nltb→le a b)
+  where
+    go : (t : Bool) → (T t → a < b) → (T (not t) → b ≤ a)
+        → above (cond t (negsuc (b - suc a)) (pos (a - b))) + b ≡ a + below (cond t (negsuc (b - suc a)) (pos (a - b)))
+    go true h k = let l : a < b = h tt in omega arith
+    go false h k = let l : b ≤ a = k tt in omega arith
+
+pub parts-add : (a b : ℤ) → above (a +ℤ b) + (below a + below b) ≡ above a + above b + below (a +ℤ b)
+parts-add (pos a) (pos b) = omega arith
+parts-add (pos a) (negsuc b) = omega (arith, parts-sub a (suc b))
+parts-add (negsuc a) (pos b) = omega (arith, parts-sub b (suc a))
+parts-add (negsuc a) (negsuc b) = omega arith
+
+pub parts-minus : (a b : ℤ) → above (a -ℤ b) + (below a + above b) ≡ above a + below b + below (a -ℤ b)
+parts-minus a b = let n = parts-neg b in omega (arith, parts-add a (negℤ b))
+
+neg-zero : (n : ℕ) → above (negℤ (pos n)) ≡ 0
+neg-zero zero = refl
+neg-zero (suc n) = refl
+
+neg-size : (n : ℕ) → below (negℤ (pos n)) ≡ n
+neg-size zero = refl
+neg-size (suc n) = refl
+
+pub parts-times : (a : ℤ) (n : ℕ) → (above (a *ℤ pos n) ≡ above a * n) × (below (a *ℤ pos n) ≡ below a * n)
+parts-times (pos a) n = (refl, sym (zero-mul n))
+parts-times (negsuc a) n = (neg-zero (suc a * n) ∙ sym (zero-mul n), neg-size (suc a * n))
+
+-- ---- order and size
+
+pub ltb-same : (a b c d : ℕ) → (a < b → c < d) → (c < d → a < b) → ltb a b ≡ ltb c d
+ltb-same a b c d f g = go (ltb a b) (ltb→lt a b) (nltb→le a b)
+  where
+    go : (t : Bool) → (T t → a < b) → (T (not t) → b ≤ a) → t ≡ ltb c d
+    go true h k = sym (lt-ltb c d (f (h tt)))
+    go false h k = sym (le-ltb c d (le-of-suc-le-suc (lt-of-not-le (λ (l : c < d). not-le-of-lt (g l) (k tt)))))
+
+pub parts-lt : (a b : ℤ) → ltZ a b ≡ ltb (above a + below b) (above b + below a)
+parts-lt (pos a) (pos b) = simp add-zero
+parts-lt (pos a) (negsuc b) = sym (le-ltb (a + suc b) 0 zero-le)
+parts-lt (negsuc a) (pos b) = sym (lt-ltb 0 (b + suc a) (omega arith))
+parts-lt (negsuc a) (negsuc b) = ltb-same b a (0 + suc b) (0 + suc a) (λ h. omega arith) (λ h. omega arith)
+
+abs-sub : (a b : ℕ) → natAbs (subℕ a b) ≤ a + b
+abs-sub a b = go (ltb a b) (ltb→lt a b)
+  where
+    go : (t : Bool) → (T t → a < b) → natAbs (cond t (negsuc (b - suc a)) (pos (a - b))) ≤ a + b
+    go true h = let l : a < b = h tt in omega arith
+    go false h = omega arith
+
+pub abs-add : (a b : ℤ) → natAbs (a +ℤ b) ≤ natAbs a + natAbs b
+abs-add (pos a) (pos b) = le-refl (a + b)
+abs-add (pos a) (negsuc b) = abs-sub a (suc b)
+abs-add (negsuc a) (pos b) = let h = abs-sub b (suc a) in omega arith
+abs-add (negsuc a) (negsuc b) = omega arith
+
+-- ---- runs
+
+regroup : (x y z w : ℤ) → x +ℤ (y -ℤ z) +ℤ w ≡ x +ℤ y +ℤ (w -ℤ z)
+regroup x y z w = simp (+ℤ-assoc, +ℤ-comm)
+
+-- t a + t (a + 1) + .. + t (a + k - 1)
+unfoldable pub total : (ℕ → ℤ) → ℕ → ℕ → ℤ
+total t a zero = pos 0
+total t a (suc k) = total t a k +ℤ t (a + k)
+
+-- a run of numbers of magnitude at most b
+pub total-size : (t : ℕ → ℤ) (a k b : ℕ) → ((j : ℕ) → j < k → natAbs (t (a + j)) ≤ b) → natAbs (total t a k) ≤ k * b
+unfolding total
+total-size t a zero b h = zero-le
+total-size t a (suc k) b h =
+    let r = total-size t a k b (λ j l. h j (omega arith)) in
+    let l = h k (le-refl (suc k)) in
+    let s = abs-add (total t a k) (t (a + k)) in
+    omega arith
+
+-- the window moves on by one: the new number comes in and the old one leaves
+pub total-slides : (t : ℕ → ℤ) (a k : ℕ) → total t (a + 1) k ≡ total t a k +ℤ (t (a + k) -ℤ t a)
+unfolding total
+total-slides t a zero = rw (add-zero, +ℤ-invr, +ℤ-idl)
+total-slides t a (suc k) =
+    let next : a + 1 + k ≡ a + suc k = omega arith in
+    rw (total-slides t a k, next) (regroup (total t a k) (t (a + k)) (t a) (t (a + suc k)))
