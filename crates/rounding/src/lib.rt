@@ -1,1 +1,42 @@
 // The leaves: numbers taken apart and rounded, each equal to one definition for every f64.
+ghost use mathlib.Core.Path.{_≡_};
+ghost use lib.Ieee.{isNan};
+ghost use Rattle.rounding.specs.Leaves.{negative, magnitudeOf, signOf};
+
+// Whether x is no number.
+pub fn is_nan(x: f64) -> bool
+    ensures { λ r. ⌜ r ≡ isNan x ⌝ }
+{
+    x != x
+}
+
+// Whether x is -0.0 or below.
+fn is_negative(x: f64) -> bool
+    ensures { λ r. ⌜ r ≡ negative x ⌝ }
+{
+    if x != x {
+        false
+    } else {
+        f64::to_bits(x) >= 0x8000_0000_0000_0000
+    }
+}
+
+// x without its sign.
+pub fn magnitude(x: f64) -> f64
+    ensures { λ r. ⌜ r ≡ magnitudeOf x ⌝ }
+{
+    if is_negative(x) { -x } else { x }
+}
+
+// 1.0 with the sign of x, and NaN for NaN.
+pub fn sign(x: f64) -> f64
+    ensures { λ r. ⌜ r ≡ signOf x ⌝ }
+{
+    if is_nan(x) {
+        x
+    } else if is_negative(x) {
+        -1.0
+    } else {
+        1.0
+    }
+}

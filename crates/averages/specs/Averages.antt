@@ -1,0 +1,100 @@
+-- What each average answers and writes. Assumes nothing.
+use mathlib.Core.Path.{_≡_, refl, ap}
+use mathlib.Core.Bool.{false}
+use mathlib.Core.List.{List, [], _∷_}
+use Prim.Native.Nat.{ℕ, zero, suc, _+_, _-_, _*_, _/_, _<_}
+use native.Mathlib.Omega.{arith}
+use lib.IntN.{ℤ, pos, negsuc, negℤ, _+ℤ_}
+use lib.ListN.{length}
+use lib.Ieee.{Float, nan, fin, binary64, add, sub, mul, div, ofInt, toSigned}
+use Rattle.calls.specs.declared.Refusal.the-variants.{ParameterNotFinite}
+use Rattle.calls.specs.declared.Answer.{Answer}
+use Rattle.calls.specs.declared.Answer.the-variants.{Cells}
+use Rattle.calls.specs.Accepted.{accepted, finite}
+use Rattle.calls.specs.Answer.{checked, andThen, unless}
+use Rattle.calls.specs.Line.{Line, minusZero, fromBar, Causal, causal-from}
+use Rattle.calls.specs.Recur.{recur, recur-same}
+use Rattle.averages.specs.Window.{sumFrom, sumFrom-same, over, runningSum, runningSum-same}
+
+-- ---- sma: TA-Lib's SMA, with the difference of the new price and the old one added to the running sum in one step
+
+abbrev pub addDifference : Float → Float → Float → Float
+addDifference sum new old = add binary64 sum (sub binary64 new old)
+
+-- the running sum divided by n, and NaN before bar n - 1
+unfoldable pub smaLine : ℕ → Line → Line
+smaLine n f = fromBar (n - 1) nan (λ i. over n (runningSum addDifference n f (i + 1 - n)))
+
+-- no look-ahead
+pub causal-sma : (n : ℕ) → 0 < n → Causal (smaLine n)
+unfolding smaLine
+causal-sma n p = causal-from (n - 1) nan (λ f g b s l. ap (over n) (runningSum-same addDifference n f g b (b + 1 - n) p (omega arith) s))
+
+-- ---- ema and exponential_smoothing
+
+abbrev pub one : Float
+one = fin false 1 (pos 0)
+
+abbrev pub two : Float
+two = fin false 1 (pos 1)
+
+-- alpha · x + (1 - alpha) · last
+abbrev pub blend : Float → Float → Float → Float
+blend alpha last x = add binary64 (mul binary64 alpha x) (mul binary64 (sub binary64 one alpha) last)
+
+-- 2 / (n + 1)
+abbrev pub emaAlpha : ℕ → Float
+emaAlpha n = div binary64 two (ofInt binary64 (pos (n + 1)))
+
+-- k bars after bar n - 1, where the mean of the first n is the seed: TA-Lib's EMA
+unfoldable pub emaFrom : ℕ → Line → ℕ → Float
+emaFrom n f = recur (over n (sumFrom minusZero f 0 n)) (λ k last. blend (emaAlpha n) last (f (n + k)))
+
+-- NaN before bar n - 1
+unfoldable pub emaLine : ℕ → Line → Line
+emaLine n f = fromBar (n - 1) nan (λ i. emaFrom n f (i + 1 - n))
+
+-- the first cell is the first value
+unfoldable pub exponentialLine : Float → Line → Line
+exponentialLine alpha f = recur (f 0) (λ k last. blend alpha last (f (k + 1)))
+
+-- refusals 1 to 5, then 6 for alpha; no bars give the empty answer
+unfoldable pub exponentialAnswer : List Float → Float → ℕ → Answer
+exponentialAnswer s alpha output = andThen (checked accepted (s ∷ []) (output ∷ []) []) (unless (finite alpha) ParameterNotFinite (Cells (length s)))
+
+pub causal-ema : (n : ℕ) → 0 < n → Causal (emaLine n)
+unfolding emaLine emaFrom
+causal-ema n p =
+    causal-from (n - 1) nan
+    (λ f g b s l. recur-same _ _ _ _ (b + 1 - n) (ap (over n) (sumFrom-same minusZero f g 0 n (λ j m. s j (omega arith))))
+      (λ j x m. rw (s (n + j) (omega arith))))
+
+pub causal-exponential : (alpha : Float) → Causal (exponentialLine alpha)
+unfolding exponentialLine
+causal-exponential alpha f g b s = recur-same _ _ _ _ b (s 0 (omega arith)) (λ j x m. rw (s (j + 1) (omega arith)))
+
+-- ---- tick_mean, our own: on whole numbers
+
+-- the whole ticks f a + .. + f (a + k - 1)
+unfoldable pub tickSum : Line → ℕ → ℕ → ℤ
+tickSum f a zero = pos 0
+tickSum f a (suc k) = tickSum f a k +ℤ toSigned 63 (f (a + k))
+
+-- z / n to a whole tick, half away from zero
+unfoldable pub toTick : ℤ → ℕ → ℤ
+toTick (pos a) n = pos ((2 * a + n) / (2 * n))
+toTick (negsuc a) n = negℤ (pos ((2 * suc a + n) / (2 * n)))
+
+-- the window's sum over n, and 0 before bar n - 1
+unfoldable pub tickMeanLine : ℕ → Line → ℕ → ℤ
+tickMeanLine n f = fromBar (n - 1) (pos 0) (λ i. toTick (tickSum f (i + 1 - n) n) n)
+
+tickSum-same : (f g : Line) (a k : ℕ) → ((j : ℕ) → j < a + k → f j ≡ g j) → tickSum f a k ≡ tickSum g a k
+unfolding tickSum
+tickSum-same f g a zero h = refl
+tickSum-same f g a (suc k) h = rw (tickSum-same f g a k (λ j l. h j (omega arith)), h (a + k) (omega arith))
+
+pub causal-tick-mean : (n : ℕ) → Causal (tickMeanLine n)
+unfolding tickMeanLine
+causal-tick-mean n =
+    causal-from (n - 1) (pos 0) (λ f g b s l. ap (λ (z : ℤ). toTick z n) (tickSum-same f g (b + 1 - n) n (λ j m. s j (omega arith))))

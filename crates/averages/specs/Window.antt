@@ -1,0 +1,80 @@
+-- Sums and means of the last n cells, and running sums. Every operation is rounded once. Assumes nothing.
+use mathlib.Core.Path.{_≡_, refl, ap}
+use Prim.Native.Nat.{ℕ, zero, suc, _+_, _-_, _^_, _<_, _≤_}
+use native.Mathlib.Numerals.{add-one}
+use native.Mathlib.Omega.{arith}
+use lib.Dec.{T, le→leb}
+use lib.IntN.{pos}
+use lib.Ieee.{Float, binary64, add, sub, div, ofInt, inFloat}
+use Rattle.calls.specs.Line.{Line, plusZero, minusZero, fromBar, from-bar, Same, Causal, causal-from}
+use Rattle.calls.specs.Recur.{recur, recur-same}
+
+-- z + f a + f (a + 1) + .. + f (a + k - 1), from left to right
+unfoldable pub sumFrom : Float → Line → ℕ → ℕ → Float
+sumFrom z f a zero = z
+sumFrom z f a (suc k) = add binary64 (sumFrom z f a k) (f (a + k))
+
+-- the last n cells up to bar i, summed afresh from -0.0, as Rust's `sum` does
+unfoldable pub windowSum : ℕ → Line → Line
+windowSum n f i = sumFrom minusZero f (i + 1 - n) n
+
+-- divided by the window's length
+abbrev pub over : ℕ → Float → Float
+over n x = div binary64 x (ofInt binary64 (pos n))
+
+-- the mean of the last n cells, and 0.0 before bar n - 1
+unfoldable pub mean : ℕ → Line → Line
+mean n f = fromBar (n - 1) plusZero (λ i. over n (windowSum n f i))
+
+-- A running sum of n cells, k bars after bar n - 1: there the first n cells are summed afresh, and then `slide` makes the next sum
+-- of the present one, the cell that comes in and the cell that goes out.
+unfoldable pub runningSum : (Float → Float → Float → Float) → ℕ → Line → ℕ → Float
+runningSum slide n f = recur (sumFrom minusZero f 0 n) (λ k sum. slide sum (f (n + k)) (f k))
+
+-- ---- loops that sum
+
+-- x is such a sum of k cells: what the loops that sum keep
+pub record Summing (z : Float) (f : Line) (a k : ℕ) (x : Float) : Type 0 where
+  pub is : x ≡ sumFrom z f a k
+
+pub none-summed : {z : Float} {f : Line} {a : ℕ} → Summing z f a 0 z
+unfolding sumFrom
+none-summed = record { is = refl }
+
+pub one-added : {z : Float} {f : Line} {a k : ℕ} {x : Float} → Summing z f a k x → Summing z f a (k + 1) (add binary64 x (f (a + k)))
+unfolding sumFrom
+one-added s = record { is = rw (add-one, s .is) }
+
+-- the mean at bar i, from the sum of its window, which starts at bar a
+pub mean-at : (n i : ℕ) {f : Line} {a k : ℕ} {x : Float} → Summing minusZero f a k x
+    → (k ≡ n) × (a + n ≡ i + 1) → over n x ≡ mean n f i
+unfolding mean windowSum
+mean-at n i {f} {a} s (p, q) =
+    let start : i + 1 - n ≡ a = omega arith in
+    rw (s .is, p, from-bar (n - 1) plusZero _ i (omega arith), start)
+
+-- a window's length is a float
+pub count-is-float : (n : ℕ) → n ≤ 4097 → T (inFloat binary64 (pos n))
+unfolding inFloat
+count-is-float n h = le→leb n (2 ^ 53) (omega arith)
+
+-- ---- no look-ahead
+
+pub sumFrom-same : (z : Float) (f g : Line) (a k : ℕ) → ((j : ℕ) → j < a + k → f j ≡ g j) → sumFrom z f a k ≡ sumFrom z g a k
+unfolding sumFrom
+sumFrom-same z f g a zero h = refl
+sumFrom-same z f g a (suc k) h = rw (sumFrom-same z f g a k (λ j l. h j (omega arith)), h (a + k) (omega arith))
+
+pub causal-mean : (n : ℕ) → Causal (mean n)
+unfolding mean windowSum
+causal-mean n =
+    causal-from (n - 1) plusZero
+    (λ f g b s l. ap (over n) (sumFrom-same minusZero f g (b + 1 - n) n (λ i m. s i (omega arith))))
+
+-- the running sum at bar i, k bars after bar n - 1, needs nothing after it
+pub runningSum-same : (slide : Float → Float → Float → Float) (n : ℕ) (f g : Line) (i k : ℕ) → 0 < n → n + k ≤ i + 1 → Same f g i
+    → runningSum slide n f k ≡ runningSum slide n g k
+unfolding runningSum
+runningSum-same slide n f g i k p h s =
+    recur-same _ _ _ _ k (sumFrom-same minusZero f g 0 n (λ j l. s j (omega arith)))
+    (λ j x l. rw (s (n + j) (omega arith), s j (omega arith)))

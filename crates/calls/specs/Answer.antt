@@ -1,0 +1,88 @@
+-- What a call answers: document 01's numbers, and its table of refusals read from the top. Assumes nothing.
+use mathlib.Core.Bool.{Bool, true, false, _||_}
+use mathlib.Core.List.{List, [], _∷_}
+use Prim.Native.Nat.{ℕ, _*_}
+use lib.Dec.{leb, eqb}
+use lib.ListN.{length}
+use lib.Ieee.{Float}
+use Rattle.calls.specs.declared.Refusal.{Refusal}
+use Rattle.calls.specs.declared.Refusal.the-variants.{
+  SeriesTooLong, LengthsDiffer, OutputTooShort, WorkTooShort, ValueNotAccepted, ParameterNotFinite, WindowTooLong, SeriesTooShort, WindowsOutOfOrder,
+}
+use Rattle.calls.specs.declared.Answer.{Answer}
+use Rattle.calls.specs.declared.Answer.the-variants.{Cells, Refused}
+use Rattle.calls.specs.Accepted.{all}
+
+-- document 01's number of a refusal
+abbrev pub number : Refusal → ℕ
+number SeriesTooLong = 1
+number LengthsDiffer = 2
+number OutputTooShort = 3
+number WorkTooShort = 4
+number ValueNotAccepted = 5
+number ParameterNotFinite = 6
+number WindowTooLong = 7
+number SeriesTooShort = 8
+number WindowsOutOfOrder = 9
+
+-- the number of the refusal, 0 where there is none
+abbrev pub refusalOf : Answer → ℕ
+refusalOf (Cells k) = 0
+refusalOf (Refused q) = number q
+
+-- how many cells of each output are written
+abbrev pub countOf : Answer → ℕ
+countOf (Cells k) = k
+countOf (Refused q) = 0
+
+-- how many of n work cells are cleared: all of them where the call is answered
+abbrev pub clearedOf : Answer → ℕ → ℕ
+clearedOf (Cells k) n = n
+clearedOf (Refused q) n = 0
+
+-- ---- the table, read from the top
+
+-- refused, unless the test holds
+abbrev pub unless : Bool → Refusal → Answer → Answer
+unless true q next = next
+unless false q next = Refused q
+
+-- a refusal stands, and after a count comes what is next
+abbrev pub andThen : Answer → Answer → Answer
+andThen (Cells k) next = next
+andThen (Refused q) next = Refused q
+
+-- the empty answer, where the test holds
+abbrev pub emptyIf : Bool → Answer → Answer
+emptyIf true next = Cells 0
+emptyIf false next = next
+
+-- L, the series length: that of the first
+abbrev pub bars : List (List Float) → ℕ
+bars [] = 0
+bars (s ∷ rest) = length s
+
+-- The refusals of slices and values, 1 to 5: of the series, the lengths of the outputs and of the work slice (a list of none or one),
+-- where `ok` says which values are accepted. The count is L.
+unfoldable pub checked : (Float → Bool) → List (List Float) → List ℕ → List ℕ → Answer
+checked ok series outputs work =
+    unless (all (λ s. leb (length s) 65536) series) SeriesTooLong
+    (unless (all (λ s. eqb (length s) (bars series)) series) LengthsDiffer
+    (unless (all (λ room. leb (bars series) room) outputs) OutputTooShort
+    (unless (all (λ room. leb (8 * bars series) room) work) WorkTooShort
+    (unless (all (all ok) series) ValueNotAccepted
+    (Cells (bars series))))))
+
+-- whether a zero is among them
+abbrev pub anyZero : List ℕ → Bool
+anyZero [] = false
+anyZero (n ∷ ns) = eqb n 0 || anyZero ns
+
+-- Refusal 7 for integer windows, then the empty answer for no bars or a window of none, then what is next.
+unfoldable pub windowed : ℕ → List ℕ → Answer → Answer
+windowed l windows next = unless (all (λ n. leb n 4096) windows) WindowTooLong (emptyIf (anyZero (l ∷ windows)) next)
+
+-- A call of one series and of integer windows, with no condition of its own on them.
+unfoldable pub answered : (Float → Bool) → List Float → List ℕ → ℕ → List ℕ → Answer
+unfolding checked windowed
+answered ok s windows output work = andThen (checked ok (s ∷ []) (output ∷ []) work) (windowed (length s) windows (Cells (length s)))

@@ -1,0 +1,49 @@
+-- The contract of every call. `due` is the answer, f the line of the cells, r what came; 0 is at entry and 1 at exit. Assumes nothing.
+use mathlib.Core.Path.{_≡_, refl}
+use mathlib.Core.List.{List}
+use Prim.Native.Nat.{ℕ, _*_}
+use lib.Ieee.{Float}
+use Rattle.calls.specs.declared.Refusal.{Refusal}
+use Rattle.calls.specs.declared.Answer.{Answer}
+use Rattle.calls.specs.declared.Answer.the-variants.{Cells, Refused}
+use Rattle.calls.specs.Answer.{countOf, clearedOf}
+use Rattle.calls.specs.Line.{plusZero}
+use Rattle.calls.specs.Written.{written, Writing}
+
+module _ {A : Type 0} (due : Answer) (f : ℕ → A) (out₀ : List A) where
+  -- one output and no work slice: with count 0 no cell changes, and the cells from the count on stay
+  pub record Call (r : Answer) (out₁ : List A) : Type 0 where
+    pub answer : r ≡ due
+    pub cells : out₁ ≡ written (countOf r) f out₀
+
+  -- one output and a work slice, whose first 8L cells hold +0.0 once the call is answered
+  pub record WorkCall (l : ℕ) (work₀ : List Float) (r : Answer) (out₁ : List A) (work₁ : List Float) : Type 0 where
+    pub answer : r ≡ due
+    pub cells : out₁ ≡ written (countOf r) f out₀
+    pub work : work₁ ≡ written (clearedOf r (8 * l)) (λ i. plusZero) work₀
+
+  -- three outputs, of the lines f, g and h, and a work slice
+  pub record BandCall (g h : ℕ → A) (upper₀ lower₀ : List A) (l : ℕ) (work₀ : List Float) (r : Answer) (out₁ upper₁ lower₁ : List A)
+      (work₁ : List Float) : Type 0 where
+    pub answer : r ≡ due
+    pub middle : out₁ ≡ written (countOf r) f out₀
+    pub upper : upper₁ ≡ written (countOf r) g upper₀
+    pub lower : lower₁ ≡ written (countOf r) h lower₀
+    pub work : work₁ ≡ written (clearedOf r (8 * l)) (λ i. plusZero) work₀
+
+module _ {A : Type 0} {due : Answer} {f : ℕ → A} {out₀ : List A} where
+  -- a refusal changes no cell
+  pub refused : {r : Answer} {q : Refusal} → r ≡ due → r ≡ Refused q → Call due f out₀ r out₀
+  refused e q = record { answer = e; cells = rw q }
+
+  -- a count says how much is written
+  pub counted : {k : ℕ} {out₁ : List A} → Cells k ≡ due → Writing k f out₀ out₁ → Call due f out₀ (Cells k) out₁
+  counted e o = record { answer = e; cells = o .is }
+
+  module _ {l : ℕ} {work₀ : List Float} where
+    pub work-refused : {r : Answer} {q : Refusal} → r ≡ due → r ≡ Refused q → WorkCall due f out₀ l work₀ r out₀ work₀
+    work-refused e q = record { answer = e; cells = rw q; work = rw q }
+
+    pub work-counted : {k : ℕ} {out₁ : List A} {work₁ : List Float} → Cells k ≡ due
+        → Writing k f out₀ out₁ → Writing (8 * l) (λ i. plusZero) work₀ work₁ → WorkCall due f out₀ l work₀ (Cells k) out₁ work₁
+    work-counted e o w = record { answer = e; cells = o .is; work = w .is }
