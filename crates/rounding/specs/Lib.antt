@@ -6,3 +6,4 @@ pub mod Cases
 pub mod Integers
 pub mod Value
 pub mod Whole
+pub mod Units

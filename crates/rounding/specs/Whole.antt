@@ -66,9 +66,6 @@ sum-first f (pos zero) = refl
 sum-first f (pos (suc n)) = rw (lt-ltb 0 (suc n) (zero-lt-suc n), sub-zero)
 sum-first f (negsuc n) = rw zero-add
 
-abbrev pub minusZero : Float
-minusZero = fin true 0 (pos 0)
-
 module _ (f : Format) (a b : ℤ) (h : natAbs a ≤ 2 ^ prec f) (k : natAbs b ≤ 2 ^ prec f) where
   pub add-whole : add f (ofInt f a) (ofInt f b) ≡ ofInt f (a +ℤ b)
   add-whole =
@@ -80,5 +77,5 @@ module _ (f : Format) (a b : ℤ) (h : natAbs a ≤ 2 ^ prec f) (k : natAbs b �
       sub-at (ofInt f a) (ofInt f b) (isNegative a) (natAbs a) (isNegative b) (natAbs b) 1 (zero-lt-suc 0) (whole-value f a h) (whole-value f b k) f
       ∙ sum-minus f a b
 
-pub add-first : (f : Format) (z : ℤ) → natAbs z ≤ 2 ^ prec f → add f minusZero (ofInt f z) ≡ ofInt f z
-add-first f z h = add-at minusZero (ofInt f z) true 0 (isNegative z) (natAbs z) 1 (zero-lt-suc 0) (refl, refl) (whole-value f z h) f ∙ sum-first f z
+pub add-first : (f : Format) (z : ℤ) → natAbs z ≤ 2 ^ prec f → add f (fin true 0 (pos 0)) (ofInt f z) ≡ ofInt f z
+add-first f z h = add-at (fin true 0 (pos 0)) (ofInt f z) true 0 (isNegative z) (natAbs z) 1 (zero-lt-suc 0) (refl, refl) (whole-value f z h) f ∙ sum-first f z
