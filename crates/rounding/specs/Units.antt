@@ -1,19 +1,22 @@
 -- Every finite number of a format is a whole number of units, the format's smallest value 2 ^ -low, with a sign. Assumes nothing.
 use mathlib.Core.Path.{_≡_, refl, sym, ap, _∙_}
-use mathlib.Core.Bool.{Bool, true, false, not, _&&_, cond}
-use Prim.Native.Nat.{ℕ, zero, suc, _+_, _-_, _*_, _/_, _%_, _^_, _<_, _≤_}
-use native.Mathlib.Nat.{zero-mul, zero-div, mul-one, div-one, mul-assoc, mul-div-cancel, lt-of-not-le, not-le-of-lt, le-of-suc-le-suc, sub-add-cancel}
+use mathlib.Core.Bool.{Bool, true, false, not, _&&_, _||_, Bool·beq, cond}
+use Prim.Native.Nat.{ℕ, zero, suc, _+_, _-_, _*_, _/_, _%_, _^_, _<_, _≤_, zero-le}
+use native.Mathlib.Nat.{zero-mul, zero-div, mul-one, div-one, mul-assoc, mul-div-cancel, lt-of-not-le, not-le-of-lt, le-of-suc-le-suc, sub-add-cancel, add-zero, zero-add, add-comm, zero-lt-suc, mul-pos, lt-irrefl}
 use native.Mathlib.Omega.{arith}
-use lib.Dec.{T, ltb, leb, eqb, leb→le}
+use lib.Dec.{T, ltb, leb, eqb, leb→le, ltb→lt, eqb·suc-zero}
+use borrow.Author.Tests.{le-ltb, lt-ltb}
 use lib.IntN.{ℤ, pos, negsuc}
 use lib.Pow.{pow-add, pow-pos, pow-lt}
-use lib.Ieee.{Float, nan, inf, fin, Format, prec, emax, low, up, down, round, fits}
+use lib.Ieee.{Float, nan, inf, fin, Format, prec, emax, low, up, down, unlike, level, odd, units, round, sum, add, sub, div, lt, eq, ofInt, fits}
+use lib.Ieee.{below as isBelow}
 use lib.Ieee.Fits.{and-l, and-r, down-pos, round-fits, round-is}
 use lib.Ieee.Exact.{HasValue, units-val}
 use lib.Ieee.Order.{kept, drop}
 use lib.Ieee.Scale.{grid, overflow, finite}
-use Rattle.rounding.specs.Leaves.{negative}
-use Rattle.rounding.specs.Value.{shape}
+use Rattle.rounding.specs.Leaves.{one, negative, signOf}
+use Rattle.rounding.specs.Whole.{whole-value}
+use Rattle.rounding.specs.Value.{shape, add-at, sub-at, lt-at, div-at}
 
 -- the size of a finite number, in units
 unfoldable pub unitsOf : Format → Float → ℕ
@@ -70,3 +73,101 @@ round-worth f s a c h = record {
   fit = round-fits f s a c;
   value = rw (round-is f s a c) (units-val f s (kept (prec f) (a * 2 ^ low f) c) (drop (prec f) (a * 2 ^ low f) c) h);
 }
+
+-- ---- the operations in units
+
+-- the part of ±u above zero, and the part below
+abbrev pub over : Bool → ℕ → ℕ
+over s u = cond s 0 u
+
+abbrev pub under : Bool → ℕ → ℕ
+under s u = cond s u 0
+
+below-is : (s : Bool) (a : ℕ) (t : Bool) (b : ℕ) → isBelow s a t b ≡ ltb (over s a + under t b) (over t b + under s a)
+below-is false a false b = simp add-zero
+below-is false a true b = sym (le-ltb (a + b) (0 + 0) zero-le)
+below-is true a false b = rw (add-comm a b)
+below-is true a true b = simp zero-add
+
+-- ---- the sign of a difference
+
+odd-keeps : (d : ℕ) (s : Bool) (q k l : ℕ) → signOf (odd d s q k l) ≡ one s
+unfolding odd signOf
+odd-keeps d s zero k l = refl
+odd-keeps d s (suc q) k l = refl
+
+units-keeps : (f : Format) (s : Bool) (q k : ℕ) → signOf (units f s q k) ≡ one s
+unfolding units signOf
+units-keeps f s q k = go (ltb (q * 2 ^ k) (overflow f))
+  where
+    go : (t : Bool) → signOf (cond t (odd (suc (prec f)) s q k (low f)) (inf s)) ≡ one s
+    go true = odd-keeps (suc (prec f)) s q k (low f)
+    go false = refl
+
+round-keeps : (f : Format) (s : Bool) (a c : ℕ) → signOf (round f s a c) ≡ one s
+round-keeps f s a c = rw (round-is f s a c) (units-keeps f s (kept (prec f) (a * 2 ^ low f) c) (drop (prec f) (a * 2 ^ low f) c))
+
+-- it says which is below, also where the difference is 0, if the first is not -0.0
+sign-minus : (f : Format) (s : Bool) (a : ℕ) (t : Bool) (b c : ℕ) → T (not (s && eqb a 0)) → signOf (sum f s a (not t) b c) ≡ one (isBelow s a t b)
+unfolding sum
+sign-minus f false a false b c h = go (ltb a b)
+  where
+    go : (z : Bool) → signOf (cond z (round f true (b - a) c) (round f false (a - b) c)) ≡ one z
+    go true = round-keeps f true (b - a) c
+    go false = round-keeps f false (a - b) c
+sign-minus f false a true b c h = round-keeps f false (a + b) c
+sign-minus f true a false b c h = round-keeps f true (a + b) c ∙ ap one (sym (lt-ltb 0 (a + b) (not-both a b h)))
+  where
+    not-both : (a b : ℕ) → T (not (eqb a 0)) → 0 < a + b
+    not-both zero b h = absurd h
+    not-both (suc a) b h = omega arith
+sign-minus f true a true b c h = go (ltb a b) (ltb→lt a b)
+  where
+    go : (z : Bool) → (T z → a < b) → signOf (cond z (round f false (b - a) c) (round f (ltb b a) (a - b) c)) ≡ one (ltb b a)
+    go true k = let l : a < b = k tt in round-keeps f false (b - a) c ∙ ap one (sym (le-ltb b a (omega arith)))
+    go false k = round-keeps f (ltb b a) (a - b) c
+
+module _ {f : Format} {x y : Float} {s t : Bool} {a b : ℕ} (v : Worth f x s a) (w : Worth f y t b) where
+  pub worth-add : add f x y ≡ sum f s a t b (2 ^ low f)
+  worth-add = add-at x y s a t b (2 ^ low f) (pow-pos (low f)) (v .value) (w .value) f
+
+  pub worth-lt : lt x y ≡ ltb (over s a + under t b) (over t b + under s a)
+  worth-lt = lt-at x y s a t b (2 ^ low f) (pow-pos (low f)) (v .value) (w .value) ∙ below-is s a t b
+
+  -- the sign of a difference says which is less
+  pub sign-sub : T (not (s && eqb a 0)) → signOf (sub f x y) ≡ one (lt x y)
+  sign-sub h =
+      rw (sub-at x y s a t b (2 ^ low f) (pow-pos (low f)) (v .value) (w .value) f, lt-at x y s a t b (2 ^ low f) (pow-pos (low f)) (v .value) (w .value))
+      (sign-minus f s a t b (2 ^ low f) h)
+
+unlike-plus : (s : Bool) → unlike s false ≡ s
+unlike-plus true = refl
+unlike-plus false = refl
+
+-- divided by a whole number
+pub worth-div : {f : Format} {x : Float} {s : Bool} {a : ℕ} → Worth f x s a → (n : ℕ) → 0 < n → n ≤ 2 ^ prec f
+    → div f x (ofInt f (pos n)) ≡ round f s a (n * 2 ^ low f)
+worth-div {f} {x} {s} {a} v n N h =
+    div-at x (ofInt f (pos n)) s a (2 ^ low f) false n 1 (pow-pos (low f)) (zero-lt-suc 0) N (v .value) (whole-value f (pos n) h) f
+    ∙ rw (unlike-plus s, mul-one)
+
+both-zero : (a c u d : ℕ) → 0 < c → 0 < d → a * c ≡ u * d → eqb a 0 ≡ eqb u 0
+both-zero zero c zero d C D e = refl
+both-zero zero c (suc u) d C D e = absurd (lt-irrefl 0 (rw (← zero-mul c, e) (mul-pos (zero-lt-suc u) D)))
+both-zero (suc a) c zero d C D e = absurd (lt-irrefl 0 (rw (← zero-mul d, ← e) (mul-pos (zero-lt-suc a) C)))
+both-zero (suc a) c (suc u) d C D e = eqb·suc-zero a ∙ sym (eqb·suc-zero u)
+
+level-zero : (s : Bool) (a d : ℕ) → level s a false (0 * d) ≡ eqb a 0
+level-zero s a d = rw zero-mul (go s (eqb a 0))
+  where
+    go : (s z : Bool) → z && (Bool·beq s false || z) ≡ z
+    go true true = refl
+    go true false = refl
+    go false true = refl
+    go false false = refl
+
+-- compared with 0.0
+pub worth-zero : {f : Format} {x : Float} {s : Bool} {u : ℕ} → Worth f x s u → eq x (fin false 0 (pos 0)) ≡ eqb u 0
+unfolding eq
+worth-zero {f} {x} {s} {u} w = let (m, e, p, v) = shape x s u (2 ^ low f) (w .value) in
+    rw p (level-zero s (m * up e * 1) (down e) ∙ rw mul-one (both-zero (m * up e) (2 ^ low f) u (down e) (pow-pos (low f)) (down-pos e) v))
