@@ -58,6 +58,20 @@ pub parts-times : (a : ℤ) (n : ℕ) → (above (a *ℤ pos n) ≡ above a * n)
 parts-times (pos a) n = (refl, sym (zero-mul n))
 parts-times (negsuc a) n = (neg-zero (suc a * n) ∙ sym (zero-mul n), neg-size (suc a * n))
 
+-- u with a sign
+abbrev pub signed : Bool → ℕ → ℤ
+signed s u = cond s (negℤ (pos u)) (pos u)
+
+pub parts-signed : (s : Bool) (u : ℕ) → (above (signed s u) ≡ cond s 0 u) × (below (signed s u) ≡ cond s u 0)
+parts-signed true u = (neg-zero u, neg-size u)
+parts-signed false u = (refl, refl)
+
+pub parts-same : (a b : ℤ) → above a + below b ≡ above b + below a → a ≡ b
+parts-same (pos a) (pos b) h = let e : a ≡ b = omega arith in rw e
+parts-same (pos a) (negsuc b) h = absurd (omega arith)
+parts-same (negsuc a) (pos b) h = absurd (omega arith)
+parts-same (negsuc a) (negsuc b) h = let e : a ≡ b = omega arith in rw e
+
 -- ---- order and size
 
 pub ltb-same : (a b c d : ℕ) → (a < b → c < d) → (c < d → a < b) → ltb a b ≡ ltb c d
@@ -85,6 +99,23 @@ abs-add (pos a) (pos b) = le-refl (a + b)
 abs-add (pos a) (negsuc b) = abs-sub a (suc b)
 abs-add (negsuc a) (pos b) = let h = abs-sub b (suc a) in omega arith
 abs-add (negsuc a) (negsuc b) = omega arith
+
+-- a and b are at most e apart
+pub record Near (a b e : ℕ) : Type 0 where
+  pub above-by : a ≤ b + e
+  pub below-by : b ≤ a + e
+
+module _ (a b : ℤ) {e : ℕ} where
+  -- two integers at most e apart
+  pub near-abs : natAbs (a -ℤ b) ≤ e → Near (above a + below b) (above b + below a) e
+  near-abs h = let m = parts-minus a b in let n = parts-abs (a -ℤ b) in omega arith
+
+  pub abs-near : Near (above a + below b) (above b + below a) e → natAbs (a -ℤ b) ≤ e
+  abs-near n = go (a -ℤ b) (parts-minus a b)
+    where
+      go : (z : ℤ) → above z + (below a + above b) ≡ above a + below b + below z → natAbs z ≤ e
+      go (pos k) m = omega arith
+      go (negsuc k) m = omega arith
 
 -- ---- runs
 

@@ -7,3 +7,5 @@ pub mod Integers
 pub mod Value
 pub mod Whole
 pub mod Units
+pub mod Error
+pub mod About

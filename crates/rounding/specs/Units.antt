@@ -6,7 +6,7 @@ use native.Mathlib.Nat.{zero-mul, zero-div, mul-one, div-one, mul-assoc, mul-div
 use native.Mathlib.Omega.{arith}
 use lib.Dec.{T, ltb, leb, eqb, leb→le, ltb→lt, eqb·suc-zero}
 use borrow.Author.Tests.{le-ltb, lt-ltb}
-use lib.IntN.{ℤ, pos, negsuc}
+use lib.IntN.{ℤ, pos, negsuc, negℤ, natAbs}
 use lib.Pow.{pow-add, pow-pos, pow-lt}
 use lib.Ieee.{Float, nan, inf, fin, Format, prec, emax, low, up, down, unlike, level, odd, units, round, sum, add, sub, div, lt, eq, ofInt, fits}
 use lib.Ieee.{below as isBelow}
@@ -16,13 +16,20 @@ use lib.Ieee.Order.{kept, drop}
 use lib.Ieee.Scale.{grid, overflow, finite}
 use Rattle.rounding.specs.Leaves.{one, negative, signOf}
 use Rattle.rounding.specs.Whole.{whole-value}
+use Rattle.rounding.specs.Integers.{signed, parts-signed, parts-lt}
+use lib.Signed.{ltZ}
 use Rattle.rounding.specs.Value.{shape, add-at, sub-at, lt-at, div-at}
 
--- the size of a finite number, in units
-unfoldable pub unitsOf : Format → Float → ℕ
-unitsOf f nan = 0
-unitsOf f (inf s) = 0
-unitsOf f (fin s m e) = m * up e * 2 ^ low f / down e
+-- a finite number's value, in units
+unfoldable pub inUnits : Format → Float → ℤ
+inUnits f nan = pos 0
+inUnits f (inf s) = pos 0
+inUnits f (fin s m e) = signed s (m * up e * 2 ^ low f / down e)
+
+-- x is a finite number of the format f
+pub record Number (f : Format) (x : Float) : Type 0 where
+  pub fit : T (fits f x)
+  pub ends : T (finite x)
 
 -- x is a number of the format f, of u units and of the sign s
 pub record Worth (f : Format) (x : Float) (s : Bool) (u : ℕ) : Type 0 where
@@ -49,23 +56,27 @@ whole-units f s (suc m) (negsuc k) t =
     let n : suc m * 1 * 2 ^ low f ≡ suc m * 2 ^ (low f - suc k) * 2 ^ suc k = rw (mul-one, e) (sym (mul-assoc (suc m) (2 ^ (low f - suc k)) (2 ^ suc k))) in
     rw (n, mul-div-cancel (suc m * 2 ^ (low f - suc k)) (pow-pos (suc k)))
 
-pub worth : {f : Format} (x : Float) → T (fits f x) → T (finite x) → Worth f x (negative x) (unitsOf f x)
-unfolding negative unitsOf
-worth nan t u = absurd u
-worth (inf s) t u = absurd u
-worth {f} (fin s m e) t u = record { fit = t; value = (refl, whole-units f s m e t) }
+pub abs-signed : (s : Bool) (u : ℕ) → natAbs (signed s u) ≡ u
+abs-signed true zero = refl
+abs-signed true (suc u) = refl
+abs-signed false u = refl
+
+pub worth : {f : Format} (x : Float) → Number f x → Worth f x (negative x) (natAbs (inUnits f x))
+unfolding negative inUnits
+worth nan n = absurd (n .ends)
+worth (inf s) n = absurd (n .ends)
+worth {f} (fin s m e) n = record {
+  fit = n .fit;
+  value = (refl, whole-units f s m e (n .fit) ∙ ap (λ (z : ℕ). z * down e) (sym (abs-signed s (m * up e * 2 ^ low f / down e))));
+}
 
 module _ {f : Format} {x : Float} {s : Bool} {u : ℕ} (w : Worth f x s u) where
-  pub worth-negative : negative x ≡ s
-  unfolding negative
-  worth-negative = let (m, e, p, v) = shape x s u (2 ^ low f) (w .value) in rw p
+  pub worth-number : Number f x
+  worth-number = let (m, e, p, v) = shape x s u (2 ^ low f) (w .value) in record { fit = w .fit; ends = rw p tt }
 
-  pub worth-units : unitsOf f x ≡ u
-  unfolding unitsOf
-  worth-units = let (m, e, p, v) = shape x s u (2 ^ low f) (w .value) in rw (p, v) (mul-div-cancel u (down-pos e))
-
-  pub worth-finite : T (finite x)
-  worth-finite = let (m, e, p, v) = shape x s u (2 ^ low f) (w .value) in rw p tt
+  pub worth-units : inUnits f x ≡ signed s u
+  unfolding inUnits
+  worth-units = let (m, e, p, v) = shape x s u (2 ^ low f) (w .value) in rw (p, v) (ap (signed s) (mul-div-cancel u (down-pos e)))
 
 -- a fraction rounded is `grid` units, if that is in range
 pub round-worth : (f : Format) (s : Bool) (a c : ℕ) → grid f a c < overflow f → Worth f (round f s a c) s (grid f a c)
@@ -74,20 +85,17 @@ round-worth f s a c h = record {
   value = rw (round-is f s a c) (units-val f s (kept (prec f) (a * 2 ^ low f) c) (drop (prec f) (a * 2 ^ low f) c) h);
 }
 
--- ---- the operations in units
+-- ---- order
 
--- the part of ±u above zero, and the part below
-abbrev pub over : Bool → ℕ → ℕ
-over s u = cond s 0 u
-
-abbrev pub under : Bool → ℕ → ℕ
-under s u = cond s u 0
-
-below-is : (s : Bool) (a : ℕ) (t : Bool) (b : ℕ) → isBelow s a t b ≡ ltb (over s a + under t b) (over t b + under s a)
-below-is false a false b = simp add-zero
-below-is false a true b = sym (le-ltb (a + b) (0 + 0) zero-le)
-below-is true a false b = rw (add-comm a b)
-below-is true a true b = simp zero-add
+below-is : (s : Bool) (a : ℕ) (t : Bool) (b : ℕ) → isBelow s a t b ≡ ltZ (signed s a) (signed t b)
+below-is s a t b =
+    rw (parts-lt (signed s a) (signed t b), parts-signed s a .0, parts-signed s a .1, parts-signed t b .0, parts-signed t b .1) (go s t)
+  where
+    go : (s t : Bool) → isBelow s a t b ≡ ltb (cond s 0 a + cond t b 0) (cond t 0 b + cond s a 0)
+    go false false = simp add-zero
+    go false true = sym (le-ltb (a + b) (0 + 0) zero-le)
+    go true false = rw (add-comm a b)
+    go true true = simp zero-add
 
 -- ---- the sign of a difference
 
@@ -131,7 +139,7 @@ module _ {f : Format} {x y : Float} {s t : Bool} {a b : ℕ} (v : Worth f x s a)
   pub worth-add : add f x y ≡ sum f s a t b (2 ^ low f)
   worth-add = add-at x y s a t b (2 ^ low f) (pow-pos (low f)) (v .value) (w .value) f
 
-  pub worth-lt : lt x y ≡ ltb (over s a + under t b) (over t b + under s a)
+  pub worth-lt : lt x y ≡ ltZ (signed s a) (signed t b)
   worth-lt = lt-at x y s a t b (2 ^ low f) (pow-pos (low f)) (v .value) (w .value) ∙ below-is s a t b
 
   -- the sign of a difference says which is less

@@ -33,12 +33,12 @@ sum-apart f a b = go (ltb a (suc b)) (ltb→lt a (suc b))
     go true h = let l : a < suc b = h tt in let e : suc b - a ≡ suc (suc b - suc a) = omega arith in rw e
     go false h = refl
 
-sum-turned : (f : Format) (a b : ℕ) → sum f true a false b 1 ≡ sum f false b true a 1
+pub sum-turned : (f : Format) (a b c : ℕ) → sum f true a false b c ≡ sum f false b true a c
 unfolding sum
-sum-turned f a b = go (ltb a b) (ltb b a) (ltb→lt a b) (nltb→le a b) (ltb→lt b a) (nltb→le b a)
+sum-turned f a b c = go (ltb a b) (ltb b a) (ltb→lt a b) (nltb→le a b) (ltb→lt b a) (nltb→le b a)
   where
     go : (t u : Bool) → (T t → a < b) → (T (not t) → b ≤ a) → (T u → b < a) → (T (not u) → a ≤ b)
-        → cond t (round f false (b - a) 1) (round f u (a - b) 1) ≡ cond u (round f true (a - b) 1) (round f false (b - a) 1)
+        → cond t (round f false (b - a) c) (round f u (a - b) c) ≡ cond u (round f true (a - b) c) (round f false (b - a) c)
     go true true h k h' k' = absurd (lt-irrefl a (lt-trans (h tt) (h' tt)))
     go true false h k h' k' = refl
     go false true h k h' k' = refl
@@ -48,7 +48,7 @@ sum-whole : (f : Format) (a b : ℤ) → sum f (isNegative a) (natAbs a) (isNega
 unfolding sum ofInt
 sum-whole f (pos a) (pos b) = refl
 sum-whole f (pos a) (negsuc b) = sum-apart f a b
-sum-whole f (negsuc a) (pos b) = sum-turned f (suc a) b ∙ sum-apart f b a
+sum-whole f (negsuc a) (pos b) = sum-turned f (suc a) b 1 ∙ sum-apart f b a
 sum-whole f (negsuc a) (negsuc b) = let e : suc a + suc b ≡ suc (suc (a + b)) = omega arith in rw e
 
 -- with the second one taken away

@@ -1,0 +1,143 @@
+-- A number that stands for a fraction, and how far it is from it. Each operation adds what its rounding may be off by, so the error of a
+-- sum or of a mean is read off the operations; and numbers that stand for different fractions are in the fractions' order where their
+-- errors are too small to reach. Assumes nothing.
+use mathlib.Core.Path.{_≡_, refl, sym, ap, _∙_}
+use mathlib.Core.Bool.{Bool, true, false, not, _&&_, cond}
+use Prim.Native.Nat.{ℕ, zero, suc, _+_, _-_, _*_, _/_, _^_, _<_, _≤_}
+use native.Mathlib.Nat.{le-refl, mul-le-mul-right, mul-pos, le-of-mul-le-mul-right, lt-of-mul-lt-mul-right, mul-lt-mul-of-pos-right}
+use native.Mathlib.Omega.{arith}
+use lib.Dec.{T, ltb, eqb, ltb→lt, nltb→le}
+use lib.IntN.{ℤ, pos, negsuc, negℤ, natAbs, _+ℤ_, _-ℤ_, _*ℤ_, negℤ-+ℤ, +ℤ-comm}
+use lib.Signed.{ltZ}
+use lib.Pow.{pow-pos}
+use lib.Ieee.{Float, Format, prec, emax, low, round, sum, add, sub, div, lt, ofInt}
+use lib.Ieee.Scale.{grid, overflow}
+use Rattle.rounding.specs.Leaves.{one, negative, signOf}
+use Rattle.rounding.specs.Integers.{above, below, signed, Near, parts-abs, parts-add, parts-times, parts-signed, parts-same, parts-lt, near-abs, abs-near, abs-add}
+use Rattle.rounding.specs.Whole.{sum-turned}
+use Rattle.rounding.specs.Units.{inUnits, Number, Worth, worth, worth-number, worth-units, abs-signed, worth-add, worth-div, worth-lt, round-worth}
+use Rattle.rounding.specs.Error.{grid-within, grid-range}
+
+-- how far x is from z / c, times c · 2 ^ low: a whole number
+unfoldable pub distance : Format → Float → ℤ → ℕ → ℕ
+distance f x z c = natAbs (inUnits f x *ℤ pos c -ℤ z *ℤ pos (2 ^ low f))
+
+-- x is a number of the format f, and it is z / c within e / (2 · c) units
+pub record About (f : Format) (x : Float) (z : ℤ) (c e : ℕ) : Type 0 where
+  pub number : Number f x
+  pub close : distance f x z c * 2 ≤ e
+
+-- the same in natural numbers
+abbrev Within : Format → ℤ → ℤ → ℕ → ℕ → Type 0
+Within f v z c e = Near ((above v * c + below z * 2 ^ low f) * 2) ((above z * 2 ^ low f + below v * c) * 2) e
+
+within : {f : Format} {x : Float} {z : ℤ} {c e : ℕ} → About f x z c e → Within f (inUnits f x) z c e
+unfolding distance
+within {f} {x} {z} {c} {e} a =
+    let v = inUnits f x in
+    let n = near-abs (v *ℤ pos c) (z *ℤ pos (2 ^ low f)) (le-refl _) in
+    let p = parts-times v c in
+    let q = parts-times z (2 ^ low f) in
+    let h = a .close in
+    omega arith
+
+about : {f : Format} {x : Float} {z : ℤ} {c e : ℕ} → Number f x → Within f (inUnits f x) z c e → About f x z c e
+unfolding distance
+about {f} {x} {z} {c} {e} m n =
+    let v = inUnits f x in
+    let p = parts-times v c in
+    let q = parts-times z (2 ^ low f) in
+    let h = abs-near (v *ℤ pos c) (z *ℤ pos (2 ^ low f)) {e = e / 2} (omega arith) in
+    record { number = m; close = omega arith }
+
+-- ---- a fraction rounded
+
+signed-within : (f : Format) (s : Bool) (g a c e : ℕ) → Near (g * c * 2) (a * 2 ^ low f * 2) e → Within f (signed s g) (signed s a) c e
+signed-within f true g a c e n = rw (parts-signed true g .0, parts-signed true g .1, parts-signed true a .0, parts-signed true a .1) (omega arith)
+signed-within f false g a c e n = omega arith
+
+about-worth : {f : Format} {x : Float} {s : Bool} {g : ℕ} (a : ℕ) {c e : ℕ} → Worth f x s g → Near (g * c * 2) (a * 2 ^ low f * 2) e
+    → About f x (signed s a) c e
+about-worth {f} {x} {s} {g} a {c} {e} w n = about (worth-number w) (rw (worth-units w) (signed-within f s g a c e n))
+
+-- below 2 ^ j units, and j not so large that an infinity comes
+pub about-round : (f : Format) (s : Bool) (a c j : ℕ) → 0 < c → a * 2 ^ low f < 2 ^ j * c → j ≤ low f + emax f
+    → About f (round f s a c) (signed s a) c (c * 2 ^ (j - prec f))
+about-round f s a c j C h l = about-worth a (round-worth f s a c (grid-range f a c C j h l)) (grid-within f a c C j h)
+
+-- ---- the operations
+
+-- how many units at most
+size-of : {f : Format} {x : Float} {z : ℤ} {c e : ℕ} → About f x z c e → natAbs (inUnits f x) * c * 2 ≤ natAbs z * 2 ^ low f * 2 + e
+size-of {f} {x} {z} {c} {e} a = go (inUnits f x) z (within a)
+  where
+    go : (v z : ℤ) → Within f v z c e → natAbs v * c * 2 ≤ natAbs z * 2 ^ low f * 2 + e
+    go (pos v) (pos z) n = omega arith
+    go (pos v) (negsuc z) n = omega arith
+    go (negsuc v) (pos z) n = omega arith
+    go (negsuc v) (negsuc z) n = omega arith
+
+-- a sum is one fraction rounded
+pub record Rounds (f : Format) (x : Float) (z : ℤ) (c : ℕ) : Type 0 where
+  pub sign : Bool
+  pub count : ℕ
+  pub is : x ≡ round f sign count c
+  pub of : signed sign count ≡ z
+
+apart : (f : Format) (a b c : ℕ) (t : Bool) → (T t → a < b) → (T (not t) → b ≤ a)
+    → Rounds f (cond t (round f true (b - a) c) (round f false (a - b) c)) (pos a +ℤ negℤ (pos b)) c
+apart f a b c true h k =
+    let l : a < b = h tt in
+    let p = parts-signed true b in
+    let q = parts-signed true (b - a) in
+    record { sign = true; count = b - a; is = refl; of = parts-same (negℤ (pos (b - a))) (pos a +ℤ negℤ (pos b)) (omega (arith, parts-add (pos a) (negℤ (pos b)))) }
+apart f a b c false h k =
+    let l : b ≤ a = k tt in
+    let p = parts-signed true b in
+    record { sign = false; count = a - b; is = refl; of = parts-same (pos (a - b)) (pos a +ℤ negℤ (pos b)) (omega (arith, parts-add (pos a) (negℤ (pos b)))) }
+
+sum-rounds : (f : Format) (s : Bool) (a : ℕ) (t : Bool) (b c : ℕ) → Rounds f (sum f s a t b c) (signed s a +ℤ signed t b) c
+unfolding sum
+sum-rounds f false a false b c = record { sign = false; count = a + b; is = refl; of = refl }
+sum-rounds f true a true b c = record { sign = true; count = a + b; is = refl; of = negℤ-+ℤ (pos a) (pos b) }
+sum-rounds f false a true b c = apart f a b c (ltb a b) (ltb→lt a b) (nltb→le a b)
+sum-rounds f true a false b c =
+    rw (sum-turned f a b c, +ℤ-comm (negℤ (pos a)) (pos b)) (apart f b a c (ltb b a) (ltb→lt b a) (nltb→le b a))
+
+signed-back : {f : Format} {x : Float} → Number f x → signed (negative x) (natAbs (inUnits f x)) ≡ inUnits f x
+signed-back {f} {x} n = sym (worth-units (worth x n))
+
+add-rounds : {f : Format} {x y : Float} → Number f x → Number f y → Rounds f (add f x y) (inUnits f x +ℤ inUnits f y) (2 ^ low f)
+add-rounds {f} {x} {y} n m =
+    let r = sum-rounds f (negative x) (natAbs (inUnits f x)) (negative y) (natAbs (inUnits f y)) (2 ^ low f) in
+    record { sign = r .sign; count = r .count; is = worth-add (worth x n) (worth y m) ∙ r .is; of = r .of ∙ rw (signed-back n, signed-back m) }
+
+rounds-about : {f : Format} {x : Float} {z : ℤ} {c : ℕ} (j : ℕ) → Rounds f x z c → 0 < c → natAbs z * 2 ^ low f < 2 ^ j * c → j ≤ low f + emax f
+    → About f x z c (c * 2 ^ (j - prec f))
+rounds-about {f} {x} {z} {c} j r C h l =
+    rw (r .is, ← r .of) (about-round f (r .sign) (r .count) c j C (rw (← abs-signed (r .sign) (r .count), r .of) h) l)
+
+near-times : {a b e : ℕ} (c : ℕ) → Near a b e → Near (a * c) (b * c) (e * c)
+near-times {a} {b} {e} c n = let p = mul-le-mul-right c (n .above-by) in let q = mul-le-mul-right c (n .below-by) in omega arith
+
+near-over : {a b e : ℕ} (c : ℕ) → 0 < c → Near (a * c) (b * c) (e * c) → Near a b e
+near-over {a} {b} {e} c C n = record {
+  above-by = le-of-mul-le-mul-right {k = c} (omega arith) C;
+  below-by = le-of-mul-le-mul-right {k = c} (omega arith) C;
+}
+
+-- the sum of two numbers that stand for fractions of the same denominator
+pub about-add : {f : Format} {x y : Float} {z w : ℤ} {c d e : ℕ} (j : ℕ) → About f x z c d → About f y w c e → 0 < c → j ≤ low f + emax f
+    → (natAbs z + natAbs w) * 2 ^ low f * 2 + d + e < 2 ^ j * c * 2 → About f (add f x y) (z +ℤ w) c (d + e + c * 2 ^ (j - prec f))
+about-add {f} {x} {y} {z} {w} {c} {d} {e} j p q C l h =
+    let u = 2 ^ low f in
+    let v = inUnits f x +ℤ inUnits f y in
+    let few : natAbs (inUnits f x) + natAbs (inUnits f y) < 2 ^ j = lt-of-mul-lt-mul-right (c * 2) (omega (arith, size-of p, size-of q)) in
+    let small : natAbs v * u < 2 ^ j * u = mul-lt-mul-of-pos-right (omega (arith, abs-add (inUnits f x) (inUnits f y))) (pow-pos (low f)) in
+    let r = rounds-about j (add-rounds (p .number) (q .number)) (pow-pos (low f)) small l in
+    let t = inUnits f (add f x y) in
+    let n : Near ((above t + below v) * 2) ((above v + below t) * 2) (2 ^ (j - prec f)) = near-over u (pow-pos (low f)) (omega (arith, within r)) in
+    let m = near-times c n in
+    let a = ap (λ (k : ℕ). k * c) (parts-add (inUnits f x) (inUnits f y)) in
+    let b = ap (λ (k : ℕ). k * u) (parts-add z w) in
+    about (r .number) (omega (arith, within p, within q))
