@@ -10,12 +10,13 @@ use lib.Dec.{T, ltb, eqb, ltb→lt, nltb→le}
 use lib.IntN.{ℤ, pos, negsuc, negℤ, natAbs, _+ℤ_, _-ℤ_, _*ℤ_, negℤ-+ℤ, +ℤ-comm}
 use lib.Signed.{ltZ}
 use lib.Pow.{pow-pos}
+use borrow.Author.Tests.{ltb-true, lt-ltb}
 use lib.Ieee.{Float, Format, prec, emax, low, round, sum, add, sub, div, lt, ofInt}
 use lib.Ieee.Scale.{grid, overflow}
 use Rattle.rounding.specs.Leaves.{one, negative, signOf}
 use Rattle.rounding.specs.Integers.{above, below, signed, Near, parts-abs, parts-add, parts-times, parts-signed, parts-same, parts-lt, near-abs, abs-near, abs-add}
-use Rattle.rounding.specs.Whole.{sum-turned}
-use Rattle.rounding.specs.Units.{inUnits, Number, Worth, worth, worth-number, worth-units, abs-signed, worth-add, worth-div, worth-lt, round-worth}
+use Rattle.rounding.specs.Whole.{isNegative, sum-turned}
+use Rattle.rounding.specs.Units.{inUnits, Number, Worth, worth, worth-number, worth-units, abs-signed, worth-whole, worth-add, worth-div, worth-lt, round-worth}
 use Rattle.rounding.specs.Error.{grid-within, grid-range}
 
 -- how far x is from z / c, times c · 2 ^ low: a whole number
@@ -141,3 +142,51 @@ about-add {f} {x} {y} {z} {w} {c} {d} {e} j p q C l h =
     let a = ap (λ (k : ℕ). k * c) (parts-add (inUnits f x) (inUnits f y)) in
     let b = ap (λ (k : ℕ). k * u) (parts-add z w) in
     about (r .number) (omega (arith, within p, within q))
+
+signed-int : (z : ℤ) → signed (isNegative z) (natAbs z) ≡ z
+signed-int (pos n) = refl
+signed-int (negsuc n) = refl
+
+-- a whole number stands for itself
+pub about-whole : (f : Format) (z : ℤ) → natAbs z ≤ 2 ^ prec f → About f (ofInt f z) z 1 0
+about-whole f z h =
+    let a : About f (ofInt f z) (signed (isNegative z) (natAbs z)) 1 0 = about-worth (natAbs z) (worth-whole f z h) (omega arith) in
+    rw signed-int at a
+
+-- divided by a whole number
+pub about-div : {f : Format} {x : Float} {z : ℤ} {c e : ℕ} (j n : ℕ) → About f x z c e → 0 < c → 0 < n → n ≤ 2 ^ prec f → j ≤ low f + emax f
+    → natAbs z * 2 ^ low f * 2 + e < 2 ^ j * (c * n) * 2 → About f (div f x (ofInt f (pos n))) z (c * n) (e + c * n * 2 ^ (j - prec f))
+about-div {f} {x} {z} {c} {e} j n p C N k l h =
+    let u = 2 ^ low f in
+    let v = inUnits f x in
+    let few : natAbs v < 2 ^ j * n = lt-of-mul-lt-mul-right (c * 2) (omega (arith, size-of p)) in
+    let small : natAbs v * u < 2 ^ j * (n * u) = omega (arith, mul-lt-mul-of-pos-right few (pow-pos (low f))) in
+    let r : About f (div f x (ofInt f (pos n))) v (n * u) (n * u * 2 ^ (j - prec f)) =
+    rw (worth-div (worth x (p .number)) n N k) (rw (signed-back (p .number)) at (about-round f (negative x) (natAbs v) (n * u) j (mul-pos N (pow-pos (low f))) small l)) in
+    let t = inUnits f (div f x (ofInt f (pos n))) in
+    let q : Near ((above t * n + below v) * 2) ((above v + below t * n) * 2) (n * 2 ^ (j - prec f)) = near-over u (pow-pos (low f)) (omega (arith, within r)) in
+    let m = near-times c q in
+    about (r .number) (omega (arith, within p))
+
+-- ---- order
+
+parts-less : (a b : ℤ) → ltZ a b ≡ true → above a + below b < above b + below a
+parts-less a b h = ltb-true (above a + below b) (above b + below a) (sym (parts-lt a b) ∙ h)
+
+pub number-lt : {f : Format} {x y : Float} → Number f x → Number f y → lt x y ≡ ltZ (inUnits f x) (inUnits f y)
+number-lt {f} {x} {y} n m = rw (← signed-back n, ← signed-back m) (worth-lt (worth x n) (worth y m))
+
+-- numbers that stand for z / c < w / b are in that order, where their errors are too small to reach
+pub about-lt : {f : Format} {x y : Float} {z w : ℤ} {c b d e : ℕ} → About f x z c d → About f y w b e
+    → ltZ (z *ℤ pos b) (w *ℤ pos c) ≡ true → d * b + e * c < 2 ^ low f * 2 → lt x y ≡ true
+about-lt {f} {x} {y} {z} {w} {c} {b} {d} {e} p q g h =
+    let v = inUnits f x in
+    let t = inUnits f y in
+    let i = parts-times z b in
+    let j = parts-times w c in
+    let o : above z * b + below w * c < above w * c + below z * b = omega (arith, parts-less (z *ℤ pos b) (w *ℤ pos c) g) in
+    let k = mul-le-mul-right (2 ^ low f) o in
+    let m = near-times b (within p) in
+    let n = near-times c (within q) in
+    let less : above v + below t < above t + below v = lt-of-mul-lt-mul-right (c * b * 2) (omega arith) in
+    rw (number-lt (p .number) (q .number), parts-lt v t) (lt-ltb (above v + below t) (above t + below v) less)

@@ -10,12 +10,12 @@ use lib.IntN.{ℤ, pos, negsuc, negℤ, natAbs}
 use lib.Pow.{pow-add, pow-pos, pow-lt}
 use lib.Ieee.{Float, nan, inf, fin, Format, prec, emax, low, up, down, unlike, level, odd, units, round, sum, add, sub, div, lt, eq, ofInt, fits}
 use lib.Ieee.{below as isBelow}
-use lib.Ieee.Fits.{and-l, and-r, down-pos, round-fits, round-is}
+use lib.Ieee.Fits.{and-l, and-r, down-pos, round-fits, round-is, ofInt-fits}
 use lib.Ieee.Exact.{HasValue, units-val}
 use lib.Ieee.Order.{kept, drop}
 use lib.Ieee.Scale.{grid, overflow, finite}
 use Rattle.rounding.specs.Leaves.{one, negative, signOf}
-use Rattle.rounding.specs.Whole.{whole-value}
+use Rattle.rounding.specs.Whole.{isNegative, whole-value}
 use Rattle.rounding.specs.Integers.{signed, parts-signed, parts-lt}
 use lib.Signed.{ltZ}
 use Rattle.rounding.specs.Value.{shape, add-at, sub-at, lt-at, div-at}
@@ -77,6 +77,12 @@ module _ {f : Format} {x : Float} {s : Bool} {u : ℕ} (w : Worth f x s u) where
   pub worth-units : inUnits f x ≡ signed s u
   unfolding inUnits
   worth-units = let (m, e, p, v) = shape x s u (2 ^ low f) (w .value) in rw (p, v) (ap (signed s) (mul-div-cancel u (down-pos e)))
+
+-- a whole number
+pub worth-whole : (f : Format) (z : ℤ) → natAbs z ≤ 2 ^ prec f → Worth f (ofInt f z) (isNegative z) (natAbs z * 2 ^ low f)
+worth-whole f z h =
+    let (m, e, p, v) = shape (ofInt f z) (isNegative z) (natAbs z) 1 (whole-value f z h) in
+    record { fit = ofInt-fits f z; value = rw p (refl, omega (arith, ap (λ (k : ℕ). k * 2 ^ low f) v)) }
 
 -- a fraction rounded is `grid` units, if that is in range
 pub round-worth : (f : Format) (s : Bool) (a c : ℕ) → grid f a c < overflow f → Worth f (round f s a c) s (grid f a c)
@@ -142,7 +148,7 @@ module _ {f : Format} {x y : Float} {s t : Bool} {a b : ℕ} (v : Worth f x s a)
   pub worth-lt : lt x y ≡ ltZ (signed s a) (signed t b)
   worth-lt = lt-at x y s a t b (2 ^ low f) (pow-pos (low f)) (v .value) (w .value) ∙ below-is s a t b
 
-  -- the sign of a difference says which is less
+  -- the sign of a difference says which is less, if the first is not -0.0
   pub sign-sub : T (not (s && eqb a 0)) → signOf (sub f x y) ≡ one (lt x y)
   sign-sub h =
       rw (sub-at x y s a t b (2 ^ low f) (pow-pos (low f)) (v .value) (w .value) f, lt-at x y s a t b (2 ^ low f) (pow-pos (low f)) (v .value) (w .value))
