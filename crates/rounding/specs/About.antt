@@ -10,11 +10,11 @@ use lib.Dec.{T, ltb, eqb, ltb→lt, nltb→le}
 use lib.IntN.{ℤ, pos, negsuc, negℤ, natAbs, _+ℤ_, _-ℤ_, _*ℤ_, negℤ-+ℤ, +ℤ-comm}
 use lib.Signed.{ltZ}
 use lib.Pow.{pow-pos}
-use borrow.Author.Tests.{ltb-true, lt-ltb}
+use borrow.Author.Tests.{lt-ltb}
 use lib.Ieee.{Float, Format, prec, emax, low, round, sum, add, sub, div, lt, ofInt}
 use lib.Ieee.Scale.{grid, overflow}
 use Rattle.rounding.specs.Leaves.{one, negative, signOf}
-use Rattle.rounding.specs.Integers.{above, below, signed, Near, parts-abs, parts-add, parts-times, parts-signed, parts-same, parts-lt, near-abs, abs-near, abs-add}
+use Rattle.rounding.specs.Integers.{above, below, signed, Near, parts-abs, parts-add, parts-times, parts-signed, parts-same, parts-lt, parts-less, near-abs, abs-near, abs-add}
 use Rattle.rounding.specs.Whole.{isNegative, sum-turned}
 use Rattle.rounding.specs.Units.{inUnits, Number, Worth, worth, worth-number, worth-units, abs-signed, worth-whole, worth-add, worth-div, worth-lt, round-worth}
 use Rattle.rounding.specs.Error.{grid-within, grid-range}
@@ -57,7 +57,7 @@ signed-within : (f : Format) (s : Bool) (g a c e : ℕ) → Near (g * c * 2) (a 
 signed-within f true g a c e n = rw (parts-signed true g .0, parts-signed true g .1, parts-signed true a .0, parts-signed true a .1) (omega arith)
 signed-within f false g a c e n = omega arith
 
-about-worth : {f : Format} {x : Float} {s : Bool} {g : ℕ} (a : ℕ) {c e : ℕ} → Worth f x s g → Near (g * c * 2) (a * 2 ^ low f * 2) e
+pub about-worth : {f : Format} {x : Float} {s : Bool} {g : ℕ} (a : ℕ) {c e : ℕ} → Worth f x s g → Near (g * c * 2) (a * 2 ^ low f * 2) e
     → About f x (signed s a) c e
 about-worth {f} {x} {s} {g} a {c} {e} w n = about (worth-number w) (rw (worth-units w) (signed-within f s g a c e n))
 
@@ -143,7 +143,7 @@ about-add {f} {x} {y} {z} {w} {c} {d} {e} j p q C l h =
     let b = ap (λ (k : ℕ). k * u) (parts-add z w) in
     about (r .number) (omega (arith, within p, within q))
 
-signed-int : (z : ℤ) → signed (isNegative z) (natAbs z) ≡ z
+pub signed-int : (z : ℤ) → signed (isNegative z) (natAbs z) ≡ z
 signed-int (pos n) = refl
 signed-int (negsuc n) = refl
 
@@ -169,9 +169,6 @@ about-div {f} {x} {z} {c} {e} j n p C N k l h =
     about (r .number) (omega (arith, within p))
 
 -- ---- order
-
-parts-less : (a b : ℤ) → ltZ a b ≡ true → above a + below b < above b + below a
-parts-less a b h = ltb-true (above a + below b) (above b + below a) (sym (parts-lt a b) ∙ h)
 
 pub number-lt : {f : Format} {x y : Float} → Number f x → Number f y → lt x y ≡ ltZ (inUnits f x) (inUnits f y)
 number-lt {f} {x} {y} n m = rw (← signed-back n, ← signed-back m) (worth-lt (worth x n) (worth y m))

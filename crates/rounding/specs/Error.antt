@@ -37,7 +37,7 @@ module _ (f : Format) (a c : ℕ) (C : 0 < c) where
   pub places : ℕ
   places = drop (prec f) (a * 2 ^ low f) c
 
-  grid-near : Near (grid f a c * c * 2) (a * 2 ^ low f * 2) (c * 2 ^ places)
+  pub grid-near : Near (grid f a c * c * 2) (a * 2 ^ low f * 2) (c * 2 ^ places)
   unfolding places
   grid-near = let n = closest-near (a * 2 ^ low f) (c * 2 ^ places) (mul-pos C (pow-pos places)) in omega arith
 

@@ -1,15 +1,16 @@
 -- Integers as differences of natural numbers: z is `above z` - `below z`, one of which is 0. What is linear in the parts is then
 -- plain arithmetic. Beside them the sum of a run of integers. Assumes nothing.
 use mathlib.Core.Path.{_≡_, refl, sym, ap, _∙_}
+use mathlib.Core.Logic.{_⊎_, inl, inr}
 use mathlib.Core.Bool.{Bool, true, false, not, cond}
 use Prim.Native.Nat.{ℕ, zero, suc, _+_, _-_, _*_, _≤_, _<_, zero-le}
-use native.Mathlib.Nat.{le-refl, le-of-suc-le-suc, lt-of-not-le, not-le-of-lt, zero-mul, add-zero, zero-add}
+use native.Mathlib.Nat.{le-refl, le-antisymm, le-of-suc-le-suc, lt-of-not-le, not-le-of-lt, zero-mul, add-zero, zero-add}
 use native.Mathlib.Numerals.{add-one}
 use native.Mathlib.Omega.{arith}
 use lib.Dec.{T, ltb, ltb→lt, nltb→le}
 use lib.IntN.{ℤ, pos, negsuc, negℤ, natAbs, subℕ, _+ℤ_, _-ℤ_, _*ℤ_, +ℤ-assoc, +ℤ-comm, +ℤ-idl, +ℤ-invr}
 use lib.Signed.{ltZ}
-use borrow.Author.Tests.{lt-ltb, le-ltb}
+use borrow.Author.Tests.{lt-ltb, le-ltb, ltb-true}
 
 abbrev pub above : ℤ → ℕ
 above (pos n) = n
@@ -86,6 +87,28 @@ parts-lt (pos a) (pos b) = simp add-zero
 parts-lt (pos a) (negsuc b) = sym (le-ltb (a + suc b) 0 zero-le)
 parts-lt (negsuc a) (pos b) = sym (lt-ltb 0 (b + suc a) (omega arith))
 parts-lt (negsuc a) (negsuc b) = ltb-same b a (0 + suc b) (0 + suc a) (λ h. omega arith) (λ h. omega arith)
+
+pub parts-less : (a b : ℤ) → ltZ a b ≡ true → above a + below b < above b + below a
+parts-less a b h = ltb-true (above a + below b) (above b + below a) (sym (parts-lt a b) ∙ h)
+
+pub not-less : (a b : ℤ) → ltZ a b ≡ true → ltZ b a ≡ false
+not-less a b h = let l = parts-less a b h in parts-lt b a ∙ le-ltb (above b + below a) (above a + below b) (omega arith)
+
+pub self-not-less : (a : ℤ) → ltZ a a ≡ false
+self-not-less a = parts-lt a a ∙ le-ltb (above a + below a) (above a + below a) (le-refl (above a + below a))
+
+pub one-of-three : (a b : ℤ) → (ltZ a b ≡ true) ⊎ ((ltZ b a ≡ true) ⊎ (a ≡ b))
+one-of-three a b = go (ltb p q) (ltb q p) (ltb→lt p q) (ltb→lt q p) (nltb→le p q) (nltb→le q p)
+  where
+    p : ℕ
+    p = above a + below b
+    q : ℕ
+    q = above b + below a
+    go : (t u : Bool) → (T t → p < q) → (T u → q < p) → (T (not t) → q ≤ p) → (T (not u) → p ≤ q)
+        → (ltZ a b ≡ true) ⊎ ((ltZ b a ≡ true) ⊎ (a ≡ b))
+    go true u h k h' k' = inl (parts-lt a b ∙ lt-ltb p q (h tt))
+    go false true h k h' k' = inr (inl (parts-lt b a ∙ lt-ltb q p (k tt)))
+    go false false h k h' k' = inr (inr (parts-same a b (le-antisymm (k' tt) (h' tt))))
 
 abs-sub : (a b : ℕ) → natAbs (subℕ a b) ≤ a + b
 abs-sub a b = go (ltb a b) (ltb→lt a b)

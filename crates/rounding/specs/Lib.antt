@@ -9,3 +9,4 @@ pub mod Whole
 pub mod Units
 pub mod Error
 pub mod About
+pub mod Quotient

@@ -154,7 +154,7 @@ module _ {f : Format} {x y : Float} {s t : Bool} {a b : ℕ} (v : Worth f x s a)
       rw (sub-at x y s a t b (2 ^ low f) (pow-pos (low f)) (v .value) (w .value) f, lt-at x y s a t b (2 ^ low f) (pow-pos (low f)) (v .value) (w .value))
       (sign-minus f s a t b (2 ^ low f) h)
 
-unlike-plus : (s : Bool) → unlike s false ≡ s
+pub unlike-plus : (s : Bool) → unlike s false ≡ s
 unlike-plus true = refl
 unlike-plus false = refl
 

@@ -97,7 +97,7 @@ cross-div M E a c N G b d p q =
     let r : a * E * (N * d) ≡ a * d * (N * E) = simp (mul-assoc, mul-comm, mul-left-comm) in
     l ∙ rw (p, ← q) r
 
-not-zero : (n : ℕ) → 0 < n → n ≡ 0 → ⊥
+pub not-zero : (n : ℕ) → 0 < n → n ≡ 0 → ⊥
 not-zero n h e = omega arith
 
 pub div-at : (x y : Float) (s : Bool) (a c : ℕ) (t : Bool) (b d : ℕ) → 0 < c → 0 < d → 0 < b → HasValue x s a c → HasValue y t b d

@@ -1,0 +1,196 @@
+-- Quotients of whole numbers: each is one fraction rounded once, and two of them are in the order of their fractions. Assumes nothing.
+use mathlib.Core.Path.{_≡_, refl, sym, ap, _∙_}
+use mathlib.Core.Logic.{_⊎_, inl, inr}
+use mathlib.Core.Bool.{Bool, true, false, not, _&&_}
+use Prim.Native.Nat.{ℕ, zero, suc, _+_, _-_, _*_, _/_, _^_, _<_, _≤_}
+use native.Mathlib.Nat.{le-trans, le-refl, mul-one, mul-le-mul-right, mul-le-mul-left, mul-pos, zero-mul, eq-zero-or-pos, le-of-mul-le-mul-right, lt-of-mul-lt-mul-right, mul-lt-mul-of-pos-right, zero-lt-suc, pow-suc, le-mul-of-pos-right}
+use native.Mathlib.Omega.{arith}
+use lib.Dec.{T, eqb, lit≤}
+use borrow.Author.Tests.{ne-eqb}
+use lib.IntN.{ℤ, pos, negsuc, natAbs, _*ℤ_}
+use lib.Signed.{ltZ}
+use lib.Pow.{pow-add, pow-pos, pow-mono}
+use lib.Ieee.{Float, fin, Format, binary32, binary64, prec, emax, low, size, round, sub, div, lt, ofInt}
+use lib.Ieee.Nearest.{closest}
+use lib.Ieee.Fits.{two}
+use lib.Ieee.Positive.{first-pos}
+use lib.Ieee.Order.{kept, drop}
+use lib.Ieee.Scale.{grid, overflow, round-same, normal-of-fraction}
+use Rattle.rounding.specs.Leaves.{one, signOf}
+use Rattle.rounding.specs.Integers.{above, below, signed, Near, parts-abs, parts-times, one-of-three, not-less, self-not-less}
+use Rattle.rounding.specs.Value.{not-zero, div-at}
+use Rattle.rounding.specs.Whole.{isNegative, whole-value}
+use Rattle.rounding.specs.Units.{inUnits, Number, Worth, unlike-plus, round-worth, sign-sub}
+use Rattle.rounding.specs.Error.{places, closest-near, grid-near, grid-range, grid-relative}
+use Rattle.rounding.specs.About.{About, about-worth, about-lt, number-lt, signed-int}
+
+-- z / n
+abbrev pub quotient : Format → ℤ → ℕ → Float
+quotient f z n = div f (ofInt f z) (ofInt f (pos n))
+
+-- what a format asks of them: whole numbers that it counts without a gap
+pub record Whole (f : Format) (z : ℤ) (n : ℕ) : Type 0 where
+  pub some : 0 < n
+  pub size : natAbs z ≤ 2 ^ prec f
+  pub divisor : n ≤ 2 ^ prec f
+
+module _ {f : Format} {z : ℤ} {n : ℕ} (w : Whole f z n) where
+  -- one rounding of the fraction
+  pub quotient-is : quotient f z n ≡ round f (isNegative z) (natAbs z) n
+  quotient-is =
+      div-at (ofInt f z) (ofInt f (pos n)) (isNegative z) (natAbs z) 1 false n 1 (zero-lt-suc 0) (zero-lt-suc 0) (w .some)
+      (whole-value f z (w .size)) (whole-value f (pos n) (w .divisor)) f
+      ∙ simp (unlike-plus, mul-one)
+
+-- a quotient of 0 is +0.0
+zero-is : (f : Format) → round f false 0 1 ≡ fin false 0 (pos 0)
+unfolding round
+zero-is binary32 = refl
+zero-is binary64 = refl
+
+pub quotient-zero : {f : Format} {n : ℕ} → Whole f (pos 0) n → quotient f (pos 0) n ≡ fin false 0 (pos 0)
+quotient-zero {f} {n} w = quotient-is w ∙ round-same f false 0 n 0 1 (w .some) (zero-lt-suc 0) (omega arith) ∙ zero-is f
+
+-- ---- the error, relative to the size
+
+-- 2 ^ low is 2 ^ (prec - 1) times this
+abbrev pub share : Format → ℕ
+share f = 2 ^ (low f + 1 - prec f)
+
+shares : (f : Format) → 2 ^ low f ≡ share f * 2 ^ (prec f - 1)
+shares binary32 = refl
+shares binary64 = refl
+
+wide : (f : Format) → 2 ^ prec f ≤ share f
+wide binary32 = lit≤ tt
+wide binary64 = lit≤ tt
+
+room : (f : Format) → low f + suc (prec f) ≤ low f + emax f
+room binary32 = lit≤ tt
+room binary64 = lit≤ tt
+
+grid-zero : (f : Format) (c : ℕ) → 0 < c → grid f 0 c ≡ 0
+grid-zero f c C =
+    let k = drop (prec f) (0 * 2 ^ low f) c in
+    let b = c * 2 ^ k in
+    let n = closest-near (0 * 2 ^ low f) b (mul-pos C (pow-pos k)) in
+    let l : kept (prec f) (0 * 2 ^ low f) c * 2 ≤ 1 = le-of-mul-le-mul-right {k = b} (omega arith) (mul-pos C (pow-pos k)) in
+    let z : kept (prec f) (0 * 2 ^ low f) c ≡ 0 = omega arith in
+    ap (λ (q : ℕ). q * 2 ^ k) z ∙ zero-mul (2 ^ k)
+
+module _ (f : Format) (a n : ℕ) (N : 0 < n) (d : n ≤ 2 ^ prec f) where
+  grid-share : Near (grid f a n * n * 2) (a * 2 ^ low f * 2) (a * share f)
+  grid-share = go (eq-zero-or-pos a)
+    where
+      go : (a ≡ 0) ⊎ (0 < a) → Near (grid f a n * n * 2) (a * 2 ^ low f * 2) (a * share f)
+      go (inl e) = rw (e, grid-zero f n N) (omega arith)
+      go (inr p) =
+          let top = 2 ^ (prec f - 1) in
+          let s = shares f in
+          let b = mul-le-mul-left top (le-trans d (wide f)) in
+          let c = mul-le-mul-right (2 ^ low f) p in
+          let normal : top * n ≤ a * 2 ^ low f = omega arith in
+          let g = grid-relative f a n N (normal-of-fraction f a n N normal) in
+          let t = ap (λ (z : ℕ). a * z) s in
+          let r : n * 2 ^ places f a n N ≤ a * share f = le-of-mul-le-mul-right {k = top} (omega arith) (pow-pos (prec f - 1)) in
+          omega (arith, grid-near f a n N)
+
+  -- where a is not 0, so is its quotient
+  grid-some : 0 < a → 0 < grid f a n
+  grid-some h =
+      let top = 2 ^ (prec f - 1) in
+      let t = ap (λ (z : ℕ). a * z) (shares f) in
+      let l : 2 ^ 1 ≤ top = pow-mono {i = 1} {j = prec f - 1} (omega (arith, two f)) in
+      let m = mul-le-mul-left (a * share f) l in
+      let p : 0 < a * share f = mul-pos h (pow-pos (low f + 1 - prec f)) in
+      first-pos (grid f a n) (n * 2) (omega (arith, grid-share))
+
+  grid-inside : a ≤ 2 ^ prec f → grid f a n < overflow f
+  grid-inside h =
+      let j = low f + suc (prec f) in
+      let l = mul-le-mul-right (2 ^ low f) h in
+      let p : 0 < 2 ^ low f * 2 ^ prec f = mul-pos (pow-pos (low f)) (pow-pos (prec f)) in
+      let m : 2 ^ j ≤ 2 ^ j * n = le-mul-of-pos-right (2 ^ j) N in
+      let e : 2 ^ j ≡ 2 ^ low f * 2 ^ suc (prec f) = pow-add 2 (low f) (suc (prec f)) in
+      let g = pow-suc 2 (prec f) in
+      grid-range f a n N j (omega (arith, ap (λ (z : ℕ). 2 ^ low f * z) g)) (room f)
+
+module _ {f : Format} {z : ℤ} {n : ℕ} (w : Whole f z n) where
+  pub quotient-worth : Worth f (quotient f z n) (isNegative z) (grid f (natAbs z) n)
+  quotient-worth = rw (quotient-is w) (round-worth f (isNegative z) (natAbs z) n (grid-inside f (natAbs z) n (w .some) (w .divisor) (w .size)))
+
+  -- it stands for its fraction, within one part in 2 ^ prec of its size
+  pub about-quotient : About f (quotient f z n) z n (natAbs z * share f)
+  about-quotient =
+      let a : About f (quotient f z n) (signed (isNegative z) (natAbs z)) n (natAbs z * share f) =
+      about-worth (natAbs z) quotient-worth (grid-share f (natAbs z) n (w .some) (w .divisor)) in
+      rw signed-int at a
+
+  -- and is never -0.0
+  pub quotient-zero-sign : T (not (isNegative z && eqb (grid f (natAbs z) n) 0))
+  quotient-zero-sign = go z (grid-some f (natAbs z) n (w .some) (w .divisor))
+    where
+      go : (z : ℤ) → (0 < natAbs z → 0 < grid f (natAbs z) n) → T (not (isNegative z && eqb (grid f (natAbs z) n) 0))
+      go (pos k) h = tt
+      go (negsuc k) h = rw (ne-eqb (grid f (suc k) n) 0 (not-zero (grid f (suc k) n) (h (zero-lt-suc k)))) tt
+
+-- ---- order
+
+tops : (f : Format) → 2 ^ prec f * share f ≡ 2 ^ low f * 2
+tops binary32 = refl
+tops binary64 = refl
+
+sign-same : (a b : ℤ) (n m : ℕ) → 0 < n → 0 < m → below a * m ≡ below b * n → isNegative a ≡ isNegative b
+sign-same (pos a) (pos b) n m N M e = refl
+sign-same (pos a) (negsuc b) n m N M e = absurd (omega (arith, mul-pos (zero-lt-suc b) N))
+sign-same (negsuc a) (pos b) n m N M e = absurd (omega (arith, mul-pos (zero-lt-suc a) M))
+sign-same (negsuc a) (negsuc b) n m N M e = refl
+
+module _ {f : Format} {a b : ℤ} {n m : ℕ} (v : Whole f a n) (w : Whole f b m) where
+  -- equal fractions have the same quotient
+  pub quotient-same : a *ℤ pos m ≡ b *ℤ pos n → quotient f a n ≡ quotient f b m
+  quotient-same e =
+      let p = parts-times a m in
+      let q = parts-times b n in
+      let x : above a * m ≡ above b * n = omega (arith, ap above e) in
+      let y : below a * m ≡ below b * n = omega (arith, ap below e) in
+      let z : natAbs a * m ≡ natAbs b * n = rw (← parts-abs a, ← parts-abs b) (omega arith) in
+      quotient-is v
+      ∙ rw (sign-same a b n m (v .some) (w .some) y) (round-same f (isNegative b) (natAbs a) n (natAbs b) m (v .some) (w .some) z)
+      ∙ sym (quotient-is w)
+
+  module _ (h : natAbs a * m + natAbs b * n < 2 ^ prec f) where
+    -- quotients are in the order of their fractions
+    pub quotient-lt : lt (quotient f a n) (quotient f b m) ≡ ltZ (a *ℤ pos m) (b *ℤ pos n)
+    quotient-lt = go (one-of-three (a *ℤ pos m) (b *ℤ pos n))
+      where
+        x : Float
+        x = quotient f a n
+
+        y : Float
+        y = quotient f b m
+
+        i : About f x a n (natAbs a * share f)
+        i = about-quotient v
+
+        j : About f y b m (natAbs b * share f)
+        j = about-quotient w
+
+        small : natAbs a * share f * m + natAbs b * share f * n < 2 ^ low f * 2
+        small = omega (arith, tops f, mul-lt-mul-of-pos-right h (pow-pos (low f + 1 - prec f)))
+
+        same : x ≡ y → lt x y ≡ false
+        same e = rw (← e) (number-lt (i .number) (i .number) ∙ self-not-less (inUnits f x))
+
+        go : (ltZ (a *ℤ pos m) (b *ℤ pos n) ≡ true) ⊎ ((ltZ (b *ℤ pos n) (a *ℤ pos m) ≡ true) ⊎ (a *ℤ pos m ≡ b *ℤ pos n))
+            → lt x y ≡ ltZ (a *ℤ pos m) (b *ℤ pos n)
+        go (inl l) = about-lt i j l small ∙ sym l
+        go (inr (inl g)) =
+            number-lt (i .number) (j .number)
+            ∙ not-less (inUnits f y) (inUnits f x) (sym (number-lt (j .number) (i .number)) ∙ about-lt j i g (omega (arith, small)))
+            ∙ sym (not-less (b *ℤ pos n) (a *ℤ pos m) g)
+        go (inr (inr e)) = same (quotient-same e) ∙ sym (rw e (self-not-less (b *ℤ pos n)))
+
+    -- and the sign of their difference says it
+    pub quotient-sign : signOf (sub f (quotient f a n) (quotient f b m)) ≡ one (ltZ (a *ℤ pos m) (b *ℤ pos n))
+    quotient-sign = sign-sub (quotient-worth v) (quotient-worth w) (quotient-zero-sign v) ∙ ap one quotient-lt
