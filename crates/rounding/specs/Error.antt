@@ -32,19 +32,18 @@ closest-near a b B = go (compare (a % b * 2) b) (leb→le (a % b * 2) b) (nleb�
         let r : a % b < b = mod-lt a B in
         omega (arith, div-add-mod' a b)
 
+-- how many binary places of a / c, in units, are dropped
+abbrev pub places : Format → ℕ → ℕ → ℕ
+places f a c = drop (prec f) (a * 2 ^ low f) c
+
 -- a / c rounded, within half of the last place that is kept
 module _ (f : Format) (a c : ℕ) (C : 0 < c) where
-  pub places : ℕ
-  places = drop (prec f) (a * 2 ^ low f) c
-
-  pub grid-near : Near (grid f a c * c * 2) (a * 2 ^ low f * 2) (c * 2 ^ places)
-  unfolding places
-  grid-near = let n = closest-near (a * 2 ^ low f) (c * 2 ^ places) (mul-pos C (pow-pos places)) in omega arith
+  pub grid-near : Near (grid f a c * c * 2) (a * 2 ^ low f * 2) (c * 2 ^ places f a c)
+  grid-near = let k = places f a c in let n = closest-near (a * 2 ^ low f) (c * 2 ^ k) (mul-pos C (pow-pos k)) in omega arith
 
   -- a fraction below 2 ^ j units
   module _ (j : ℕ) (h : a * 2 ^ low f < 2 ^ j * c) where
-    few-places : 2 ^ places ≤ 2 ^ (j - prec f)
-    unfolding places
+    few-places : 2 ^ places f a c ≤ 2 ^ (j - prec f)
     few-places =
         let s : size (a * 2 ^ low f / c) ≤ j = size-le (a * 2 ^ low f / c) j (div-lt-iff-lt-mul C .1 h) in
         pow-mono (omega arith)
@@ -61,8 +60,7 @@ module _ (f : Format) (a c : ℕ) (C : 0 < c) where
         omega arith
 
   -- a fraction in the normal range: the error is at most one part in 2 ^ (prec - 1)
-  pub grid-relative : prec f ≤ size (a * 2 ^ low f / c) → c * 2 ^ places * 2 ^ (prec f - 1) ≤ a * 2 ^ low f
-  unfolding places
+  pub grid-relative : prec f ≤ size (a * 2 ^ low f / c) → c * 2 ^ places f a c * 2 ^ (prec f - 1) ≤ a * 2 ^ low f
   grid-relative h =
       let w = a * 2 ^ low f / c in
       let t = two f in

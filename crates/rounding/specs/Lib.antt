@@ -10,3 +10,4 @@ pub mod Units
 pub mod Error
 pub mod About
 pub mod Quotient
+pub mod Nearest

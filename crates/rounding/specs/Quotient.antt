@@ -92,7 +92,7 @@ module _ (f : Format) (a n : ℕ) (N : 0 < n) (d : n ≤ 2 ^ prec f) where
           let normal : top * n ≤ a * 2 ^ low f = omega arith in
           let g = grid-relative f a n N (normal-of-fraction f a n N normal) in
           let t = ap (λ (z : ℕ). a * z) s in
-          let r : n * 2 ^ places f a n N ≤ a * share f = le-of-mul-le-mul-right {k = top} (omega arith) (pow-pos (prec f - 1)) in
+          let r : n * 2 ^ places f a n ≤ a * share f = le-of-mul-le-mul-right {k = top} (omega arith) (pow-pos (prec f - 1)) in
           omega (arith, grid-near f a n N)
 
   -- where a is not 0, so is its quotient

@@ -46,15 +46,18 @@ down-low f s m e t =
     let b = leb (down e) (2 ^ low f) in
     leb→le (down e) (2 ^ low f) (and-r a b (and-l (a && b) (ltb (suc m * up e) (2 ^ suc (emax f) * down e)) t))
 
--- no fraction of a unit is left
-whole-units : (f : Format) (s : Bool) (m : ℕ) (e : ℤ) → T (fits f (fin s m e)) → m * up e * 2 ^ low f ≡ m * up e * 2 ^ low f / down e * down e
-whole-units f s zero e t = simp (zero-mul, zero-div)
-whole-units f s (suc m) (pos k) t = simp (mul-one, div-one)
-whole-units f s (suc m) (negsuc k) t =
+-- m * 2 ^ e is m * 2 ^ j units
+in-low : (f : Format) (s : Bool) (m : ℕ) (e : ℤ) → T (fits f (fin s m e)) → (j : ℕ) × (m * up e * 2 ^ low f ≡ m * 2 ^ j * down e)
+in-low f s zero e t = (0, simp zero-mul)
+in-low f s (suc m) (pos k) t = (k + low f, rw (pow-add, mul-one, mul-assoc))
+in-low f s (suc m) (negsuc k) t =
     let h : suc k ≤ low f = le-of-pow (suc k) (low f) (down-low f s m (negsuc k) t) in
     let e : 2 ^ low f ≡ 2 ^ (low f - suc k) * 2 ^ suc k = ap (λ (z : ℕ). 2 ^ z) (sym (sub-add-cancel h)) ∙ pow-add 2 (low f - suc k) (suc k) in
-    let n : suc m * 1 * 2 ^ low f ≡ suc m * 2 ^ (low f - suc k) * 2 ^ suc k = rw (mul-one, e) (sym (mul-assoc (suc m) (2 ^ (low f - suc k)) (2 ^ suc k))) in
-    rw (n, mul-div-cancel (suc m * 2 ^ (low f - suc k)) (pow-pos (suc k)))
+    (low f - suc k, rw (mul-one, e) (sym (mul-assoc (suc m) (2 ^ (low f - suc k)) (2 ^ suc k))))
+
+-- so no fraction of a unit is left
+whole-units : (f : Format) (s : Bool) (m : ℕ) (e : ℤ) → T (fits f (fin s m e)) → m * up e * 2 ^ low f ≡ m * up e * 2 ^ low f / down e * down e
+whole-units f s m e t = let (j, p) = in-low f s m e t in rw (p, mul-div-cancel (m * 2 ^ j) (down-pos e))
 
 pub abs-signed : (s : Bool) (u : ℕ) → natAbs (signed s u) ≡ u
 abs-signed true zero = refl
@@ -77,6 +80,33 @@ module _ {f : Format} {x : Float} {s : Bool} {u : ℕ} (w : Worth f x s u) where
   pub worth-units : inUnits f x ≡ signed s u
   unfolding inUnits
   worth-units = let (m, e, p, v) = shape x s u (2 ^ low f) (w .value) in rw (p, v) (ap (signed s) (mul-div-cancel u (down-pos e)))
+
+-- a count of units has at most prec binary digits, and zeros after them
+pub record Digits (f : Format) (u : ℕ) : Type 0 where
+  pub digits : ℕ
+  pub zeros : ℕ
+  pub short : digits < 2 ^ prec f
+  pub is : u ≡ digits * 2 ^ zeros
+
+digits-lt : (f : Format) (s : Bool) (m : ℕ) (e : ℤ) → T (fits f (fin s m e)) → m < 2 ^ prec f
+unfolding fits
+digits-lt f s zero e t = pow-pos (prec f)
+digits-lt f s (suc m) e t =
+    let a = eqb (suc m % 2) 1 in
+    let b = ltb (suc m) (2 ^ prec f) in
+    let c = leb (down e) (2 ^ low f) in
+    ltb→lt (suc m) (2 ^ prec f) (and-r a b (and-l (a && b) c (and-l (a && b && c) (ltb (suc m * up e) (2 ^ suc (emax f) * down e)) t)))
+
+units-digits : (f : Format) (s : Bool) (m : ℕ) (e : ℤ) → T (fits f (fin s m e)) → Digits f (m * up e * 2 ^ low f / down e)
+units-digits f s m e t =
+    let (j, p) = in-low f s m e t in
+    record { digits = m; zeros = j; short = digits-lt f s m e t; is = rw p (mul-div-cancel (m * 2 ^ j) (down-pos e)) }
+
+pub number-digits : {f : Format} (x : Float) → Number f x → Digits f (natAbs (inUnits f x))
+unfolding inUnits
+number-digits nan n = absurd (n .ends)
+number-digits (inf s) n = absurd (n .ends)
+number-digits {f} (fin s m e) n = rw abs-signed (units-digits f s m e (n .fit))
 
 -- a whole number
 pub worth-whole : (f : Format) (z : ℤ) → natAbs z ≤ 2 ^ prec f → Worth f (ofInt f z) (isNegative z) (natAbs z * 2 ^ low f)
