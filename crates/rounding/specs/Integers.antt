@@ -140,6 +140,17 @@ module _ (a b : ℤ) {e : ℕ} where
       go (pos k) m = omega arith
       go (negsuc k) m = omega arith
 
+-- how far apart two natural numbers are, and two integers
+abbrev pub gap : ℕ → ℕ → ℕ
+gap a b = (a - b) + (b - a)
+
+pub abs-gap : (a b : ℤ) → natAbs (a -ℤ b) ≡ gap (above a + below b) (above b + below a)
+abs-gap a b = go (a -ℤ b) (parts-minus a b)
+  where
+    go : (z : ℤ) → above z + (below a + above b) ≡ above a + below b + below z → natAbs z ≡ gap (above a + below b) (above b + below a)
+    go (pos k) m = omega arith
+    go (negsuc k) m = omega arith
+
 -- ---- runs
 
 regroup : (x y z w : ℤ) → x +ℤ (y -ℤ z) +ℤ w ≡ x +ℤ y +ℤ (w -ℤ z)

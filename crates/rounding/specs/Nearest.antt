@@ -3,18 +3,18 @@ use mathlib.Core.Path.{_≡_, refl, sym, ap, _∙_}
 use mathlib.Core.Logic.{_⊎_, inl, inr}
 use mathlib.Core.Bool.{Bool, true, false, not, _&&_, cond}
 use Prim.Native.Nat.{ℕ, zero, suc, _+_, _-_, _*_, _/_, _%_, _^_, _<_, _≤_, compare, Ordering, Ordering·lt, Ordering·eq, Ordering·gt}
-use native.Mathlib.Nat.{le-refl, le-antisymm, mod-lt, div-add-mod', mul-le-mul-right, mul-pos, eq-or-lt-of-le, sub-add-cancel, mul-assoc, mul-lt-mul-of-pos-right, mul-right-comm, mul-mod-left, mul-div-cancel, pow-succ', le-of-mul-le-mul-right, add-sub-of-le, le-trans, div-div-eq-div-mul, le-of-lt, ne-of-lt}
+use native.Mathlib.Nat.{le-refl, le-antisymm, mod-lt, zero-lt-suc, div-add-mod', mul-le-mul-right, mul-pos, eq-or-lt-of-le, sub-add-cancel, mul-assoc, mul-lt-mul-of-pos-right, mul-right-comm, mul-mod-left, mul-div-cancel, pow-succ', le-of-mul-le-mul-right, add-sub-of-le, le-trans, div-div-eq-div-mul, le-of-lt, ne-of-lt}
 use native.Mathlib.Omega.{arith}
 use lib.Dec.{T, ltb, ltb→lt, nltb→le, eqb, isLe, isEq, leb→le, nleb→lt, eqb→eq, eqb-refl}
-use lib.IntN.{ℤ, natAbs}
+use lib.IntN.{ℤ, pos, negsuc, natAbs, _*ℤ_}
 use lib.Pow.{pow-add, pow-pos, pow-mono, shl-lt}
 use lib.Ieee.{Float, Format, binary32, binary64, prec, low, down, up, size, nearest, round, hid, top, toBits}
-use lib.Ieee.Fits.{eq→eqb, nearest-le, kept-lt, down-pos}
+use lib.Ieee.Fits.{two, eq→eqb, nearest-le, kept-lt, down-pos}
 use lib.Ieee.Digits.{size-le, size-lt, size-reaches}
 use lib.Ieee.Nearest.{closest}
 use lib.Ieee.Order.{kept, drop}
 use lib.Ieee.Scale.{grid, overflow}
-use Rattle.rounding.specs.Integers.{Near}
+use Rattle.rounding.specs.Integers.{above, below, signed, Near, gap, parts-times, parts-signed, abs-gap}
 use Rattle.rounding.specs.Units.{inUnits, Number, Worth, worth-number, worth-units, round-worth, number-digits, Digits}
 use Rattle.rounding.specs.Value.{shape}
 use Rattle.rounding.specs.Error.{places, closest-near, grid-relative}
@@ -27,10 +27,6 @@ pub record NearestTo (f : Format) (z : ℤ) (n : ℕ) (x : Float) : Type 0 where
   pub even : (y : Float) → Number f y → distance f x z n ≡ distance f y z n → ¬ (inUnits f x ≡ inUnits f y) → toBits f x % 2 ≡ 0
 
 -- ---- a whole number nearest to a / b
-
--- how far apart a and b are
-abbrev gap : ℕ → ℕ → ℕ
-gap a b = (a - b) + (b - a)
 
 -- q is no nearer, and as near only at a tie
 record NoNearer (a b k q : ℕ) : Type 0 where
@@ -131,8 +127,8 @@ even-bits p q k P l e = go (ltb k d) (ltb→lt k d) (nltb→le k d)
         let d-is : d ≡ suc k = omega (arith, size-le n (suc (p + k)) up) in
         let four : 2 ^ p ≡ 4 * 2 ^ (p - 2) = ap (λ (z : ℕ). 2 ^ z) (sym (add-sub-of-le P)) ∙ pow-add 2 2 (p - 2) in
         let half : q / 2 ≡ 2 ^ (p - 2) * 2 = omega arith in
-        let two : q ≡ q / 2 * 2 = omega arith in
-        let n-is : n ≡ q / 2 * 2 ^ suc k = ap (λ (z : ℕ). z * 2 ^ k) two ∙ mul-assoc (q / 2) 2 (2 ^ k) ∙ ap (λ (z : ℕ). q / 2 * z) (sym (pow-succ' 2 k)) in
+        let twice : q ≡ q / 2 * 2 = omega arith in
+        let n-is : n ≡ q / 2 * 2 ^ suc k = ap (λ (z : ℕ). z * 2 ^ k) twice ∙ mul-assoc (q / 2) 2 (2 ^ k) ∙ ap (λ (z : ℕ). q / 2 * z) (sym (pow-succ' 2 k)) in
         ap (λ (z : ℕ). n / 2 ^ z % 2) d-is
         ∙ ap (λ (z : ℕ). z / 2 ^ suc k % 2) n-is
         ∙ ap (λ (z : ℕ). z % 2) (mul-div-cancel (q / 2) (pow-pos (suc k)) ∙ half)
@@ -170,3 +166,92 @@ unfolding toBits
 worth-even {f} {x} {s} {u} w h =
     let (m, e, p, v) = shape x s u (2 ^ low f) (w .value) in
     rw (p, v, mul-div-cancel u (down-pos e)) (even-pattern f s (size u - prec f) (u / 2 ^ (size u - prec f)) h)
+
+-- the distance of v units from ±a / c, in natural numbers
+distance-is : (f : Format) (x : Float) (z : ℤ) (c : ℕ)
+    → distance f x z c ≡ gap (above (inUnits f x) * c + below z * 2 ^ low f) (above z * 2 ^ low f + below (inUnits f x) * c)
+unfolding distance
+distance-is f x z c =
+    let p = parts-times (inUnits f x) c in
+    let q = parts-times z (2 ^ low f) in
+    abs-gap (inUnits f x *ℤ pos c) (z *ℤ pos (2 ^ low f)) ∙ rw (p .0, p .1, q .0, q .1)
+
+-- on the same side of zero it is the difference of the sizes
+same-side : (s : Bool) (v a c u : ℕ) → gap (above (signed s v) * c + below (signed s a) * u) (above (signed s a) * u + below (signed s v) * c) ≡ gap (v * c) (a * u)
+same-side true v a c u = rw (parts-signed true v .0, parts-signed true v .1, parts-signed true a .0, parts-signed true a .1) (omega arith)
+same-side false v a c u = omega arith
+
+-- on the other side it is their sum
+either-side : (s : Bool) (y : ℤ) (a c u : ℕ) → let d = gap (above y * c + below (signed s a) * u) (above (signed s a) * u + below y * c) in
+    (y ≡ signed s (natAbs y)) ⊎ (d ≡ natAbs y * c + a * u)
+either-side true (pos v) a c u = inr (rw (parts-signed true a .0, parts-signed true a .1) (omega arith))
+either-side true (negsuc v) a c u = inl refl
+either-side false (pos v) a c u = inl refl
+either-side false (negsuc v) a c u = inr (omega arith)
+
+zero-signed : (s : Bool) → signed s 0 ≡ pos 0
+zero-signed true = refl
+zero-signed false = refl
+
+none : (y : ℤ) (c : ℕ) → 0 < c → natAbs y * c ≡ 0 → y ≡ pos 0
+none (pos zero) c C e = refl
+none (pos (suc v)) c C e = absurd (omega (arith, mul-pos (zero-lt-suc v) C))
+none (negsuc v) c C e = absurd (omega (arith, mul-pos (zero-lt-suc v) C))
+
+module _ (f : Format) (s : Bool) (a c : ℕ) (C : 0 < c) (h : grid f a c < overflow f) where
+  found : Worth f (round f s a c) s (grid f a c)
+  found = round-worth f s a c h
+
+  here : distance f (round f s a c) (signed s a) c ≡ gap (grid f a c * c) (a * 2 ^ low f)
+  here = distance-is f (round f s a c) (signed s a) c ∙ rw (worth-units found) (same-side s (grid f a c) a c (2 ^ low f))
+
+  against : (v : ℕ) → Digits f v → Best (a * 2 ^ low f) c (places f a c) (kept (prec f) (a * 2 ^ low f) c) v
+  against v d = rw (d .is) (best (rounding f a c C) (d .digits) (d .zeros) (d .short) (omega (arith, two f)))
+
+  against-zero : Best (a * 2 ^ low f) c (places f a c) (kept (prec f) (a * 2 ^ low f) c) 0
+  against-zero = against 0 (record { digits = 0; zeros = 0; short = pow-pos (prec f); is = refl })
+
+  -- no number y is nearer, and as near only if the digits that were kept are even
+  record Judged (y : Float) : Type 0 where
+    least : distance f (round f s a c) (signed s a) c ≤ distance f y (signed s a) c
+    even : distance f (round f s a c) (signed s a) c ≡ distance f y (signed s a) c → ¬ (inUnits f (round f s a c) ≡ inUnits f y) → kept (prec f) (a * 2 ^ low f) c % 2 ≡ 0
+
+  judged : (y : Float) → Number f y → Judged y
+  judged y n = go (either-side s (inUnits f y) a c (2 ^ low f))
+    where
+      u : ℕ
+      u = 2 ^ low f
+
+      v : ℤ
+      v = inUnits f y
+
+      there : distance f y (signed s a) c ≡ gap (above v * c + below (signed s a) * u) (above (signed s a) * u + below v * c)
+      there = distance-is f y (signed s a) c
+
+      go : (v ≡ signed s (natAbs v)) ⊎ (gap (above v * c + below (signed s a) * u) (above (signed s a) * u + below v * c) ≡ natAbs v * c + a * u) → Judged y
+      go (inl e) =
+          let b = against (natAbs v) (number-digits y n) in
+          let d : distance f y (signed s a) c ≡ gap (natAbs v * c) (a * u) =
+          there ∙ ap (λ (t : ℤ). gap (above t * c + below (signed s a) * u) (above (signed s a) * u + below t * c)) e ∙ same-side s (natAbs v) a c u in
+          record {
+            least = rw (here, d) (b .least);
+            even = λ i j. b .even (sym here ∙ i ∙ d) (λ (g : grid f a c ≡ natAbs v). j (worth-units found ∙ ap (signed s) g ∙ sym e));
+          }
+      go (inr e) =
+          let b = against-zero in
+          let l = b .least in
+          let d = there ∙ e in
+          record {
+            least = rw (here, d) (omega arith);
+            even = λ i j.
+              let g : gap (grid f a c * c) (a * u) ≡ natAbs v * c + a * u = sym here ∙ i ∙ d in
+              b .even (omega arith) (λ (z : grid f a c ≡ 0). j (worth-units found ∙ ap (signed s) z ∙ zero-signed s ∙ sym (none v c C (omega arith))));
+          }
+
+  -- a fraction rounded is the nearest number
+  pub round-nearest : NearestTo f (signed s a) c (round f s a c)
+  round-nearest = record {
+    number = worth-number found;
+    least = λ y n. judged y n .least;
+    even = λ y n i j. worth-even found (even-bits (prec f) (kept (prec f) (a * 2 ^ low f) c) (places f a c) (two f) (kept-le f a c) (judged y n .even i j));
+  }
