@@ -3,15 +3,15 @@
 -- errors are too small to reach. Assumes nothing.
 use mathlib.Core.Path.{_≡_, refl, sym, ap, _∙_}
 use mathlib.Core.Bool.{Bool, true, false, not, _&&_, cond}
-use Prim.Native.Nat.{ℕ, zero, suc, _+_, _-_, _*_, _/_, _^_, _<_, _≤_}
-use native.Mathlib.Nat.{le-refl, mul-le-mul-right, mul-pos, le-of-mul-le-mul-right, lt-of-mul-lt-mul-right, mul-lt-mul-of-pos-right}
+use Prim.Native.Nat.{ℕ, suc, _+_, _-_, _*_, _/_, _^_, _<_, _≤_}
+use native.Mathlib.Nat.{le-refl, le-trans, mul-le-mul-right, mul-pos, le-of-mul-le-mul-right, lt-of-mul-lt-mul-right, mul-lt-mul-of-pos-right}
 use native.Mathlib.Omega.{arith}
-use lib.Dec.{T, ltb, eqb, ltb→lt, nltb→le}
+use lib.Dec.{T, ltb, eqb, ltb→lt, nltb→le, lit≤}
 use lib.IntN.{ℤ, pos, negsuc, negℤ, natAbs, _+ℤ_, _-ℤ_, _*ℤ_, negℤ-+ℤ, +ℤ-comm}
 use lib.Signed.{ltZ}
-use lib.Pow.{pow-pos}
+use lib.Pow.{pow-pos, pow-add}
 use borrow.Author.Tests.{lt-ltb}
-use lib.Ieee.{Float, Format, prec, emax, low, round, sum, add, sub, div, lt, ofInt}
+use lib.Ieee.{Float, Format, binary32, binary64, prec, emax, low, round, sum, add, sub, div, lt, ofInt}
 use lib.Ieee.Scale.{grid, overflow}
 use Rattle.rounding.specs.Leaves.{one, negative, signOf}
 use Rattle.rounding.specs.Integers.{above, below, signed, Near, parts-abs, parts-add, parts-times, parts-signed, parts-same, parts-lt, parts-less, near-abs, abs-near, abs-add}
@@ -23,16 +23,23 @@ use Rattle.rounding.specs.Error.{grid-within, grid-range}
 unfoldable pub distance : Format → Float → ℤ → ℕ → ℕ
 distance f x z c = natAbs (inUnits f x *ℤ pos c -ℤ z *ℤ pos (2 ^ low f))
 
--- x is a number of the format f, and it is z / c within e / (2 · c) units
+-- 2 ^ -prec, in units
+abbrev pub fine : Format → ℕ
+fine f = 2 ^ (low f - prec f)
+
+-- x is a number of the format f, and it is z / c within e / c halves of 2 ^ -prec
 pub record About (f : Format) (x : Float) (z : ℤ) (c e : ℕ) : Type 0 where
   pub number : Number f x
-  pub close : distance f x z c * 2 ≤ e
+  pub close : distance f x z c * 2 ≤ e * fine f
+
+pub about-weaken : {f : Format} {x : Float} {z : ℤ} {c d : ℕ} (e : ℕ) → About f x z c d → d ≤ e → About f x z c e
+about-weaken {f} e a h = record { number = a .number; close = le-trans (a .close) (mul-le-mul-right (fine f) h) }
 
 -- the same in natural numbers
 abbrev Within : Format → ℤ → ℤ → ℕ → ℕ → Type 0
 Within f v z c e = Near ((above v * c + below z * 2 ^ low f) * 2) ((above z * 2 ^ low f + below v * c) * 2) e
 
-within : {f : Format} {x : Float} {z : ℤ} {c e : ℕ} → About f x z c e → Within f (inUnits f x) z c e
+within : {f : Format} {x : Float} {z : ℤ} {c e : ℕ} → About f x z c e → Within f (inUnits f x) z c (e * fine f)
 unfolding distance
 within {f} {x} {z} {c} {e} a =
     let v = inUnits f x in
@@ -42,13 +49,13 @@ within {f} {x} {z} {c} {e} a =
     let h = a .close in
     omega arith
 
-about : {f : Format} {x : Float} {z : ℤ} {c e : ℕ} → Number f x → Within f (inUnits f x) z c e → About f x z c e
+about : {f : Format} {x : Float} {z : ℤ} {c e : ℕ} → Number f x → Within f (inUnits f x) z c (e * fine f) → About f x z c e
 unfolding distance
 about {f} {x} {z} {c} {e} m n =
     let v = inUnits f x in
     let p = parts-times v c in
     let q = parts-times z (2 ^ low f) in
-    let h = abs-near (v *ℤ pos c) (z *ℤ pos (2 ^ low f)) {e = e / 2} (omega arith) in
+    let h = abs-near (v *ℤ pos c) (z *ℤ pos (2 ^ low f)) {e = e * fine f / 2} (omega arith) in
     record { number = m; close = omega arith }
 
 -- ---- a fraction rounded
@@ -57,22 +64,41 @@ signed-within : (f : Format) (s : Bool) (g a c e : ℕ) → Near (g * c * 2) (a 
 signed-within f true g a c e n = rw (parts-signed true g .0, parts-signed true g .1, parts-signed true a .0, parts-signed true a .1) (omega arith)
 signed-within f false g a c e n = omega arith
 
-pub about-worth : {f : Format} {x : Float} {s : Bool} {g : ℕ} (a : ℕ) {c e : ℕ} → Worth f x s g → Near (g * c * 2) (a * 2 ^ low f * 2) e
+pub about-worth : {f : Format} {x : Float} {s : Bool} {g : ℕ} (a : ℕ) {c e : ℕ} → Worth f x s g → Near (g * c * 2) (a * 2 ^ low f * 2) (e * fine f)
     → About f x (signed s a) c e
-about-worth {f} {x} {s} {g} a {c} {e} w n = about (worth-number w) (rw (worth-units w) (signed-within f s g a c e n))
+about-worth {f} {x} {s} {g} a {c} {e} w n = about (worth-number w) (rw (worth-units w) (signed-within f s g a c (e * fine f) n))
 
--- below 2 ^ j units, and j not so large that an infinity comes
-pub about-round : (f : Format) (s : Bool) (a c j : ℕ) → 0 < c → a * 2 ^ low f < 2 ^ j * c → j ≤ low f + emax f
-    → About f (round f s a c) (signed s a) c (c * 2 ^ (j - prec f))
-about-round f s a c j C h l = about-worth a (round-worth f s a c (grid-range f a c C j h l)) (grid-within f a c C j h)
+-- a format reaches far below its last digit
+wide : (f : Format) → prec f ≤ low f
+wide binary32 = lit≤ tt
+wide binary64 = lit≤ tt
+
+fines : (f : Format) → 2 ^ low f ≡ 2 ^ prec f * fine f
+fines binary32 = refl
+fines binary64 = refl
+
+fines-up : (f : Format) (i : ℕ) → 2 ^ (low f + i - prec f) ≡ 2 ^ i * fine f
+fines-up f i =
+    let l = wide f in
+    let e : low f + i - prec f ≡ i + (low f - prec f) = omega arith in
+    rw e (pow-add 2 i (low f - prec f))
+
+-- below 2 ^ i
+pub about-round : (f : Format) (s : Bool) (a c i : ℕ) → 0 < c → a < 2 ^ i * c → i ≤ emax f → About f (round f s a c) (signed s a) c (2 ^ i * c)
+about-round f s a c i C h l =
+    let j = low f + i in
+    let k : a * 2 ^ low f < 2 ^ j * c = rw (pow-add 2 (low f) i) (omega (arith, mul-lt-mul-of-pos-right h (pow-pos (low f)))) in
+    let n = grid-within f a c C j k in
+    let e = ap (λ (z : ℕ). c * z) (fines-up f i) in
+    about-worth a (round-worth f s a c (grid-range f a c C j k (omega arith))) (omega arith)
 
 -- ---- the operations
 
 -- how many units at most
-size-of : {f : Format} {x : Float} {z : ℤ} {c e : ℕ} → About f x z c e → natAbs (inUnits f x) * c * 2 ≤ natAbs z * 2 ^ low f * 2 + e
-size-of {f} {x} {z} {c} {e} a = go (inUnits f x) z (within a)
+size-of : {f : Format} {x : Float} {z : ℤ} {c e : ℕ} → About f x z c e → natAbs (inUnits f x) * c * 2 ≤ (natAbs z * 2 ^ prec f * 2 + e) * fine f
+size-of {f} {x} {z} {c} {e} a = let l = rw (fines f) at (go (inUnits f x) z (within a)) in omega arith
   where
-    go : (v z : ℤ) → Within f v z c e → natAbs v * c * 2 ≤ natAbs z * 2 ^ low f * 2 + e
+    go : (v z : ℤ) → Within f v z c (e * fine f) → natAbs v * c * 2 ≤ natAbs z * 2 ^ low f * 2 + e * fine f
     go (pos v) (pos z) n = omega arith
     go (pos v) (negsuc z) n = omega arith
     go (negsuc v) (pos z) n = omega arith
@@ -113,10 +139,9 @@ add-rounds {f} {x} {y} n m =
     let r = sum-rounds f (negative x) (natAbs (inUnits f x)) (negative y) (natAbs (inUnits f y)) (2 ^ low f) in
     record { sign = r .sign; count = r .count; is = worth-add (worth x n) (worth y m) ∙ r .is; of = r .of ∙ rw (signed-back n, signed-back m) }
 
-rounds-about : {f : Format} {x : Float} {z : ℤ} {c : ℕ} (j : ℕ) → Rounds f x z c → 0 < c → natAbs z * 2 ^ low f < 2 ^ j * c → j ≤ low f + emax f
-    → About f x z c (c * 2 ^ (j - prec f))
-rounds-about {f} {x} {z} {c} j r C h l =
-    rw (r .is, ← r .of) (about-round f (r .sign) (r .count) c j C (rw (← abs-signed (r .sign) (r .count), r .of) h) l)
+rounds-about : {f : Format} {x : Float} {z : ℤ} {c : ℕ} (i : ℕ) → Rounds f x z c → 0 < c → natAbs z < 2 ^ i * c → i ≤ emax f → About f x z c (2 ^ i * c)
+rounds-about {f} {x} {z} {c} i r C h l =
+    rw (r .is, ← r .of) (about-round f (r .sign) (r .count) c i C (rw (← abs-signed (r .sign) (r .count), r .of) h) l)
 
 near-times : {a b e : ℕ} (c : ℕ) → Near a b e → Near (a * c) (b * c) (e * c)
 near-times {a} {b} {e} c n = let p = mul-le-mul-right c (n .above-by) in let q = mul-le-mul-right c (n .below-by) in omega arith
@@ -127,17 +152,17 @@ near-over {a} {b} {e} c C n = record {
   below-by = le-of-mul-le-mul-right {k = c} (omega arith) C;
 }
 
--- the sum of two numbers that stand for fractions of the same denominator
-pub about-add : {f : Format} {x y : Float} {z w : ℤ} {c d e : ℕ} (j : ℕ) → About f x z c d → About f y w c e → 0 < c → j ≤ low f + emax f
-    → (natAbs z + natAbs w) * 2 ^ low f * 2 + d + e < 2 ^ j * c * 2 → About f (add f x y) (z +ℤ w) c (d + e + c * 2 ^ (j - prec f))
-about-add {f} {x} {y} {z} {w} {c} {d} {e} j p q C l h =
+-- the sum of two numbers that stand for fractions of the same denominator, and stay below 2 ^ i
+pub about-add : {f : Format} {x y : Float} {z w : ℤ} {c d e : ℕ} (i : ℕ) → About f x z c d → About f y w c e → i ≤ emax f
+    → (natAbs z + natAbs w) * 2 ^ prec f * 2 + d + e < 2 ^ i * c * 2 ^ prec f * 2 → About f (add f x y) (z +ℤ w) c (d + e + 2 ^ i * c)
+about-add {f} {x} {y} {z} {w} {c} {d} {e} i p q l h =
     let u = 2 ^ low f in
     let v = inUnits f x +ℤ inUnits f y in
-    let few : natAbs (inUnits f x) + natAbs (inUnits f y) < 2 ^ j = lt-of-mul-lt-mul-right (c * 2) (omega (arith, size-of p, size-of q)) in
-    let small : natAbs v * u < 2 ^ j * u = mul-lt-mul-of-pos-right (omega (arith, abs-add (inUnits f x) (inUnits f y))) (pow-pos (low f)) in
-    let r = rounds-about j (add-rounds (p .number) (q .number)) (pow-pos (low f)) small l in
+    let k = mul-lt-mul-of-pos-right h (pow-pos (low f - prec f)) in
+    let few : natAbs (inUnits f x) + natAbs (inUnits f y) < 2 ^ i * u = rw (fines f) (lt-of-mul-lt-mul-right (c * 2) (omega (arith, size-of p, size-of q))) in
+    let r = rounds-about i (add-rounds (p .number) (q .number)) (pow-pos (low f)) (omega (arith, abs-add (inUnits f x) (inUnits f y))) l in
     let t = inUnits f (add f x y) in
-    let n : Near ((above t + below v) * 2) ((above v + below t) * 2) (2 ^ (j - prec f)) = near-over u (pow-pos (low f)) (omega (arith, within r)) in
+    let n : Near ((above t + below v) * 2) ((above v + below t) * 2) (2 ^ i * fine f) = near-over u (pow-pos (low f)) (omega (arith, within r)) in
     let m = near-times c n in
     let a = ap (λ (k : ℕ). k * c) (parts-add (inUnits f x) (inUnits f y)) in
     let b = ap (λ (k : ℕ). k * u) (parts-add z w) in
@@ -153,18 +178,18 @@ about-whole f z h =
     let a : About f (ofInt f z) (signed (isNegative z) (natAbs z)) 1 0 = about-worth (natAbs z) (worth-whole f z h) (omega arith) in
     rw signed-int at a
 
--- divided by a whole number
-pub about-div : {f : Format} {x : Float} {z : ℤ} {c e : ℕ} (j n : ℕ) → About f x z c e → 0 < c → 0 < n → n ≤ 2 ^ prec f → j ≤ low f + emax f
-    → natAbs z * 2 ^ low f * 2 + e < 2 ^ j * (c * n) * 2 → About f (div f x (ofInt f (pos n))) z (c * n) (e + c * n * 2 ^ (j - prec f))
-about-div {f} {x} {z} {c} {e} j n p C N k l h =
+-- divided by a whole number, to less than 2 ^ i
+pub about-div : {f : Format} {x : Float} {z : ℤ} {c e : ℕ} (i n : ℕ) → About f x z c e → 0 < n → n ≤ 2 ^ prec f → i ≤ emax f
+    → natAbs z * 2 ^ prec f * 2 + e < 2 ^ i * (c * n) * 2 ^ prec f * 2 → About f (div f x (ofInt f (pos n))) z (c * n) (e + 2 ^ i * (c * n))
+about-div {f} {x} {z} {c} {e} i n p N k l h =
     let u = 2 ^ low f in
     let v = inUnits f x in
-    let few : natAbs v < 2 ^ j * n = lt-of-mul-lt-mul-right (c * 2) (omega (arith, size-of p)) in
-    let small : natAbs v * u < 2 ^ j * (n * u) = omega (arith, mul-lt-mul-of-pos-right few (pow-pos (low f))) in
-    let r : About f (div f x (ofInt f (pos n))) v (n * u) (n * u * 2 ^ (j - prec f)) =
-    rw (worth-div (worth x (p .number)) n N k) (rw (signed-back (p .number)) at (about-round f (negative x) (natAbs v) (n * u) j (mul-pos N (pow-pos (low f))) small l)) in
+    let g = mul-lt-mul-of-pos-right h (pow-pos (low f - prec f)) in
+    let few : natAbs v < 2 ^ i * (n * u) = rw (fines f) (lt-of-mul-lt-mul-right (c * 2) (omega (arith, size-of p))) in
+    let r : About f (div f x (ofInt f (pos n))) v (n * u) (2 ^ i * (n * u)) =
+    rw (worth-div (worth x (p .number)) n N k) (rw (signed-back (p .number)) at (about-round f (negative x) (natAbs v) (n * u) i (mul-pos N (pow-pos (low f))) few l)) in
     let t = inUnits f (div f x (ofInt f (pos n))) in
-    let q : Near ((above t * n + below v) * 2) ((above v + below t * n) * 2) (n * 2 ^ (j - prec f)) = near-over u (pow-pos (low f)) (omega (arith, within r)) in
+    let q : Near ((above t * n + below v) * 2) ((above v + below t * n) * 2) (2 ^ i * n * fine f) = near-over u (pow-pos (low f)) (omega (arith, within r)) in
     let m = near-times c q in
     about (r .number) (omega (arith, within p))
 
@@ -173,17 +198,37 @@ about-div {f} {x} {z} {c} {e} j n p C N k l h =
 pub number-lt : {f : Format} {x y : Float} → Number f x → Number f y → lt x y ≡ ltZ (inUnits f x) (inUnits f y)
 number-lt {f} {x} {y} n m = rw (← signed-back n, ← signed-back m) (worth-lt (worth x n) (worth y m))
 
+-- a bound on a difference, times k
+spread : (a b c v u x d g k : ℕ) → (a * c + v * u) * 2 ≤ (b * u + x * c) * 2 + d * g
+    → a * c * k * 2 + v * u * k * 2 ≤ b * u * k * 2 + x * c * k * 2 + d * g * k
+spread a b c v u x d g k h = omega (arith, mul-le-mul-right k h)
+
+linear : (x⁺ x⁻ y⁺ y⁻ z⁺ z⁻ w⁺ w⁻ d e u : ℕ) → x⁺ * 2 + z⁻ * 2 ≤ z⁺ * 2 + x⁻ * 2 + d → w⁺ * 2 + y⁻ * 2 ≤ y⁺ * 2 + w⁻ * 2 + e
+    → u + z⁺ + w⁻ ≤ w⁺ + z⁻ → d + e < u * 2 → x⁺ + y⁻ < y⁺ + x⁻
+linear x⁺ x⁻ y⁺ y⁻ z⁺ z⁻ w⁺ w⁻ d e u h k o l = omega arith
+
+-- z / c < w / b, each number a part z⁺ above zero less a part z⁻ below; x and y stand for them
+reach : (x⁺ x⁻ y⁺ y⁻ z⁺ z⁻ w⁺ w⁻ c b d e p u g : ℕ) → 0 < g → u ≡ p * g
+    → (x⁺ * c + z⁻ * u) * 2 ≤ (z⁺ * u + x⁻ * c) * 2 + d * g
+    → (w⁺ * u + y⁻ * b) * 2 ≤ (y⁺ * b + w⁻ * u) * 2 + e * g
+    → z⁺ * b + w⁻ * c < w⁺ * c + z⁻ * b → d * b + e * c < p * 2 → x⁺ + y⁻ < y⁺ + x⁻
+reach x⁺ x⁻ y⁺ y⁻ z⁺ z⁻ w⁺ w⁻ c b d e p u g G eq h k o l =
+    let o' = mul-le-mul-right u o in
+    let l' = mul-lt-mul-of-pos-right l G in
+    let r =
+    linear (x⁺ * c * b) (x⁻ * c * b) (y⁺ * b * c) (y⁻ * b * c) (z⁺ * u * b) (z⁻ * u * b) (w⁺ * u * c) (w⁻ * u * c) (d * g * b) (e * g * c) u
+    (spread x⁺ z⁺ c z⁻ u x⁻ d g b h) (spread w⁺ y⁺ u y⁻ b w⁻ e g c k) (omega arith) (omega arith) in
+    lt-of-mul-lt-mul-right (c * b) (omega arith)
+
 -- numbers that stand for z / c < w / b are in that order, where their errors are too small to reach
 pub about-lt : {f : Format} {x y : Float} {z w : ℤ} {c b d e : ℕ} → About f x z c d → About f y w b e
-    → ltZ (z *ℤ pos b) (w *ℤ pos c) ≡ true → d * b + e * c < 2 ^ low f * 2 → lt x y ≡ true
+    → ltZ (z *ℤ pos b) (w *ℤ pos c) ≡ true → d * b + e * c < 2 ^ prec f * 2 → lt x y ≡ true
 about-lt {f} {x} {y} {z} {w} {c} {b} {d} {e} p q g h =
     let v = inUnits f x in
     let t = inUnits f y in
     let i = parts-times z b in
     let j = parts-times w c in
     let o : above z * b + below w * c < above w * c + below z * b = omega (arith, parts-less (z *ℤ pos b) (w *ℤ pos c) g) in
-    let k = mul-le-mul-right (2 ^ low f) o in
-    let m = near-times b (within p) in
-    let n = near-times c (within q) in
-    let less : above v + below t < above t + below v = lt-of-mul-lt-mul-right (c * b * 2) (omega arith) in
+    let less = reach (above v) (below v) (above t) (below t) (above z) (below z) (above w) (below w) c b d e (2 ^ prec f) (2 ^ low f) (fine f)
+    (pow-pos (low f - prec f)) (fines f) (within p .above-by) (within q .below-by) o h in
     rw (number-lt (p .number) (q .number), parts-lt v t) (lt-ltb (above v + below t) (above t + below v) less)

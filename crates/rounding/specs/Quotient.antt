@@ -22,7 +22,7 @@ use Rattle.rounding.specs.Value.{not-zero, div-at}
 use Rattle.rounding.specs.Whole.{isNegative, whole-value}
 use Rattle.rounding.specs.Units.{inUnits, Number, Worth, unlike-plus, round-worth, sign-sub}
 use Rattle.rounding.specs.Error.{places, closest-near, grid-near, grid-range, grid-relative}
-use Rattle.rounding.specs.About.{About, about-worth, about-lt, number-lt, signed-int}
+use Rattle.rounding.specs.About.{fine, About, about-worth, about-lt, number-lt, signed-int}
 
 -- z / n
 abbrev pub quotient : Format → ℤ → ℕ → Float
@@ -53,17 +53,13 @@ quotient-zero {f} {n} w = quotient-is w ∙ round-same f false 0 n 0 1 (w .some)
 
 -- ---- the error, relative to the size
 
--- 2 ^ low is 2 ^ (prec - 1) times this
-abbrev pub share : Format → ℕ
-share f = 2 ^ (low f + 1 - prec f)
+fine-halves : (f : Format) → 2 ^ low f ≡ 2 * fine f * 2 ^ (prec f - 1)
+fine-halves binary32 = refl
+fine-halves binary64 = refl
 
-shares : (f : Format) → 2 ^ low f ≡ share f * 2 ^ (prec f - 1)
-shares binary32 = refl
-shares binary64 = refl
-
-wide : (f : Format) → 2 ^ prec f ≤ share f
-wide binary32 = lit≤ tt
-wide binary64 = lit≤ tt
+fine-wide : (f : Format) → 2 ^ prec f ≤ 2 * fine f
+fine-wide binary32 = lit≤ tt
+fine-wide binary64 = lit≤ tt
 
 room : (f : Format) → low f + suc (prec f) ≤ low f + emax f
 room binary32 = lit≤ tt
@@ -79,30 +75,30 @@ grid-zero f c C =
     ap (λ (q : ℕ). q * 2 ^ k) z ∙ zero-mul (2 ^ k)
 
 module _ (f : Format) (a n : ℕ) (N : 0 < n) (d : n ≤ 2 ^ prec f) where
-  grid-share : Near (grid f a n * n * 2) (a * 2 ^ low f * 2) (a * share f)
+  grid-share : Near (grid f a n * n * 2) (a * 2 ^ low f * 2) (a * 2 * fine f)
   grid-share = go (eq-zero-or-pos a)
     where
-      go : (a ≡ 0) ⊎ (0 < a) → Near (grid f a n * n * 2) (a * 2 ^ low f * 2) (a * share f)
+      go : (a ≡ 0) ⊎ (0 < a) → Near (grid f a n * n * 2) (a * 2 ^ low f * 2) (a * 2 * fine f)
       go (inl e) = rw (e, grid-zero f n N) (omega arith)
       go (inr p) =
           let top = 2 ^ (prec f - 1) in
-          let s = shares f in
-          let b = mul-le-mul-left top (le-trans d (wide f)) in
+          let s = fine-halves f in
+          let b = mul-le-mul-left top (le-trans d (fine-wide f)) in
           let c = mul-le-mul-right (2 ^ low f) p in
           let normal : top * n ≤ a * 2 ^ low f = omega arith in
           let g = grid-relative f a n N (normal-of-fraction f a n N normal) in
           let t = ap (λ (z : ℕ). a * z) s in
-          let r : n * 2 ^ places f a n ≤ a * share f = le-of-mul-le-mul-right {k = top} (omega arith) (pow-pos (prec f - 1)) in
+          let r : n * 2 ^ places f a n ≤ a * 2 * fine f = le-of-mul-le-mul-right {k = top} (omega arith) (pow-pos (prec f - 1)) in
           omega (arith, grid-near f a n N)
 
   -- where a is not 0, so is its quotient
   grid-some : 0 < a → 0 < grid f a n
   grid-some h =
       let top = 2 ^ (prec f - 1) in
-      let t = ap (λ (z : ℕ). a * z) (shares f) in
+      let t = ap (λ (z : ℕ). a * z) (fine-halves f) in
       let l : 2 ^ 1 ≤ top = pow-mono {i = 1} {j = prec f - 1} (omega (arith, two f)) in
-      let m = mul-le-mul-left (a * share f) l in
-      let p : 0 < a * share f = mul-pos h (pow-pos (low f + 1 - prec f)) in
+      let m = mul-le-mul-left (a * 2 * fine f) l in
+      let p : 0 < a * fine f = mul-pos h (pow-pos (low f - prec f)) in
       first-pos (grid f a n) (n * 2) (omega (arith, grid-share))
 
   grid-inside : a ≤ 2 ^ prec f → grid f a n < overflow f
@@ -119,10 +115,10 @@ module _ {f : Format} {z : ℤ} {n : ℕ} (w : Whole f z n) where
   pub quotient-worth : Worth f (quotient f z n) (isNegative z) (grid f (natAbs z) n)
   quotient-worth = rw (quotient-is w) (round-worth f (isNegative z) (natAbs z) n (grid-inside f (natAbs z) n (w .some) (w .divisor) (w .size)))
 
-  -- it stands for its fraction, within one part in 2 ^ prec of its size
-  pub about-quotient : About f (quotient f z n) z n (natAbs z * share f)
+  -- it stands for its fraction, within 2 ^ -prec of its size
+  pub about-quotient : About f (quotient f z n) z n (natAbs z * 2)
   about-quotient =
-      let a : About f (quotient f z n) (signed (isNegative z) (natAbs z)) n (natAbs z * share f) =
+      let a : About f (quotient f z n) (signed (isNegative z) (natAbs z)) n (natAbs z * 2) =
       about-worth (natAbs z) quotient-worth (grid-share f (natAbs z) n (w .some) (w .divisor)) in
       rw signed-int at a
 
@@ -135,10 +131,6 @@ module _ {f : Format} {z : ℤ} {n : ℕ} (w : Whole f z n) where
       go (negsuc k) h = rw (ne-eqb (grid f (suc k) n) 0 (not-zero (grid f (suc k) n) (h (zero-lt-suc k)))) tt
 
 -- ---- order
-
-tops : (f : Format) → 2 ^ prec f * share f ≡ 2 ^ low f * 2
-tops binary32 = refl
-tops binary64 = refl
 
 sign-same : (a b : ℤ) (n m : ℕ) → 0 < n → 0 < m → below a * m ≡ below b * n → isNegative a ≡ isNegative b
 sign-same (pos a) (pos b) n m N M e = refl
@@ -170,24 +162,21 @@ module _ {f : Format} {a b : ℤ} {n m : ℕ} (v : Whole f a n) (w : Whole f b m
         y : Float
         y = quotient f b m
 
-        i : About f x a n (natAbs a * share f)
+        i : About f x a n (natAbs a * 2)
         i = about-quotient v
 
-        j : About f y b m (natAbs b * share f)
+        j : About f y b m (natAbs b * 2)
         j = about-quotient w
-
-        small : natAbs a * share f * m + natAbs b * share f * n < 2 ^ low f * 2
-        small = omega (arith, tops f, mul-lt-mul-of-pos-right h (pow-pos (low f + 1 - prec f)))
 
         same : x ≡ y → lt x y ≡ false
         same e = rw (← e) (number-lt (i .number) (i .number) ∙ self-not-less (inUnits f x))
 
         go : (ltZ (a *ℤ pos m) (b *ℤ pos n) ≡ true) ⊎ ((ltZ (b *ℤ pos n) (a *ℤ pos m) ≡ true) ⊎ (a *ℤ pos m ≡ b *ℤ pos n))
             → lt x y ≡ ltZ (a *ℤ pos m) (b *ℤ pos n)
-        go (inl l) = about-lt i j l small ∙ sym l
+        go (inl l) = about-lt i j l (omega arith) ∙ sym l
         go (inr (inl g)) =
             number-lt (i .number) (j .number)
-            ∙ not-less (inUnits f y) (inUnits f x) (sym (number-lt (j .number) (i .number)) ∙ about-lt j i g (omega (arith, small)))
+            ∙ not-less (inUnits f y) (inUnits f x) (sym (number-lt (j .number) (i .number)) ∙ about-lt j i g (omega arith))
             ∙ sym (not-less (b *ℤ pos n) (a *ℤ pos m) g)
         go (inr (inr e)) = same (quotient-same e) ∙ sym (rw e (self-not-less (b *ℤ pos n)))
 
