@@ -67,7 +67,7 @@ unfolding emaLine emaFrom
 causal-ema n p =
     causal-from (n - 1) nan
     (λ f g b s l. recur-same _ _ _ _ (b + 1 - n) (ap (over n) (sumFrom-same minusZero f g 0 n (λ j m. s j (omega arith))))
-      (λ j x m. rw (s (n + j) (omega arith))))
+    (λ j x m. rw (s (n + j) (omega arith))))
 
 pub causal-exponential : (alpha : Float) → Causal (exponentialLine alpha)
 unfolding exponentialLine

@@ -7,7 +7,15 @@ use lib.ListN.{length}
 use lib.Ieee.{Float}
 use Rattle.calls.specs.declared.Refusal.{Refusal}
 use Rattle.calls.specs.declared.Refusal.the-variants.{
-  SeriesTooLong, LengthsDiffer, OutputTooShort, WorkTooShort, ValueNotAccepted, ParameterNotFinite, WindowTooLong, SeriesTooShort, WindowsOutOfOrder,
+  SeriesTooLong,
+  LengthsDiffer,
+  OutputTooShort,
+  WorkTooShort,
+  ValueNotAccepted,
+  ParameterNotFinite,
+  WindowTooLong,
+  SeriesTooShort,
+  WindowsOutOfOrder,
 }
 use Rattle.calls.specs.declared.Answer.{Answer}
 use Rattle.calls.specs.declared.Answer.the-variants.{Cells, Refused}

@@ -10,13 +10,15 @@ use lib.Dec.{T, ltb, eqb, ltb→lt, nltb→le, lit≤}
 use lib.IntN.{ℤ, pos, negsuc, negℤ, natAbs, _+ℤ_, _-ℤ_, _*ℤ_, negℤ-+ℤ, +ℤ-comm}
 use lib.Signed.{ltZ}
 use lib.Pow.{pow-pos, pow-add}
-use borrow.Author.Tests.{lt-ltb}
-use lib.Ieee.{Float, Format, binary32, binary64, prec, emax, low, round, sum, add, sub, div, lt, ofInt}
+use borrow.Author.Tests.{lt-ltb, ne-eqb}
+use lib.Ieee.{Float, fin, Format, binary32, binary64, prec, emax, low, round, sum, add, sub, div, lt, eq, ofInt}
+use lib.Ieee.Positive.{first-pos}
 use lib.Ieee.Scale.{grid, overflow}
+use Rattle.rounding.specs.Value.{not-zero}
 use Rattle.rounding.specs.Leaves.{one, negative, signOf}
 use Rattle.rounding.specs.Integers.{above, below, signed, Near, parts-abs, parts-add, parts-times, parts-signed, parts-same, parts-lt, parts-less, near-abs, abs-near, abs-add}
 use Rattle.rounding.specs.Whole.{isNegative, sum-turned}
-use Rattle.rounding.specs.Units.{inUnits, Number, Worth, worth, worth-number, worth-units, abs-signed, worth-whole, worth-add, worth-div, worth-lt, round-worth}
+use Rattle.rounding.specs.Units.{inUnits, Number, Worth, worth, worth-number, worth-units, abs-signed, worth-whole, worth-add, worth-div, worth-lt, worth-zero, round-worth}
 use Rattle.rounding.specs.Error.{grid-within, grid-range}
 
 -- how far x is from z / c, times c · 2 ^ low: a whole number
@@ -232,3 +234,18 @@ about-lt {f} {x} {y} {z} {w} {c} {b} {d} {e} p q g h =
     let less = reach (above v) (below v) (above t) (below t) (above z) (below z) (above w) (below w) c b d e (2 ^ prec f) (2 ^ low f) (fine f)
     (pow-pos (low f - prec f)) (fines f) (within p .above-by) (within q .below-by) o h in
     rw (number-lt (p .number) (q .number), parts-lt v t) (lt-ltb (above v + below t) (above t + below v) less)
+
+-- and a number that stands for a fraction other than 0 is not 0
+pub about-some : {f : Format} {x : Float} {z : ℤ} {c e : ℕ} → About f x z c e → 0 < natAbs z → e < 2 ^ prec f * 2 → eq x (fin false 0 (pos 0)) ≡ false
+about-some {f} {x} {z} {c} {e} a h l =
+    let k = mul-le-mul-right (2 ^ low f) h in
+    let m = mul-lt-mul-of-pos-right l (pow-pos (low f - prec f)) in
+    let u = fines f in
+    let p : 0 < natAbs (inUnits f x) = first-pos (natAbs (inUnits f x)) (c * 2) (omega (arith, go (inUnits f x) z (within a))) in
+    worth-zero (worth x (a .number)) ∙ ne-eqb (natAbs (inUnits f x)) 0 (not-zero (natAbs (inUnits f x)) p)
+  where
+    go : (v z : ℤ) → Within f v z c (e * fine f) → natAbs z * 2 ^ low f * 2 ≤ natAbs v * (c * 2) + e * fine f
+    go (pos v) (pos z) n = omega arith
+    go (pos v) (negsuc z) n = omega arith
+    go (negsuc v) (pos z) n = omega arith
+    go (negsuc v) (negsuc z) n = omega arith

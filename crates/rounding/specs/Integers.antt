@@ -102,8 +102,10 @@ one-of-three a b = go (ltb p q) (ltb q p) (ltb→lt p q) (ltb→lt q p) (nltb→
   where
     p : ℕ
     p = above a + below b
+
     q : ℕ
     q = above b + below a
+
     go : (t u : Bool) → (T t → p < q) → (T u → q < p) → (T (not t) → q ≤ p) → (T (not u) → p ≤ q)
         → (ltZ a b ≡ true) ⊎ ((ltZ b a ≡ true) ⊎ (a ≡ b))
     go true u h k h' k' = inl (parts-lt a b ∙ lt-ltb p q (h tt))

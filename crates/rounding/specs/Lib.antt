@@ -9,5 +9,5 @@ pub mod Whole
 pub mod Units
 pub mod Error
 pub mod About
-pub mod Quotient
 pub mod Nearest
+pub mod Quotient

@@ -244,8 +244,8 @@ module _ (f : Format) (s : Bool) (a c : ℕ) (C : 0 < c) (h : grid f a c < overf
           record {
             least = rw (here, d) (omega arith);
             even = λ i j.
-              let g : gap (grid f a c * c) (a * u) ≡ natAbs v * c + a * u = sym here ∙ i ∙ d in
-              b .even (omega arith) (λ (z : grid f a c ≡ 0). j (worth-units found ∙ ap (signed s) z ∙ zero-signed s ∙ sym (none v c C (omega arith))));
+                let g : gap (grid f a c * c) (a * u) ≡ natAbs v * c + a * u = sym here ∙ i ∙ d in
+                b .even (omega arith) (λ (z : grid f a c ≡ 0). j (worth-units found ∙ ap (signed s) z ∙ zero-signed s ∙ sym (none v c C (omega arith))));
           }
 
   -- a fraction rounded is the nearest number

@@ -21,6 +21,7 @@ use Rattle.rounding.specs.Integers.{above, below, signed, Near, parts-ab
 use Rattle.rounding.specs.Value.{not-zero, div-at}
 use Rattle.rounding.specs.Whole.{isNegative, whole-value}
 use Rattle.rounding.specs.Units.{inUnits, Number, Worth, unlike-plus, round-worth, sign-sub}
+use Rattle.rounding.specs.Nearest.{NearestTo, round-nearest}
 use Rattle.rounding.specs.Error.{places, closest-near, grid-near, grid-range, grid-relative}
 use Rattle.rounding.specs.About.{fine, About, about-worth, about-lt, number-lt, signed-int}
 
@@ -114,6 +115,12 @@ module _ (f : Format) (a n : ℕ) (N : 0 < n) (d : n ≤ 2 ^ prec f) where
 module _ {f : Format} {z : ℤ} {n : ℕ} (w : Whole f z n) where
   pub quotient-worth : Worth f (quotient f z n) (isNegative z) (grid f (natAbs z) n)
   quotient-worth = rw (quotient-is w) (round-worth f (isNegative z) (natAbs z) n (grid-inside f (natAbs z) n (w .some) (w .divisor) (w .size)))
+
+  -- no number of the format is nearer to the fraction
+  pub quotient-nearest : NearestTo f z n (quotient f z n)
+  quotient-nearest =
+      let r = round-nearest f (isNegative z) (natAbs z) n (w .some) (grid-inside f (natAbs z) n (w .some) (w .divisor) (w .size)) in
+      rw (quotient-is w) (rw signed-int at r)
 
   -- it stands for its fraction, within 2 ^ -prec of its size
   pub about-quotient : About f (quotient f z n) z n (natAbs z * 2)

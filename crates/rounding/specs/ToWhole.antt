@@ -42,7 +42,7 @@ written s (suc m) e t =
     record {
       digits = ltb→lt (suc m) (2 ^ 53) (and-r odd small b);
       places = leb→le (down e) (2 ^ 1074) (and-r (odd && small) near a);
-      size = ltb→lt (suc m * up e) (2 ^ 1024 * down e) (and-r (odd && small && near) below t)
+      size = ltb→lt (suc m * up e) (2 ^ 1024 * down e) (and-r (odd && small && near) below t);
     }
 
 -- ---- below 2 ^ 52: twice the number, its whole part, and one more halved
@@ -97,7 +97,7 @@ cut (fin false m e) a c p v h =
     record {
       above = lt→ltb 0 (1 * d + n * 1) (omega arith);
       below = lt→ltb (n * 1) (1 * 2 ^ 64 * d) (omega arith);
-      part = sym (uncapped (n / d) less) ∙ same
+      part = sym (uncapped (n / d) less) ∙ same;
     }
   where
     uncapped : (k : ℕ) → k < 2 ^ 53 → k ≡ min k (2 ^ 64 - 1)
@@ -152,7 +152,7 @@ halves (fin s m e) f l =
       above = c .above;
       below = c .below;
       small = rw (c .part) (div-lt-iff-lt-mul pos-d .1 most);
-      whole = rw (c .part, half-of-more n d (down-pos e))
+      whole = rw (c .part, half-of-more n d (down-pos e));
     }
   where
     below-limit : (n d : ℕ) → n * 1 < 1 * 2 ^ 52 * d → n < 2 ^ 52 * d
@@ -180,6 +180,6 @@ whole-already (fin s m (pos k)) f l =
   where
     halved : (n : ℕ) → n ≡ (2 * n + 1) / 2
     halved n = omega arith
-whole-already (fin s m (negsuc k)) f l = 
+whole-already (fin s m (negsuc k)) f l =
     absurd (no-fraction m (2 ^ k) (written s m (negsuc k) f .digits) (pow-pos k)
     (rw (pow-succ' 2 k) at (ltb-false (m * 1 * 1) (1 * 2 ^ 52 * 2 ^ suc k) l)))
