@@ -1,13 +1,16 @@
 -- Laws of signs: where a program reads one, and what the sign of a difference is. Assumes nothing.
-use mathlib.Core.Bool.{Bool, true, false, not, _&&_, cond, true≢false}
+use mathlib.Core.Bool.{Bool, true, false, cond, true≢false}
 use mathlib.Core.Path.{_≡_, refl, sym, ap, _∙_}
-use Prim.Native.Nat.{ℕ, zero, suc, _+_, _-_, _*_, _/_, _%_, _^_}
-use borrow.Author.Tests.{eq-eqb}
+use Prim.Native.Nat.{ℕ, zero, suc, _+_, _-_, _*_, _/_, _%_, _^_, _<_}
+use native.Mathlib.Nat.{le-of-lt, lt-of-lt-of-le, le-add-right, mul-pos}
+use native.Mathlib.Omega.{arith}
+use borrow.Author.Tests.{eq-eqb, ltb-true, lt-ltb, le-ltb}
 use lib.Dec.{T, leb, eqb, ltb}
-use lib.IntN.{ℤ, pos}
-use lib.Ieee.{Float, nan, inf, fin, Format, binary64, up, down, neg, odd, units, round, sum, add, sub, lt, le, eq, ne, fits, isNan, ones, ofFields, ofBits, toBits}
+use lib.Ieee.{Float, nan, inf, fin, binary64, up, down, neg, odd, units, round, sum, sub, lt, eq, ne, fits, isNan, ofFields, ofBits, toBits}
 use lib.Ieee.Bits.{ofBits-toBits}
-use Rattle.rounding.specs.Leaves.{one, plusOne, minusOne, negative, magnitudeOf, signOf}
+use lib.Ieee.Fits.{round-is, down-pos}
+use lib.Ieee.Scale.{finite}
+use Rattle.rounding.specs.Leaves.{plusZero, one, plusOne, minusOne, negative, magnitudeOf, signOf}
 
 -- only a NaN differs from itself
 pub differs-nan : (x : Float) → ne x x ≡ isNan x
@@ -74,3 +77,60 @@ unfolding signOf isNan
 sign-nan nan n = refl
 sign-nan (inf s) n = absurd (true≢false (sym n))
 sign-nan (fin s m e) n = absurd (true≢false (sym n))
+
+-- ---- the sign of a difference
+
+odd-sign : (s : Bool) (q k : ℕ) → signOf (odd 54 s q k 1074) ≡ one s
+unfolding odd signOf
+odd-sign s zero k = refl
+odd-sign s (suc q) k = refl
+
+units-sign : (s : Bool) (q k : ℕ) → signOf (units binary64 s q k) ≡ one s
+unfolding units signOf
+units-sign s q k = go (ltb (q * 2 ^ k) (2 ^ 2098))
+  where
+    go : (t : Bool) → signOf (cond t (odd 54 s q k 1074) (inf s)) ≡ one s
+    go true = odd-sign s q k
+    go false = refl
+
+-- what is rounded keeps its sign
+pub sign-round : (s : Bool) (a b : ℕ) → signOf (round binary64 s a b) ≡ one s
+sign-round s a b = ap signOf (round-is binary64 s a b) ∙ units-sign s _ _
+
+-- a / c - b / c, and b / c - a / c
+sign-less : (a b c : ℕ) → signOf (sum binary64 false a true b c) ≡ cond (ltb a b) minusOne plusOne
+unfolding sum
+sign-less a b c = go (ltb a b)
+  where
+    go : (t : Bool) → signOf (cond t (round binary64 true (b - a) c) (round binary64 false (a - b) c)) ≡ cond t minusOne plusOne
+    go true = sign-round true (b - a) c
+    go false = sign-round false (a - b) c
+
+sign-more : (a b c : ℕ) → signOf (sum binary64 true a false b c) ≡ cond (ltb b a) minusOne plusOne
+unfolding sum
+sign-more a b c = go (ltb a b) (ltb b a) (λ l. le-ltb b a (le-of-lt (ltb-true a b l)))
+  where
+    go : (t u : Bool) → (t ≡ true → u ≡ false) → signOf (cond t (round binary64 false (b - a) c) (round binary64 u (a - b) c)) ≡ cond u minusOne plusOne
+    go true u h = rw (h refl) (sign-round false (b - a) c)
+    go false true h = sign-round true (a - b) c
+    go false false h = sign-round false (a - b) c
+
+-- The sign of x - y, for numbers x and y: -1 where x is below y, else +1. Only -0.0 less +0.0 is left out, which has the sign -1.
+pub sign-difference : (x y : Float) → T (finite x) → T (finite y) → (negative x ≡ true → lt x plusZero ≡ true)
+    → signOf (sub binary64 x y) ≡ cond (lt x y) minusOne plusOne
+unfolding sub lt negative
+sign-difference nan y p q h = absurd p
+sign-difference (inf s) y p q h = absurd p
+sign-difference (fin s m e) nan p q h = absurd q
+sign-difference (fin s m e) (inf t) p q h = absurd q
+sign-difference (fin false m e) (fin false n d) p q h = sign-less (m * up e * down d) (n * up d * down e) (down e * down d)
+sign-difference (fin false m e) (fin true n d) p q h = sign-round false (m * up e * down d + n * up d * down e) (down e * down d)
+sign-difference (fin true m e) (fin false n d) p q h =
+    let a = m * up e * down d in
+    let b = n * up d * down e in
+    let above : 0 < m * up e = cleared (m * up e) (down e) (ltb-true 0 (m * up e * 1 + 0 * 1 * down e) (h refl)) in
+    rw (lt-ltb 0 (a + b) (lt-of-lt-of-le (mul-pos above (down-pos d)) (le-add-right a b))) (sign-round true (a + b) (down e * down d))
+  where
+    cleared : (n d : ℕ) → 0 < n * 1 + 0 * 1 * d → 0 < n
+    cleared n d l = omega arith
+sign-difference (fin true m e) (fin true n d) p q h = sign-more (m * up e * down d) (n * up d * down e) (down e * down d)

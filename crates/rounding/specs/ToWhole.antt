@@ -1,20 +1,20 @@
 -- Why `round_to_whole` is right: doubling is exact below 2 ^ 52, the whole part of twice a number says where its half goes, and from 2 ^ 52 on every number is whole.
 -- Assumes nothing.
 use mathlib.Core.Bool.{Bool, true, false, not, _&&_, cond, true≢false}
-use mathlib.Core.Path.{_≡_, refl, sym, ap, _∙_, subst}
+use mathlib.Core.Path.{_≡_, refl, sym, ap, _∙_}
 use Prim.Native.Nat.{ℕ, zero, suc, _+_, _-_, _*_, _/_, _%_, _^_, _≤_, _<_, min}
 use native.Mathlib.Nat.{zero-lt-suc, mul-one, one-mul, zero-mul, mul-comm, mul-assoc, mul-right-comm, mul-pos, lt-of-lt-of-le, lt-of-le-of-lt, le-of-eq, lt-of-not-le, le-of-suc-le-suc, lt-irrefl, lt-of-mul-lt-mul-right, mul-lt-mul-of-pos-right, div-lt-iff-lt-mul, add-div-right, pow-succ', div-div-eq-div-mul}
 use native.Mathlib.Omega.{arith}
 use borrow.Author.Tests.{ltb-true, ltb-false}
-use lib.Dec.{T, leb, ltb, eqb, leb→le, ltb→lt, lt→ltb, le→leb, eqb→eq, lit≤, lit<}
+use lib.Dec.{T, leb, ltb, eqb, leb→le, ltb→lt, lt→ltb, eqb→eq, lit≤, lit<}
 use lib.IntN.{ℤ, pos, negsuc}
 use lib.Pow.{pow-add, pow-pos, pow-lt, pow-mono, shl-lt}
-use lib.Ieee.{Float, nan, inf, fin, Format, binary64, up, down, neg, odd, units, round, mul, lt, fits, ofInt, toUnsigned, inFloat}
+use lib.Ieee.{Float, nan, inf, fin, binary64, up, down, neg, odd, units, round, mul, lt, fits, toUnsigned}
 use lib.Ieee.Exact.{HasValue, round-exact}
 use lib.Ieee.Fits.{and-l, and-r, down-pos, round-fits, round-is}
 use lib.Ieee.Back.{whole-unique}
 use lib.Ieee.Nearest.{div-same}
-use Rattle.rounding.specs.Leaves.{negative, magnitudeOf, halfUp, roundToWhole}
+use Rattle.rounding.specs.Leaves.{negative, magnitudeOf, roundToWhole}
 
 -- ---- what an f64 is written with
 

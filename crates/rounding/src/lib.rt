@@ -1,7 +1,7 @@
 // The leaves: numbers taken apart and rounded, each equal to one definition for every f64.
 ghost use mathlib.Core.Path.{_≡_};
 ghost use lib.Ieee.{isNan};
-ghost use Rattle.rounding.specs.Leaves.{negative, magnitudeOf, signOf};
+ghost use Rattle.rounding.specs.Leaves.{negative, magnitudeOf, signOf, roundToWhole};
 
 // Whether x is no number.
 pub fn is_nan(x: f64) -> bool
@@ -38,5 +38,19 @@ pub fn sign(x: f64) -> f64
         -1.0
     } else {
         1.0
+    }
+}
+
+// The whole number nearest x, a half away from zero. From 2^52 on every number is whole.
+pub fn round_to_whole(x: f64) -> f64
+    ensures { λ r. ⌜ r ≡ roundToWhole x ⌝ }
+{
+    let size = magnitude(x);
+    if size < 4503599627370496.0 {
+        let halves = std::num::truncating_f64_to_u64(size * 2.0);
+        let whole = ((halves + 1) / 2) as f64;
+        if is_negative(x) { -whole } else { whole }
+    } else {
+        x
     }
 }

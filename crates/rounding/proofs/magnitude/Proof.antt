@@ -1,5 +1,4 @@
 -- `magnitude` meets its contract: a set sign is turned. Assumes nothing.
-use mathlib.Core.Path.{_≡_, sym, _∙_}
 use borrow.Author.Needs.{needs}
 use Rattle.rounding.specs.Signs.{magnitude-is}
 use Rattle.rounding.proofs.magnitude.Statement.{statement}
