@@ -2,8 +2,8 @@
 -- sum or of a mean is read off the operations; and numbers that stand for different fractions are in the fractions' order where their
 -- errors are too small to reach. Assumes nothing.
 use mathlib.Core.Path.{_≡_, refl, sym, ap, _∙_}
-use mathlib.Core.Bool.{Bool, true, false, not, _&&_, cond}
-use Prim.Native.Nat.{ℕ, suc, _+_, _-_, _*_, _/_, _^_, _<_, _≤_}
+use mathlib.Core.Bool.{Bool, true, false, not, true≢false, cond}
+use Prim.Native.Nat.{ℕ, suc, _+_, _-_, _*_, _/_, _^_, _<_, _≤_, zero-le}
 use native.Mathlib.Nat.{le-refl, le-trans, mul-le-mul-right, mul-pos, le-of-mul-le-mul-right, lt-of-mul-lt-mul-right, mul-lt-mul-of-pos-right}
 use native.Mathlib.Omega.{arith}
 use lib.Dec.{T, ltb, eqb, ltb→lt, nltb→le, lit≤}
@@ -15,8 +15,9 @@ use lib.Ieee.{Float, fin, Format, binary32, binary64, prec, emax, low, round, su
 use lib.Ieee.Positive.{first-pos}
 use lib.Ieee.Scale.{grid, overflow}
 use Rattle.rounding.specs.Value.{not-zero}
-use Rattle.rounding.specs.Leaves.{one, negative, signOf}
-use Rattle.rounding.specs.Integers.{above, below, signed, Near, parts-abs, parts-add, parts-times, parts-signed, parts-same, parts-lt, parts-less, near-abs, abs-near, abs-add}
+use Rattle.rounding.specs.Leaves.{plusZero, plusOne, minusOne, negative, signOf}
+use Rattle.rounding.specs.Signs.{sign-difference}
+use Rattle.rounding.specs.Integers.{above, below, signed, Near, parts-abs, parts-add, parts-times, parts-signed, parts-same, parts-lt, parts-less, less-parts, near-abs, abs-near, abs-add}
 use Rattle.rounding.specs.Whole.{isNegative, sum-turned}
 use Rattle.rounding.specs.Units.{inUnits, Number, Worth, worth, worth-number, worth-units, abs-signed, worth-whole, worth-add, worth-div, worth-lt, worth-zero, round-worth}
 use Rattle.rounding.specs.Error.{grid-within, grid-range}
@@ -235,8 +236,31 @@ about-lt {f} {x} {y} {z} {w} {c} {b} {d} {e} p q g h =
     (pow-pos (low f - prec f)) (fines f) (within p .above-by) (within q .below-by) o h in
     rw (number-lt (p .number) (q .number), parts-lt v t) (lt-ltb (above v + below t) (above t + below v) less)
 
+zero-is : (f : Format) → ofInt f (pos 0) ≡ plusZero
+unfolding ofInt
+zero-is binary32 = refl
+zero-is binary64 = refl
+
+-- a number that stands for a negative fraction is below 0, so what has its fraction's sign is not -0.0
+pub about-below : {f : Format} {x : Float} {z : ℤ} {c e : ℕ} → About f x z c e → negative x ≡ isNegative z → e < 2 ^ prec f * 2
+    → negative x ≡ true → lt x plusZero ≡ true
+about-below {f} {x} {z} {c} {e} a s h = go z a s
+  where
+    go : (z : ℤ) → About f x z c e → negative x ≡ isNegative z → negative x ≡ true → lt x plusZero ≡ true
+    go (pos n) a s t = absurd (true≢false (sym t ∙ s))
+    go (negsuc n) a s t =
+        let p = parts-times (negsuc n) 1 in
+        let q = parts-times (pos 0) c in
+        let less = less-parts (negsuc n *ℤ pos 1) (pos 0 *ℤ pos c) (omega arith) in
+        rw (← zero-is f) (about-lt a (about-whole f (pos 0) zero-le) less (omega arith))
+
+-- the sign of a difference, where the first has its fraction's sign
+pub about-sign : {x y : Float} {z w : ℤ} {c b d e : ℕ} → About binary64 x z c d → About binary64 y w b e → negative x ≡ isNegative z
+    → d < 2 ^ 53 * 2 → signOf (sub binary64 x y) ≡ cond (lt x y) minusOne plusOne
+about-sign {x} {y} p q s h = sign-difference x y (p .number .ends) (q .number .ends) (about-below p s h)
+
 -- and a number that stands for a fraction other than 0 is not 0
-pub about-some : {f : Format} {x : Float} {z : ℤ} {c e : ℕ} → About f x z c e → 0 < natAbs z → e < 2 ^ prec f * 2 → eq x (fin false 0 (pos 0)) ≡ false
+pub about-some : {f : Format} {x : Float} {z : ℤ} {c e : ℕ} → About f x z c e → 0 < natAbs z → e < 2 ^ prec f * 2 → eq x plusZero ≡ false
 about-some {f} {x} {z} {c} {e} a h l =
     let k = mul-le-mul-right (2 ^ low f) h in
     let m = mul-lt-mul-of-pos-right l (pow-pos (low f - prec f)) in

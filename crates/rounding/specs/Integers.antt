@@ -91,6 +91,9 @@ parts-lt (negsuc a) (negsuc b) = ltb-same b a (0 + suc b) (0 + suc a) (λ h. ome
 pub parts-less : (a b : ℤ) → ltZ a b ≡ true → above a + below b < above b + below a
 parts-less a b h = ltb-true (above a + below b) (above b + below a) (sym (parts-lt a b) ∙ h)
 
+pub less-parts : (a b : ℤ) → above a + below b < above b + below a → ltZ a b ≡ true
+less-parts a b h = parts-lt a b ∙ lt-ltb (above a + below b) (above b + below a) h
+
 pub not-less : (a b : ℤ) → ltZ a b ≡ true → ltZ b a ≡ false
 not-less a b h = let l = parts-less a b h in parts-lt b a ∙ le-ltb (above b + below a) (above a + below b) (omega arith)
 

@@ -1,7 +1,7 @@
 -- Quotients of whole numbers: each is one fraction rounded once, and two of them are in the order of their fractions. Assumes nothing.
 use mathlib.Core.Path.{_≡_, refl, sym, ap, _∙_}
 use mathlib.Core.Logic.{_⊎_, inl, inr}
-use mathlib.Core.Bool.{Bool, true, false, not, _&&_}
+use mathlib.Core.Bool.{Bool, true, false, cond}
 use Prim.Native.Nat.{ℕ, zero, suc, _+_, _-_, _*_, _/_, _^_, _<_, _≤_}
 use native.Mathlib.Nat.{le-trans, le-refl, mul-one, mul-le-mul-right, mul-le-mul-left, mul-pos, zero-mul, eq-zero-or-pos, le-of-mul-le-mul-right, lt-of-mul-lt-mul-right, mul-lt-mul-of-pos-right, zero-lt-suc, pow-suc, le-mul-of-pos-right}
 use native.Mathlib.Omega.{arith}
@@ -16,14 +16,14 @@ use lib.Ieee.Fits.{two}
 use lib.Ieee.Positive.{first-pos}
 use lib.Ieee.Order.{kept, drop}
 use lib.Ieee.Scale.{grid, overflow, round-same, normal-of-fraction}
-use Rattle.rounding.specs.Leaves.{one, signOf}
+use Rattle.rounding.specs.Leaves.{plusOne, minusOne, signOf}
 use Rattle.rounding.specs.Integers.{above, below, signed, Near, parts-abs, parts-times, one-of-three, not-less, self-not-less}
 use Rattle.rounding.specs.Value.{not-zero, div-at}
 use Rattle.rounding.specs.Whole.{isNegative, whole-value}
-use Rattle.rounding.specs.Units.{inUnits, Number, Worth, unlike-plus, round-worth, sign-sub}
+use Rattle.rounding.specs.Units.{inUnits, Number, Worth, unlike-plus, round-worth, worth-negative}
 use Rattle.rounding.specs.Nearest.{NearestTo, round-nearest}
 use Rattle.rounding.specs.Error.{places, closest-near, grid-near, grid-range, grid-relative}
-use Rattle.rounding.specs.About.{fine, About, about-worth, about-lt, number-lt, signed-int}
+use Rattle.rounding.specs.About.{fine, About, about-worth, about-lt, about-sign, number-lt, signed-int}
 
 -- z / n
 abbrev pub quotient : Format → ℤ → ℕ → Float
@@ -92,16 +92,6 @@ module _ (f : Format) (a n : ℕ) (N : 0 < n) (d : n ≤ 2 ^ prec f) where
           let r : n * 2 ^ places f a n ≤ a * 2 * fine f = le-of-mul-le-mul-right {k = top} (omega arith) (pow-pos (prec f - 1)) in
           omega (arith, grid-near f a n N)
 
-  -- where a is not 0, so is its quotient
-  grid-some : 0 < a → 0 < grid f a n
-  grid-some h =
-      let top = 2 ^ (prec f - 1) in
-      let t = ap (λ (z : ℕ). a * z) (fine-halves f) in
-      let l : 2 ^ 1 ≤ top = pow-mono {i = 1} {j = prec f - 1} (omega (arith, two f)) in
-      let m = mul-le-mul-left (a * 2 * fine f) l in
-      let p : 0 < a * fine f = mul-pos h (pow-pos (low f - prec f)) in
-      first-pos (grid f a n) (n * 2) (omega (arith, grid-share))
-
   grid-inside : a ≤ 2 ^ prec f → grid f a n < overflow f
   grid-inside h =
       let j = low f + suc (prec f) in
@@ -128,14 +118,6 @@ module _ {f : Format} {z : ℤ} {n : ℕ} (w : Whole f z n) where
       let a : About f (quotient f z n) (signed (isNegative z) (natAbs z)) n (natAbs z * 2) =
       about-worth (natAbs z) quotient-worth (grid-share f (natAbs z) n (w .some) (w .divisor)) in
       rw signed-int at a
-
-  -- and is never -0.0
-  pub quotient-zero-sign : T (not (isNegative z && eqb (grid f (natAbs z) n) 0))
-  quotient-zero-sign = go z (grid-some f (natAbs z) n (w .some) (w .divisor))
-    where
-      go : (z : ℤ) → (0 < natAbs z → 0 < grid f (natAbs z) n) → T (not (isNegative z && eqb (grid f (natAbs z) n) 0))
-      go (pos k) h = tt
-      go (negsuc k) h = rw (ne-eqb (grid f (suc k) n) 0 (not-zero (grid f (suc k) n) (h (zero-lt-suc k)))) tt
 
 -- ---- order
 
@@ -187,6 +169,10 @@ module _ {f : Format} {a b : ℤ} {n m : ℕ} (v : Whole f a n) (w : Whole f b m
             ∙ sym (not-less (b *ℤ pos n) (a *ℤ pos m) g)
         go (inr (inr e)) = same (quotient-same e) ∙ sym (rw e (self-not-less (b *ℤ pos n)))
 
-    -- and the sign of their difference says it
-    pub quotient-sign : signOf (sub f (quotient f a n) (quotient f b m)) ≡ one (ltZ (a *ℤ pos m) (b *ℤ pos n))
-    quotient-sign = sign-sub (quotient-worth v) (quotient-worth w) (quotient-zero-sign v) ∙ ap one quotient-lt
+-- and the sign of their difference says it
+pub quotient-sign : {a b : ℤ} {n m : ℕ} → Whole binary64 a n → Whole binary64 b m → natAbs a * m + natAbs b * n < 2 ^ 53
+    → signOf (sub binary64 (quotient binary64 a n) (quotient binary64 b m)) ≡ cond (ltZ (a *ℤ pos m) (b *ℤ pos n)) minusOne plusOne
+quotient-sign {a} {b} {n} {m} v w h =
+    let l = le-mul-of-pos-right (natAbs a) (w .some) in
+    about-sign (about-quotient v) (about-quotient w) (worth-negative (quotient-worth v)) (omega arith)
+    ∙ ap (λ (t : Bool). cond t minusOne plusOne) (quotient-lt v w h)

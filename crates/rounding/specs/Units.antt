@@ -14,7 +14,7 @@ use lib.Ieee.Fits.{and-l, and-r, down-pos, round-fits, round-is, ofInt-fits}
 use lib.Ieee.Exact.{HasValue, units-val}
 use lib.Ieee.Order.{kept, drop}
 use lib.Ieee.Scale.{grid, overflow, finite}
-use Rattle.rounding.specs.Leaves.{one, negative, signOf}
+use Rattle.rounding.specs.Leaves.{plusZero, negative}
 use Rattle.rounding.specs.Whole.{isNegative, whole-value}
 use Rattle.rounding.specs.Integers.{signed, parts-signed, parts-lt}
 use lib.Signed.{ltZ}
@@ -77,6 +77,10 @@ module _ {f : Format} {x : Float} {s : Bool} {u : ℕ} (w : Worth f x s u) where
   pub worth-number : Number f x
   worth-number = let (m, e, p, v) = shape x s u (2 ^ low f) (w .value) in record { fit = w .fit; ends = rw p tt }
 
+  pub worth-negative : negative x ≡ s
+  unfolding negative
+  worth-negative = let (m, e, p, v) = shape x s u (2 ^ low f) (w .value) in rw p
+
   pub worth-units : inUnits f x ≡ signed s u
   unfolding inUnits
   worth-units = let (m, e, p, v) = shape x s u (2 ^ low f) (w .value) in rw (p, v) (ap (signed s) (mul-div-cancel u (down-pos e)))
@@ -133,56 +137,12 @@ below-is s a t b =
     go true false = rw (add-comm a b)
     go true true = simp zero-add
 
--- ---- the sign of a difference
-
-odd-keeps : (d : ℕ) (s : Bool) (q k l : ℕ) → signOf (odd d s q k l) ≡ one s
-unfolding odd signOf
-odd-keeps d s zero k l = refl
-odd-keeps d s (suc q) k l = refl
-
-units-keeps : (f : Format) (s : Bool) (q k : ℕ) → signOf (units f s q k) ≡ one s
-unfolding units signOf
-units-keeps f s q k = go (ltb (q * 2 ^ k) (overflow f))
-  where
-    go : (t : Bool) → signOf (cond t (odd (suc (prec f)) s q k (low f)) (inf s)) ≡ one s
-    go true = odd-keeps (suc (prec f)) s q k (low f)
-    go false = refl
-
-round-keeps : (f : Format) (s : Bool) (a c : ℕ) → signOf (round f s a c) ≡ one s
-round-keeps f s a c = rw (round-is f s a c) (units-keeps f s (kept (prec f) (a * 2 ^ low f) c) (drop (prec f) (a * 2 ^ low f) c))
-
--- it says which is below, also where the difference is 0, if the first is not -0.0
-sign-minus : (f : Format) (s : Bool) (a : ℕ) (t : Bool) (b c : ℕ) → T (not (s && eqb a 0)) → signOf (sum f s a (not t) b c) ≡ one (isBelow s a t b)
-unfolding sum
-sign-minus f false a false b c h = go (ltb a b)
-  where
-    go : (z : Bool) → signOf (cond z (round f true (b - a) c) (round f false (a - b) c)) ≡ one z
-    go true = round-keeps f true (b - a) c
-    go false = round-keeps f false (a - b) c
-sign-minus f false a true b c h = round-keeps f false (a + b) c
-sign-minus f true a false b c h = round-keeps f true (a + b) c ∙ ap one (sym (lt-ltb 0 (a + b) (not-both a b h)))
-  where
-    not-both : (a b : ℕ) → T (not (eqb a 0)) → 0 < a + b
-    not-both zero b h = absurd h
-    not-both (suc a) b h = omega arith
-sign-minus f true a true b c h = go (ltb a b) (ltb→lt a b)
-  where
-    go : (z : Bool) → (T z → a < b) → signOf (cond z (round f false (b - a) c) (round f (ltb b a) (a - b) c)) ≡ one (ltb b a)
-    go true k = let l : a < b = k tt in round-keeps f false (b - a) c ∙ ap one (sym (le-ltb b a (omega arith)))
-    go false k = round-keeps f (ltb b a) (a - b) c
-
 module _ {f : Format} {x y : Float} {s t : Bool} {a b : ℕ} (v : Worth f x s a) (w : Worth f y t b) where
   pub worth-add : add f x y ≡ sum f s a t b (2 ^ low f)
   worth-add = add-at x y s a t b (2 ^ low f) (pow-pos (low f)) (v .value) (w .value) f
 
   pub worth-lt : lt x y ≡ ltZ (signed s a) (signed t b)
   worth-lt = lt-at x y s a t b (2 ^ low f) (pow-pos (low f)) (v .value) (w .value) ∙ below-is s a t b
-
-  -- the sign of a difference says which is less, if the first is not -0.0
-  pub sign-sub : T (not (s && eqb a 0)) → signOf (sub f x y) ≡ one (lt x y)
-  sign-sub h =
-      rw (sub-at x y s a t b (2 ^ low f) (pow-pos (low f)) (v .value) (w .value) f, lt-at x y s a t b (2 ^ low f) (pow-pos (low f)) (v .value) (w .value))
-      (sign-minus f s a t b (2 ^ low f) h)
 
 pub unlike-plus : (s : Bool) → unlike s false ≡ s
 unlike-plus true = refl
@@ -211,7 +171,7 @@ level-zero s a d = rw zero-mul (go s (eqb a 0))
     go false false = refl
 
 -- compared with 0.0
-pub worth-zero : {f : Format} {x : Float} {s : Bool} {u : ℕ} → Worth f x s u → eq x (fin false 0 (pos 0)) ≡ eqb u 0
+pub worth-zero : {f : Format} {x : Float} {s : Bool} {u : ℕ} → Worth f x s u → eq x plusZero ≡ eqb u 0
 unfolding eq
 worth-zero {f} {x} {s} {u} w = let (m, e, p, v) = shape x s u (2 ^ low f) (w .value) in
     rw p (level-zero s (m * up e * 1) (down e) ∙ rw mul-one (both-zero (m * up e) (2 ^ low f) u (down e) (pow-pos (low f)) (down-pos e) v))
