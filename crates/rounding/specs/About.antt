@@ -4,18 +4,18 @@
 use mathlib.Core.Path.{_≡_, refl, sym, ap, _∙_}
 use mathlib.Core.Bool.{Bool, true, false, not, true≢false, cond}
 use Prim.Native.Nat.{ℕ, suc, _+_, _-_, _*_, _/_, _^_, _<_, _≤_, zero-le}
-use native.Mathlib.Nat.{le-refl, le-trans, mul-le-mul-right, mul-pos, le-of-mul-le-mul-right, lt-of-mul-lt-mul-right, mul-lt-mul-of-pos-right}
+use native.Mathlib.Nat.{le-refl, le-trans, zero-mul, mul-le-mul-right, mul-pos, le-of-mul-le-mul-right, lt-of-mul-lt-mul-right, mul-lt-mul-of-pos-right}
 use native.Mathlib.Omega.{arith}
 use lib.Dec.{T, ltb, eqb, ltb→lt, nltb→le, lit≤}
 use lib.IntN.{ℤ, pos, negsuc, negℤ, natAbs, _+ℤ_, _-ℤ_, _*ℤ_, negℤ-+ℤ, +ℤ-comm}
 use lib.Signed.{ltZ}
 use lib.Pow.{pow-pos, pow-add}
 use borrow.Author.Tests.{lt-ltb, ne-eqb}
-use lib.Ieee.{Float, fin, Format, binary32, binary64, prec, emax, low, round, sum, add, sub, div, lt, eq, ofInt}
+use lib.Ieee.{Float, fin, Format, binary32, binary64, prec, emax, low, round, sum, add, sub, div, lt, eq, ofInt, fits}
 use lib.Ieee.Positive.{first-pos}
 use lib.Ieee.Scale.{grid, overflow}
 use Rattle.rounding.specs.Value.{not-zero}
-use Rattle.rounding.specs.Leaves.{plusZero, plusOne, minusOne, negative, signOf}
+use Rattle.rounding.specs.Leaves.{plusZero, minusZero, plusOne, minusOne, negative, signOf}
 use Rattle.rounding.specs.Signs.{sign-difference}
 use Rattle.rounding.specs.Integers.{above, below, signed, Near, parts-abs, parts-add, parts-times, parts-signed, parts-same, parts-lt, parts-less, less-parts, near-abs, abs-near, abs-add}
 use Rattle.rounding.specs.Whole.{isNegative, sum-turned}
@@ -181,6 +181,11 @@ about-whole f z h =
     let a : About f (ofInt f z) (signed (isNegative z) (natAbs z)) 1 0 = about-worth (natAbs z) (worth-whole f z h) (omega arith) in
     rw signed-int at a
 
+-- and -0.0, with which a sum begins, for 0
+pub about-minus-zero : (f : Format) (c : ℕ) → About f minusZero (pos 0) c 0
+unfolding fits
+about-minus-zero f c = about-worth {s = true} {g = 0} 0 (record { fit = tt; value = (refl, simp zero-mul) }) (omega arith)
+
 -- divided by a whole number, to less than 2 ^ i
 pub about-div : {f : Format} {x : Float} {z : ℤ} {c e : ℕ} (i n : ℕ) → About f x z c e → 0 < n → n ≤ 2 ^ prec f → i ≤ emax f
     → natAbs z * 2 ^ prec f * 2 + e < 2 ^ i * (c * n) * 2 ^ prec f * 2 → About f (div f x (ofInt f (pos n))) z (c * n) (e + 2 ^ i * (c * n))
@@ -236,7 +241,7 @@ about-lt {f} {x} {y} {z} {w} {c} {b} {d} {e} p q g h =
     (pow-pos (low f - prec f)) (fines f) (within p .above-by) (within q .below-by) o h in
     rw (number-lt (p .number) (q .number), parts-lt v t) (lt-ltb (above v + below t) (above t + below v) less)
 
-zero-is : (f : Format) → ofInt f (pos 0) ≡ plusZero
+pub zero-is : (f : Format) → ofInt f (pos 0) ≡ plusZero
 unfolding ofInt
 zero-is binary32 = refl
 zero-is binary64 = refl

@@ -128,6 +128,9 @@ abs-add (pos a) (negsuc b) = abs-sub a (suc b)
 abs-add (negsuc a) (pos b) = let h = abs-sub b (suc a) in omega arith
 abs-add (negsuc a) (negsuc b) = omega arith
 
+pub abs-minus : (a b : ℤ) → natAbs (a -ℤ b) ≤ natAbs a + natAbs b
+abs-minus a b = let n = parts-neg b in omega (arith, abs-add a (negℤ b), parts-abs (negℤ b), parts-abs b)
+
 -- a and b are at most e apart
 pub record Near (a b e : ℕ) : Type 0 where
   pub above-by : a ≤ b + e

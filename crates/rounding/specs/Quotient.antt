@@ -16,14 +16,14 @@ use lib.Ieee.Fits.{two}
 use lib.Ieee.Positive.{first-pos}
 use lib.Ieee.Order.{kept, drop}
 use lib.Ieee.Scale.{grid, overflow, round-same, normal-of-fraction}
-use Rattle.rounding.specs.Leaves.{plusOne, minusOne, signOf}
+use Rattle.rounding.specs.Leaves.{plusZero, plusOne, minusOne, signOf}
 use Rattle.rounding.specs.Integers.{above, below, signed, Near, parts-abs, parts-times, one-of-three, not-less, self-not-less}
 use Rattle.rounding.specs.Value.{not-zero, div-at}
 use Rattle.rounding.specs.Whole.{isNegative, whole-value}
 use Rattle.rounding.specs.Units.{inUnits, Number, Worth, unlike-plus, round-worth, worth-negative}
 use Rattle.rounding.specs.Nearest.{NearestTo, round-nearest}
 use Rattle.rounding.specs.Error.{places, closest-near, grid-near, grid-range, grid-relative}
-use Rattle.rounding.specs.About.{fine, About, about-worth, about-lt, about-sign, number-lt, signed-int}
+use Rattle.rounding.specs.About.{fine, About, about-worth, about-lt, about-sign, number-lt, signed-int, zero-is}
 
 -- z / n
 abbrev pub quotient : Format → ℤ → ℕ → Float
@@ -44,12 +44,8 @@ module _ {f : Format} {z : ℤ} {n : ℕ} (w : Whole f z n) where
       ∙ simp (unlike-plus, mul-one)
 
 -- a quotient of 0 is +0.0
-zero-is : (f : Format) → round f false 0 1 ≡ fin false 0 (pos 0)
-unfolding round
-zero-is binary32 = refl
-zero-is binary64 = refl
-
-pub quotient-zero : {f : Format} {n : ℕ} → Whole f (pos 0) n → quotient f (pos 0) n ≡ fin false 0 (pos 0)
+pub quotient-zero : {f : Format} {n : ℕ} → Whole f (pos 0) n → quotient f (pos 0) n ≡ plusZero
+unfolding ofInt
 quotient-zero {f} {n} w = quotient-is w ∙ round-same f false 0 n 0 1 (w .some) (zero-lt-suc 0) (omega arith) ∙ zero-is f
 
 -- ---- the error, relative to the size
