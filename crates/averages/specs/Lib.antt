@@ -2,3 +2,4 @@
 pub mod Window
 pub mod Averages
 pub mod Exact
+pub mod Errors
