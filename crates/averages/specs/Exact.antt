@@ -42,8 +42,8 @@ pub record Slides (slide : Float → Float → Float → Float) : Type 0 where
 pub difference-slides : Slides addDifference
 difference-slides = record {
   exact = λ s new old p q r.
-    rw (sub-whole binary64 new old (omega arith) (omega arith))
-    (add-whole binary64 s (new -ℤ old) (omega arith) (omega (arith, abs-minus new old)));
+      rw (sub-whole binary64 new old (omega arith) (omega arith))
+      (add-whole binary64 s (new -ℤ old) (omega arith) (omega (arith, abs-minus new old)));
 }
 
 module _ {l : ℕ} {f : Line} {t : ℕ → ℤ} {slide : Float → Float → Float → Float} (w : Ticks l f t) (s : Slides slide) where

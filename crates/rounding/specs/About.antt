@@ -2,6 +2,7 @@
 -- sum or of a mean is read off the operations; and numbers that stand for different fractions are in the fractions' order where their
 -- errors are too small to reach. Assumes nothing.
 use mathlib.Core.Path.{_≡_, refl, sym, ap, _∙_}
+use mathlib.Core.Logic.{_⊎_, inl, inr}
 use mathlib.Core.Bool.{Bool, true, false, not, true≢false, cond}
 use Prim.Native.Nat.{ℕ, suc, _+_, _-_, _*_, _/_, _^_, _<_, _≤_, zero-le}
 use native.Mathlib.Nat.{le-refl, le-trans, zero-mul, mul-le-mul-right, mul-pos, le-of-mul-le-mul-right, lt-of-mul-lt-mul-right, mul-lt-mul-of-pos-right}
@@ -17,7 +18,7 @@ use lib.Ieee.Scale.{grid, overflow}
 use Rattle.rounding.specs.Value.{not-zero}
 use Rattle.rounding.specs.Leaves.{plusZero, minusZero, plusOne, minusOne, negative, signOf}
 use Rattle.rounding.specs.Signs.{sign-difference}
-use Rattle.rounding.specs.Integers.{above, below, signed, Near, parts-abs, parts-add, parts-times, parts-signed, parts-same, parts-lt, parts-less, less-parts, near-abs, abs-near, abs-add}
+use Rattle.rounding.specs.Integers.{above, below, signed, Near, parts-abs, parts-add, parts-times, parts-signed, parts-same, parts-lt, parts-less, less-parts, one-of-three, not-less, near-abs, abs-near, abs-add}
 use Rattle.rounding.specs.Whole.{isNegative, sum-turned}
 use Rattle.rounding.specs.Units.{inUnits, Number, Worth, worth, worth-number, worth-units, abs-signed, worth-whole, worth-add, worth-div, worth-lt, worth-zero, round-worth}
 use Rattle.rounding.specs.Error.{grid-within, grid-range}
@@ -240,6 +241,20 @@ about-lt {f} {x} {y} {z} {w} {c} {b} {d} {e} p q g h =
     let less = reach (above v) (below v) (above t) (below t) (above z) (below z) (above w) (below w) c b d e (2 ^ prec f) (2 ^ low f) (fine f)
     (pow-pos (low f - prec f)) (fines f) (within p .above-by) (within q .below-by) o h in
     rw (number-lt (p .number) (q .number), parts-lt v t) (lt-ltb (above v + below t) (above t + below v) less)
+
+-- so different fractions decide the order
+pub about-order : {f : Format} {x y : Float} {z w : ℤ} {c b d e : ℕ} → About f x z c d → About f y w b e → ¬ (z *ℤ pos b ≡ w *ℤ pos c)
+    → d * b + e * c < 2 ^ prec f * 2 → lt x y ≡ ltZ (z *ℤ pos b) (w *ℤ pos c)
+about-order {f} {x} {y} {z} {w} {c} {b} p q k h = go (one-of-three (z *ℤ pos b) (w *ℤ pos c))
+  where
+    go : (ltZ (z *ℤ pos b) (w *ℤ pos c) ≡ true) ⊎ ((ltZ (w *ℤ pos c) (z *ℤ pos b) ≡ true) ⊎ (z *ℤ pos b ≡ w *ℤ pos c))
+        → lt x y ≡ ltZ (z *ℤ pos b) (w *ℤ pos c)
+    go (inl l) = about-lt p q l h ∙ sym l
+    go (inr (inl g)) =
+        number-lt (p .number) (q .number)
+        ∙ not-less (inUnits f y) (inUnits f x) (sym (number-lt (q .number) (p .number)) ∙ about-lt q p g (omega arith))
+        ∙ sym (not-less (w *ℤ pos c) (z *ℤ pos b) g)
+    go (inr (inr e)) = absurd (k e)
 
 pub zero-is : (f : Format) → ofInt f (pos 0) ≡ plusZero
 unfolding ofInt

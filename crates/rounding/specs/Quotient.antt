@@ -7,7 +7,7 @@ use native.Mathlib.Nat.{le-trans, le-refl, mul-one, mul-le-mul-right, mul-le-mul
 use native.Mathlib.Omega.{arith}
 use lib.Dec.{T, eqb, lit≤}
 use borrow.Author.Tests.{ne-eqb}
-use lib.IntN.{ℤ, pos, negsuc, natAbs, _*ℤ_}
+use lib.IntN.{ℤ, pos, negsuc, natAbs, _*ℤ_, ℤ-discrete}
 use lib.Signed.{ltZ}
 use lib.Pow.{pow-add, pow-pos, pow-mono}
 use lib.Ieee.{Float, fin, Format, binary32, binary64, prec, emax, low, size, round, sub, div, lt, ofInt}
@@ -17,13 +17,13 @@ use lib.Ieee.Positive.{first-pos}
 use lib.Ieee.Order.{kept, drop}
 use lib.Ieee.Scale.{grid, overflow, round-same, normal-of-fraction}
 use Rattle.rounding.specs.Leaves.{plusZero, plusOne, minusOne, signOf}
-use Rattle.rounding.specs.Integers.{above, below, signed, Near, parts-abs, parts-times, one-of-three, not-less, self-not-less}
+use Rattle.rounding.specs.Integers.{above, below, signed, Near, parts-abs, parts-times, self-not-less}
 use Rattle.rounding.specs.Value.{not-zero, div-at}
 use Rattle.rounding.specs.Whole.{isNegative, whole-value}
 use Rattle.rounding.specs.Units.{inUnits, Number, Worth, unlike-plus, round-worth, worth-negative}
 use Rattle.rounding.specs.Nearest.{NearestTo, round-nearest}
 use Rattle.rounding.specs.Error.{places, closest-near, grid-near, grid-range, grid-relative}
-use Rattle.rounding.specs.About.{fine, About, about-worth, about-lt, about-sign, number-lt, signed-int, zero-is}
+use Rattle.rounding.specs.About.{fine, About, about-worth, about-order, about-sign, number-lt, signed-int, zero-is}
 
 -- z / n
 abbrev pub quotient : Format → ℤ → ℕ → Float
@@ -139,31 +139,13 @@ module _ {f : Format} {a b : ℤ} {n m : ℕ} (v : Whole f a n) (w : Whole f b m
   module _ (h : natAbs a * m + natAbs b * n < 2 ^ prec f) where
     -- quotients are in the order of their fractions
     pub quotient-lt : lt (quotient f a n) (quotient f b m) ≡ ltZ (a *ℤ pos m) (b *ℤ pos n)
-    quotient-lt = go (one-of-three (a *ℤ pos m) (b *ℤ pos n))
+    quotient-lt = go (ℤ-discrete (a *ℤ pos m) (b *ℤ pos n))
       where
-        x : Float
-        x = quotient f a n
-
-        y : Float
-        y = quotient f b m
-
-        i : About f x a n (natAbs a * 2)
-        i = about-quotient v
-
-        j : About f y b m (natAbs b * 2)
-        j = about-quotient w
-
-        same : x ≡ y → lt x y ≡ false
-        same e = rw (← e) (number-lt (i .number) (i .number) ∙ self-not-less (inUnits f x))
-
-        go : (ltZ (a *ℤ pos m) (b *ℤ pos n) ≡ true) ⊎ ((ltZ (b *ℤ pos n) (a *ℤ pos m) ≡ true) ⊎ (a *ℤ pos m ≡ b *ℤ pos n))
-            → lt x y ≡ ltZ (a *ℤ pos m) (b *ℤ pos n)
-        go (inl l) = about-lt i j l (omega arith) ∙ sym l
-        go (inr (inl g)) =
-            number-lt (i .number) (j .number)
-            ∙ not-less (inUnits f y) (inUnits f x) (sym (number-lt (j .number) (i .number)) ∙ about-lt j i g (omega arith))
-            ∙ sym (not-less (b *ℤ pos n) (a *ℤ pos m) g)
-        go (inr (inr e)) = same (quotient-same e) ∙ sym (rw e (self-not-less (b *ℤ pos n)))
+        go : Dec (a *ℤ pos m ≡ b *ℤ pos n) → lt (quotient f a n) (quotient f b m) ≡ ltZ (a *ℤ pos m) (b *ℤ pos n)
+        go (yes e) =
+            let i = about-quotient w .number in
+            rw (quotient-same e, e) (number-lt i i ∙ self-not-less (inUnits f (quotient f b m)) ∙ sym (self-not-less (b *ℤ pos n)))
+        go (no k) = about-order (about-quotient v) (about-quotient w) k (omega arith)
 
 -- and the sign of their difference says it
 pub quotient-sign : {a b : ℤ} {n m : ℕ} → Whole binary64 a n → Whole binary64 b m → natAbs a * m + natAbs b * n < 2 ^ 53
