@@ -1,0 +1,3 @@
+-- What a user can rely on, stated of the definitions that the calls promise.
+pub mod Double
+pub mod Single
