@@ -1,7 +1,7 @@
 -- How far a sum or a mean of rounded numbers is from the exact one. Assumes nothing.
 use mathlib.Core.Path.{_≡_, refl}
 use Prim.Native.Nat.{ℕ, zero, suc, _+_, _-_, _*_, _^_, _<_, _≤_}
-use native.Mathlib.Nat.{le-refl, mul-le-mul-right, mul-le-mul-left, mul-pos}
+use native.Mathlib.Nat.{le-refl, mul-le-mul-right, mul-le-mul-left, mul-le-mul, mul-pos}
 use native.Mathlib.Omega.{arith}
 use lib.Dec.{lit≤}
 use lib.IntN.{ℤ, pos, natAbs}
@@ -31,6 +31,19 @@ sum-about {f} {z} {a} {c} {e} {b} i (suc k) s l h =
     let y = s .size k (le-refl (suc k)) in
     about-weaken (suc k * (e + 2 ^ i * c)) (about-add i p q l (omega arith)) (omega arith)
 
+-- ---- windows of whole ticks
+
+-- the sum of the last n numbers at bar i
+abbrev pub windowTotal : ℕ → (ℕ → ℤ) → ℕ → ℤ
+windowTotal n t i = total t (i + 1 - n) n
+
+-- a window's sum times a window's length stays below 2 ^ 52
+pub products : (a b n m : ℕ) → a ≤ n * 2 ^ 24 → b ≤ m * 2 ^ 24 → n ≤ 4096 → m ≤ 4096 → a * m + b * n < 2 ^ 53
+products a b n m p q r s =
+    let x : a ≤ 2 ^ 36 = omega arith in
+    let y : b ≤ 2 ^ 36 = omega arith in
+    omega (arith, mul-le-mul x s, mul-le-mul y r)
+
 -- ---- the mean of the means of whole ticks
 
 -- n means and what their sum is off by stay below 2 ^ 34, and the sum over n below 2 ^ 25; p is 2 ^ 53
@@ -48,15 +61,11 @@ mean-room n p d N P h =
     let c : 0 < n * n = mul-pos N N in
     omega arith
 
--- the sum of the last n ticks at bar i
-abbrev pub windowTotal : ℕ → (ℕ → ℤ) → ℕ → ℤ
-windowTotal n t i = total t (i + 1 - n) n
-
 module _ {l : ℕ} {f : Line} {t : ℕ → ℤ} (w : Ticks l f t) (n : ℕ) (N : 0 < n) (M : n ≤ 4096) where
-  window-total-size : (i : ℕ) → n ≤ i + 1 → i < l → natAbs (windowTotal n t i) ≤ n * 2 ^ 24
+  pub window-total-size : (i : ℕ) → n ≤ i + 1 → i < l → natAbs (windowTotal n t i) ≤ n * 2 ^ 24
   window-total-size i b h = window-size w (i + 1 - n) n (omega arith)
 
-  mean-about : (i : ℕ) → n ≤ i + 1 → i < l → About binary64 (mean n f i) (windowTotal n t i) n (n * 2 ^ 25)
+  pub mean-about : (i : ℕ) → n ≤ i + 1 → i < l → About binary64 (mean n f i) (windowTotal n t i) n (n * 2 ^ 25)
   mean-about i b h =
       rw (mean-exact w n N M i b h)
       (about-weaken (n * 2 ^ 25) (about-quotient (window-whole w n N M (i + 1 - n) (omega arith))) (omega (arith, window-total-size i b h)))

@@ -2,7 +2,6 @@
 use mathlib.Core.Path.{_≡_, _∙_}
 use mathlib.Core.Bool.{cond}
 use Prim.Native.Nat.{ℕ, _+_, _-_, _*_, _^_, _<_, _≤_}
-use native.Mathlib.Nat.{mul-le-mul}
 use native.Mathlib.Omega.{arith}
 use lib.IntN.{ℤ, pos, negℤ, natAbs, _+ℤ_, _-ℤ_, _*ℤ_, +ℤ-assoc}
 use lib.Signed.{ltZ}
@@ -13,19 +12,16 @@ use Rattle.rounding.specs.Whole.{add-whole, sub-whole}
 use Rattle.rounding.specs.Quotient.{quotient, quotient-sign}
 use Rattle.calls.specs.Line.{Line, plusZero, from-bar}
 use Rattle.averages.specs.Exact.{Ticks, Slides, running-exact, window-size, window-whole}
-use Rattle.averages.specs.Errors.{windowTotal}
+use Rattle.averages.specs.Errors.{windowTotal, products}
 use Rattle.rules.specs.Rules.{addThenSubtract, runningMean, doubleLine}
 
 -- the new price added, and then the old one subtracted
 subtract-slides : Slides addThenSubtract
 subtract-slides = record {
   exact = λ s new old p q r.
-    rw (add-whole binary64 s new (omega arith) (omega arith), ← +ℤ-assoc s new (negℤ old))
-    (sub-whole binary64 (s +ℤ new) old (omega (arith, abs-add s new)) (omega arith));
+      rw (add-whole binary64 s new (omega arith) (omega arith), ← +ℤ-assoc s new (negℤ old))
+      (sub-whole binary64 (s +ℤ new) old (omega (arith, abs-add s new)) (omega arith));
 }
-
-products : (a b n m : ℕ) → a ≤ 2 ^ 36 → b ≤ 2 ^ 36 → n ≤ 4096 → m ≤ 4096 → a * m + b * n < 2 ^ 53
-products a b n m p q r s = omega (arith, mul-le-mul p s, mul-le-mul q r)
 
 module _ {l : ℕ} {f : Line} {t : ℕ → ℤ} (w : Ticks l f t) where
   running-mean-exact : (n i : ℕ) → 0 < n → n ≤ 4096 → n ≤ i + 1 → i < l → runningMean n f i ≡ quotient binary64 (windowTotal n t i) n
@@ -41,4 +37,4 @@ module _ {l : ℕ} {f : Line} {t : ℕ → ℤ} (w : Ticks l f t) where
       let y = window-size w (i + 1 - m) m (omega arith) in
       rw (from-bar (m - 1) plusZero _ i (omega arith), running-mean-exact n i N (omega arith) (omega arith) h, running-mean-exact m i (omega arith) M b h)
       (quotient-sign (window-whole w n N (omega arith) (i + 1 - n) (omega arith)) (window-whole w m (omega arith) M (i + 1 - m) (omega arith))
-      (products (natAbs (windowTotal n t i)) (natAbs (windowTotal m t i)) n m (omega arith) (omega arith) (omega arith) M))
+      (products (natAbs (windowTotal n t i)) (natAbs (windowTotal m t i)) n m x y (omega arith) M))

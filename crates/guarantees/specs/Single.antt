@@ -20,7 +20,7 @@ times-one : (z : ℤ) → z *ℤ pos 1 ≡ z
 times-one (pos a) = ap pos (mul-one a)
 times-one (negsuc a) = ap (λ (k : ℕ). negℤ (pos k)) (mul-one (suc a))
 
-some-abs : (z : ℤ) → ¬ (z ≡ pos 0) → 0 < natAbs z
+pub some-abs : (z : ℤ) → ¬ (z ≡ pos 0) → 0 < natAbs z
 some-abs (pos zero) h = absurd (h refl)
 some-abs (pos (suc a)) h = zero-lt-suc a
 some-abs (negsuc a) h = zero-lt-suc a
