@@ -5,7 +5,7 @@ ghost use Prim.Native.Nat.{_*_, _≤_, min};
 ghost use lib.Dec.{leb};
 ghost use lib.ListN.{length};
 ghost use Rattle.calls.specs.Accepted.{accepted, tick, finite, all};
-ghost use Rattle.calls.specs.Answer.{unless, andThen, slices, checked, windowed, answered};
+ghost use Rattle.calls.specs.Answer.{number, refusalOf, countOf, unless, andThen, slices, checked, windowed, answered};
 ghost use Rattle.calls.specs.Line.{plusZero, Led};
 ghost use Rattle.calls.specs.Written.{Writing};
 ghost use Rattle.calls.specs.declared.Answer.the-variants.{Cells};
@@ -26,6 +26,43 @@ pub enum Refusal {
 pub enum Answer {
     Cells(usize),
     Refused(Refusal),
+}
+
+// Document 01's number of a refusal.
+pub fn number_of(reason: Refusal) -> u64
+    ensures { λ r. ⌜ r ≡ number reason ⌝ }
+{
+    match reason {
+        Refusal::SeriesTooLong => 1,
+        Refusal::LengthsDiffer => 2,
+        Refusal::OutputTooShort => 3,
+        Refusal::WorkTooShort => 4,
+        Refusal::ValueNotAccepted => 5,
+        Refusal::ParameterNotFinite => 6,
+        Refusal::WindowTooLong => 7,
+        Refusal::SeriesTooShort => 8,
+        Refusal::WindowsOutOfOrder => 9,
+    }
+}
+
+// The number of an answer's refusal, 0 where there is none.
+pub fn refusal_of(answer: Answer) -> u64
+    ensures { λ r. ⌜ r ≡ refusalOf answer ⌝ }
+{
+    match answer {
+        Answer::Cells(_) => 0,
+        Answer::Refused(reason) => number_of(reason),
+    }
+}
+
+// How many cells of each output were written.
+pub fn count_of(answer: Answer) -> usize
+    ensures { λ r. ⌜ r ≡ countOf answer ⌝ }
+{
+    match answer {
+        Answer::Cells(count) => count,
+        Answer::Refused(_) => 0,
+    }
 }
 
 // Whether a series may hold x.

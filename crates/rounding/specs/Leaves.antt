@@ -6,12 +6,6 @@ use Prim.Native.Nat.{ℕ, _+_, _*_, _/_}
 use lib.IntN.{ℤ, pos}
 use lib.Ieee.{Float, nan, inf, fin, binary64, up, down, round}
 
-abbrev pub plusZero : Float
-plusZero = fin false 0 (pos 0)
-
-abbrev pub minusZero : Float
-minusZero = fin true 0 (pos 0)
-
 -- 1 with a sign
 abbrev pub one : Bool → Float
 one s = fin s 1 (pos 0)

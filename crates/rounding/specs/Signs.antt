@@ -1,69 +1,16 @@
--- Laws of signs: where a program reads one, and what the sign of a difference is. Assumes nothing.
+-- Laws of signs: the sign of a number, of what is rounded and of a difference. Assumes nothing.
 use mathlib.Core.Bool.{Bool, true, false, cond, true≢false}
 use mathlib.Core.Path.{_≡_, refl, sym, ap, _∙_}
-use Prim.Native.Nat.{ℕ, zero, suc, _+_, _-_, _*_, _/_, _%_, _^_, _<_}
+use Prim.Native.Nat.{ℕ, zero, suc, _+_, _-_, _*_, _^_, _<_}
 use native.Mathlib.Nat.{le-of-lt, lt-of-lt-of-le, le-add-right, mul-pos}
 use native.Mathlib.Omega.{arith}
-use borrow.Author.Tests.{eq-eqb, ltb-true, lt-ltb, le-ltb}
-use lib.Dec.{T, leb, eqb, ltb}
-use lib.Ieee.{Float, nan, inf, fin, binary64, up, down, neg, odd, units, round, sum, sub, lt, eq, ne, fits, isNan, ofFields, ofBits, toBits}
-use lib.Ieee.Bits.{ofBits-toBits}
+use borrow.Author.Tests.{ltb-true, lt-ltb, le-ltb}
+use lib.Dec.{T, ltb}
+use lib.IntN.{pos}
+use lib.Ieee.{Float, nan, inf, fin, binary64, up, down, odd, units, round, sum, sub, lt, isNan}
 use lib.Ieee.Fits.{round-is, down-pos}
 use lib.Ieee.Scale.{finite}
-use Rattle.rounding.specs.Leaves.{plusZero, one, plusOne, minusOne, negative, magnitudeOf, signOf}
-
--- only a NaN differs from itself
-pub differs-nan : (x : Float) → ne x x ≡ isNan x
-unfolding ne eq isNan
-differs-nan nan = refl
-differs-nan (inf true) = refl
-differs-nan (inf false) = refl
-differs-nan (fin true m e) = simp (eq-eqb (m * up e * down e) (m * up e * down e) refl)
-differs-nan (fin false m e) = simp (eq-eqb (m * up e * down e) (m * up e * down e) refl)
-
-pub nan-not-negative : (x : Float) → ne x x ≡ true → false ≡ negative x
-unfolding isNan negative
-nan-not-negative nan d = refl
-nan-not-negative (inf s) d = absurd (true≢false (sym d ∙ differs-nan (inf s)))
-nan-not-negative (fin s m e) d = absurd (true≢false (sym d ∙ differs-nan (fin s m e)))
-
--- ---- the sign in a bit pattern
-
-odd-negative : (d : ℕ) (s : Bool) (q k l : ℕ) → negative (odd d s q k l) ≡ s
-unfolding odd negative
-odd-negative d s zero k l = refl
-odd-negative d s (suc q) k l = refl
-
-fields-negative : (s : Bool) (x t : ℕ) → isNan (ofFields binary64 s x t) ≡ false → negative (ofFields binary64 s x t) ≡ s
-unfolding ofFields isNan negative
-fields-negative s zero t n = odd-negative 53 s t 0 1074
-fields-negative s (suc x) t n = go (eqb (suc x) 2047) (eqb t 0) n
-  where
-    v : Float
-    v = odd 53 s (2 ^ 52 + t) x 1074
-
-    go : (a b : Bool) → isNan (cond a (cond b (inf s) nan) v) ≡ false → negative (cond a (cond b (inf s) nan) v) ≡ s
-    go true true h = refl
-    go true false h = absurd (true≢false h)
-    go false b h = odd-negative 53 s (2 ^ 52 + t) x 1074
-
--- the highest bit is the sign
-pub highest-bit : (x : Float) → T (fits binary64 x) → isNan x ≡ false → leb (2 ^ 63) (toBits binary64 x) ≡ negative x
-unfolding ofBits
-highest-bit x f n =
-    let b = toBits binary64 x in
-    let same : ofBits binary64 b ≡ x = ofBits-toBits binary64 x f in
-    sym (fields-negative (leb (2 ^ 63) b) (b % 2 ^ 63 / 2 ^ 52) (b % 2 ^ 52) (ap isNan same ∙ n)) ∙ ap negative same
-
--- ---- what a branch on the sign leaves
-
-pub magnitude-is : (x : Float) → magnitudeOf x ≡ cond (negative x) (neg x) x
-unfolding magnitudeOf negative neg
-magnitude-is nan = refl
-magnitude-is (inf true) = refl
-magnitude-is (inf false) = refl
-magnitude-is (fin true m e) = refl
-magnitude-is (fin false m e) = refl
+use Rattle.rounding.specs.Leaves.{one, plusOne, minusOne, negative, signOf}
 
 -- the sign of a number
 pub sign-is : (x : Float) → isNan x ≡ false → signOf x ≡ one (negative x)
@@ -72,11 +19,11 @@ sign-is nan n = absurd (true≢false n)
 sign-is (inf s) n = refl
 sign-is (fin s m e) n = refl
 
-pub sign-nan : (x : Float) → isNan x ≡ true → signOf x ≡ x
+pub sign-of-nan : (x : Float) → isNan x ≡ true → signOf x ≡ x
 unfolding signOf isNan
-sign-nan nan n = refl
-sign-nan (inf s) n = absurd (true≢false (sym n))
-sign-nan (fin s m e) n = absurd (true≢false (sym n))
+sign-of-nan nan n = refl
+sign-of-nan (inf s) n = absurd (true≢false (sym n))
+sign-of-nan (fin s m e) n = absurd (true≢false (sym n))
 
 -- ---- the sign of a difference
 
@@ -116,7 +63,7 @@ sign-more a b c = go (ltb a b) (ltb b a) (λ l. le-ltb b a (le-of-lt (ltb-true a
     go false false h = sign-round false (a - b) c
 
 -- The sign of x - y, for numbers x and y: -1 where x is below y, else +1. Only -0.0 less +0.0 is left out, which has the sign -1.
-pub sign-difference : (x y : Float) → T (finite x) → T (finite y) → (negative x ≡ true → lt x plusZero ≡ true)
+pub sign-difference : (x y : Float) → T (finite x) → T (finite y) → (negative x ≡ true → lt x (fin false 0 (pos 0)) ≡ true)
     → signOf (sub binary64 x y) ≡ cond (lt x y) minusOne plusOne
 unfolding sub lt negative
 sign-difference nan y p q h = absurd p

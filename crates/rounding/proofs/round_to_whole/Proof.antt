@@ -1,14 +1,12 @@
--- `round_to_whole` meets its contract: below 2 ^ 52 one more than the whole part of twice the magnitude is halved, and the sign put back.
+-- `round_to_whole` meets its contract: below 2 ^ 52 one more than the whole part of twice the magnitude is halved, and the sign put back by a product with it.
 -- Assumes nothing.
-use mathlib.Core.Path.{_≡_, sym, _∙_, subst}
-use mathlib.Core.Bool.{Bool, true, false}
+use mathlib.Core.Path.{_≡_, sym, subst}
 use Prim.Native.Nat.{_+_, _/_, _^_}
 use native.Mathlib.Omega.{arith}
 use borrow.Author.Needs.{needs}
 use lib.Dec.{T, le→leb}
-use lib.Ieee.{binary64, ofBits, round, inFloat, ofInt, toUnsigned}
-use Rattle.rounding.specs.Leaves.{roundToWhole}
-use Rattle.rounding.specs.ToWhole.{doubled, Halves, halves, whole-already, neg-round}
+use lib.Ieee.{ofBits, inFloat, ofInt, toUnsigned}
+use Rattle.rounding.proofs.ToWhole.{doubled, Halves, halves, whole-already}
 use Rattle.rounding.proofs.round_to_whole.Statement.{statement}
 use Rattle.rounding.proofs.round_to_whole.Tie as tie
 
@@ -24,14 +22,6 @@ part : (c : tie.After-truncating-f64-to-u64) → c .truncating-f64-to-u64 .resul
 unfolding ofBits
 part c = rw (c .truncating-f64-to-u64 .ensures, c .before .before .magnitude .ensures)
 
--- the whole number, with the sign as the last test found it
-signed : (c : tie.After-is-negative) (s : Bool) → c .is-negative .result ≡ s
-    → let at-cut = c .before .before in
-    round binary64 s ((at-cut .truncating-f64-to-u64 .result + 1) / 2) 1 ≡ roundToWhole (at-cut .before .before .before .args .x)
-signed c s e =
-    let at-cut = c .before .before in
-    rw (part at-cut, ← e, c .is-negative .ensures) (below (at-cut .before) .whole)
-
 truncating-f64-to-u64-requires : tie.Need-truncating-f64-to-u64-requires
 unfolding ofBits
 truncating-f64-to-u64-requires c κs = rw (c .before .magnitude .ensures) (below c .above, below c .below)
@@ -45,15 +35,13 @@ int-to-float-whole c = le→leb ((c .before .truncating-f64-to-u64 .result + 1) 
 
 returns : tie.Need-returns
 unfolding ofInt
-returns c = neg-round false ((c .before .before .before .truncating-f64-to-u64 .result + 1) / 2) 1 ∙ signed (c .before) true (c .if2 .taken)
+returns c =
+    let at-cut = c .before .before in
+    rw (c .sign .ensures, part at-cut) (below (at-cut .before) .whole)
 
 returns-2 : tie.Need-returns-2
-unfolding ofInt
-returns-2 c = signed (c .before) false (c .if2 .left)
-
-returns-3 : tie.Need-returns-3
 unfolding ofBits
-returns-3 c =
+returns-2 c =
     let at-start = c .before .before in
     whole-already (at-start .args .x) (subst T (sym (at-start .good .0 .1)) tt) (rw (c .before .magnitude .ensures) at (c .if1 .left))
 
@@ -65,7 +53,6 @@ round-to-whole-spec =
     truncating-f64-to-u64-requires
     add-whole
     int-to-float-whole
-    (λ c κs. search needs)  -- is-negative-requires
+    (λ c κs. search needs)  -- sign-requires
     returns
-    returns-2
-    returns-3)
+    returns-2)
