@@ -16,16 +16,17 @@ use lib.Ieee.{Float, fin, Format, binary32, binary64, prec, emax, low, round, su
 use lib.Ieee.Positive.{first-pos}
 use lib.Ieee.Scale.{grid, overflow}
 use Rattle.rounding.specs.Value.{not-zero}
-use Rattle.rounding.specs.Leaves.{plusZero, minusZero, plusOne, minusOne, negative, signOf}
+use Rattle.rounding.specs.Leaves.{plusOne, minusOne, negative, signOf}
 use Rattle.rounding.specs.Signs.{sign-difference}
+use Rattle.rounding.specs.Root.{inUnits}
 use Rattle.rounding.specs.Integers.{above, below, signed, Near, parts-abs, parts-add, parts-times, parts-signed, parts-same, parts-lt, parts-less, less-parts, one-of-three, not-less, near-abs, abs-near, abs-add}
 use Rattle.rounding.specs.Whole.{isNegative, sum-turned}
-use Rattle.rounding.specs.Units.{inUnits, Number, Worth, worth, worth-number, worth-units, abs-signed, worth-whole, worth-add, worth-div, worth-lt, worth-zero, round-worth}
+use Rattle.rounding.specs.Units.{signedUnits, Number, Worth, worth, worth-number, worth-units, abs-signed, abs-units, worth-whole, worth-add, worth-div, worth-lt, worth-zero, round-worth}
 use Rattle.rounding.specs.Error.{grid-within, grid-range}
 
 -- how far x is from z / c, times c · 2 ^ low: a whole number
 unfoldable pub distance : Format → Float → ℤ → ℕ → ℕ
-distance f x z c = natAbs (inUnits f x *ℤ pos c -ℤ z *ℤ pos (2 ^ low f))
+distance f x z c = natAbs (signedUnits f x *ℤ pos c -ℤ z *ℤ pos (2 ^ low f))
 
 -- 2 ^ -prec, in units
 abbrev pub fine : Format → ℕ
@@ -43,20 +44,20 @@ about-weaken {f} e a h = record { number = a .number; close = le-trans (a .close
 abbrev Within : Format → ℤ → ℤ → ℕ → ℕ → Type 0
 Within f v z c e = Near ((above v * c + below z * 2 ^ low f) * 2) ((above z * 2 ^ low f + below v * c) * 2) e
 
-within : {f : Format} {x : Float} {z : ℤ} {c e : ℕ} → About f x z c e → Within f (inUnits f x) z c (e * fine f)
+within : {f : Format} {x : Float} {z : ℤ} {c e : ℕ} → About f x z c e → Within f (signedUnits f x) z c (e * fine f)
 unfolding distance
 within {f} {x} {z} {c} {e} a =
-    let v = inUnits f x in
+    let v = signedUnits f x in
     let n = near-abs (v *ℤ pos c) (z *ℤ pos (2 ^ low f)) (le-refl _) in
     let p = parts-times v c in
     let q = parts-times z (2 ^ low f) in
     let h = a .close in
     omega arith
 
-about : {f : Format} {x : Float} {z : ℤ} {c e : ℕ} → Number f x → Within f (inUnits f x) z c (e * fine f) → About f x z c e
+about : {f : Format} {x : Float} {z : ℤ} {c e : ℕ} → Number f x → Within f (signedUnits f x) z c (e * fine f) → About f x z c e
 unfolding distance
 about {f} {x} {z} {c} {e} m n =
-    let v = inUnits f x in
+    let v = signedUnits f x in
     let p = parts-times v c in
     let q = parts-times z (2 ^ low f) in
     let h = abs-near (v *ℤ pos c) (z *ℤ pos (2 ^ low f)) {e = e * fine f / 2} (omega arith) in
@@ -99,8 +100,8 @@ about-round f s a c i C h l =
 -- ---- the operations
 
 -- how many units at most
-size-of : {f : Format} {x : Float} {z : ℤ} {c e : ℕ} → About f x z c e → natAbs (inUnits f x) * c * 2 ≤ (natAbs z * 2 ^ prec f * 2 + e) * fine f
-size-of {f} {x} {z} {c} {e} a = let l = rw (fines f) at (go (inUnits f x) z (within a)) in omega arith
+size-of : {f : Format} {x : Float} {z : ℤ} {c e : ℕ} → About f x z c e → inUnits f x * c * 2 ≤ (natAbs z * 2 ^ prec f * 2 + e) * fine f
+size-of {f} {x} {z} {c} {e} a = let l = rw (fines f, abs-units f x) at (go (signedUnits f x) z (within a)) in omega arith
   where
     go : (v z : ℤ) → Within f v z c (e * fine f) → natAbs v * c * 2 ≤ natAbs z * 2 ^ low f * 2 + e * fine f
     go (pos v) (pos z) n = omega arith
@@ -135,13 +136,14 @@ sum-rounds f false a true b c = apart f a b c (ltb a b) (ltb→lt a b) (nltb→l
 sum-rounds f true a false b c =
     rw (sum-turned f a b c, +ℤ-comm (negℤ (pos a)) (pos b)) (apart f b a c (ltb b a) (ltb→lt b a) (nltb→le b a))
 
-signed-back : {f : Format} {x : Float} → Number f x → signed (negative x) (natAbs (inUnits f x)) ≡ inUnits f x
-signed-back {f} {x} n = sym (worth-units (worth x n))
+signed-back : (f : Format) (x : Float) → signed (negative x) (inUnits f x) ≡ signedUnits f x
+unfolding signedUnits
+signed-back f x = refl
 
-add-rounds : {f : Format} {x y : Float} → Number f x → Number f y → Rounds f (add f x y) (inUnits f x +ℤ inUnits f y) (2 ^ low f)
+add-rounds : {f : Format} {x y : Float} → Number f x → Number f y → Rounds f (add f x y) (signedUnits f x +ℤ signedUnits f y) (2 ^ low f)
 add-rounds {f} {x} {y} n m =
-    let r = sum-rounds f (negative x) (natAbs (inUnits f x)) (negative y) (natAbs (inUnits f y)) (2 ^ low f) in
-    record { sign = r .sign; count = r .count; is = worth-add (worth x n) (worth y m) ∙ r .is; of = r .of ∙ rw (signed-back n, signed-back m) }
+    let r = sum-rounds f (negative x) (inUnits f x) (negative y) (inUnits f y) (2 ^ low f) in
+    record { sign = r .sign; count = r .count; is = worth-add (worth x n) (worth y m) ∙ r .is; of = r .of ∙ rw (signed-back f x, signed-back f y) }
 
 rounds-about : {f : Format} {x : Float} {z : ℤ} {c : ℕ} (i : ℕ) → Rounds f x z c → 0 < c → natAbs z < 2 ^ i * c → i ≤ emax f → About f x z c (2 ^ i * c)
 rounds-about {f} {x} {z} {c} i r C h l =
@@ -161,14 +163,14 @@ pub about-add : {f : Format} {x y : Float} {z w : ℤ} {c d e : ℕ} (i : ℕ) �
     → (natAbs z + natAbs w) * 2 ^ prec f * 2 + d + e < 2 ^ i * c * 2 ^ prec f * 2 → About f (add f x y) (z +ℤ w) c (d + e + 2 ^ i * c)
 about-add {f} {x} {y} {z} {w} {c} {d} {e} i p q l h =
     let u = 2 ^ low f in
-    let v = inUnits f x +ℤ inUnits f y in
+    let v = signedUnits f x +ℤ signedUnits f y in
     let k = mul-lt-mul-of-pos-right h (pow-pos (low f - prec f)) in
-    let few : natAbs (inUnits f x) + natAbs (inUnits f y) < 2 ^ i * u = rw (fines f) (lt-of-mul-lt-mul-right (c * 2) (omega (arith, size-of p, size-of q))) in
-    let r = rounds-about i (add-rounds (p .number) (q .number)) (pow-pos (low f)) (omega (arith, abs-add (inUnits f x) (inUnits f y))) l in
-    let t = inUnits f (add f x y) in
+    let few : inUnits f x + inUnits f y < 2 ^ i * u = rw (fines f) (lt-of-mul-lt-mul-right (c * 2) (omega (arith, size-of p, size-of q))) in
+    let r = rounds-about i (add-rounds (p .number) (q .number)) (pow-pos (low f)) (omega (arith, abs-add (signedUnits f x) (signedUnits f y), abs-units f x, abs-units f y)) l in
+    let t = signedUnits f (add f x y) in
     let n : Near ((above t + below v) * 2) ((above v + below t) * 2) (2 ^ i * fine f) = near-over u (pow-pos (low f)) (omega (arith, within r)) in
     let m = near-times c n in
-    let a = ap (λ (k : ℕ). k * c) (parts-add (inUnits f x) (inUnits f y)) in
+    let a = ap (λ (k : ℕ). k * c) (parts-add (signedUnits f x) (signedUnits f y)) in
     let b = ap (λ (k : ℕ). k * u) (parts-add z w) in
     about (r .number) (omega (arith, within p, within q))
 
@@ -183,7 +185,7 @@ about-whole f z h =
     rw signed-int at a
 
 -- and -0.0, with which a sum begins, for 0
-pub about-minus-zero : (f : Format) (c : ℕ) → About f minusZero (pos 0) c 0
+pub about-minus-zero : (f : Format) (c : ℕ) → About f (fin true 0 (pos 0)) (pos 0) c 0
 unfolding fits
 about-minus-zero f c = about-worth {s = true} {g = 0} 0 (record { fit = tt; value = (refl, simp zero-mul) }) (omega arith)
 
@@ -192,20 +194,20 @@ pub about-div : {f : Format} {x : Float} {z : ℤ} {c e : ℕ} (i n : ℕ) → A
     → natAbs z * 2 ^ prec f * 2 + e < 2 ^ i * (c * n) * 2 ^ prec f * 2 → About f (div f x (ofInt f (pos n))) z (c * n) (e + 2 ^ i * (c * n))
 about-div {f} {x} {z} {c} {e} i n p N k l h =
     let u = 2 ^ low f in
-    let v = inUnits f x in
+    let v = signedUnits f x in
     let g = mul-lt-mul-of-pos-right h (pow-pos (low f - prec f)) in
-    let few : natAbs v < 2 ^ i * (n * u) = rw (fines f) (lt-of-mul-lt-mul-right (c * 2) (omega (arith, size-of p))) in
+    let few : inUnits f x < 2 ^ i * (n * u) = rw (fines f) (lt-of-mul-lt-mul-right (c * 2) (omega (arith, size-of p))) in
     let r : About f (div f x (ofInt f (pos n))) v (n * u) (2 ^ i * (n * u)) =
-    rw (worth-div (worth x (p .number)) n N k) (rw (signed-back (p .number)) at (about-round f (negative x) (natAbs v) (n * u) i (mul-pos N (pow-pos (low f))) few l)) in
-    let t = inUnits f (div f x (ofInt f (pos n))) in
+    rw (worth-div (worth x (p .number)) n N k) (rw (signed-back f x) at (about-round f (negative x) (inUnits f x) (n * u) i (mul-pos N (pow-pos (low f))) few l)) in
+    let t = signedUnits f (div f x (ofInt f (pos n))) in
     let q : Near ((above t * n + below v) * 2) ((above v + below t * n) * 2) (2 ^ i * n * fine f) = near-over u (pow-pos (low f)) (omega (arith, within r)) in
     let m = near-times c q in
     about (r .number) (omega (arith, within p))
 
 -- ---- order
 
-pub number-lt : {f : Format} {x y : Float} → Number f x → Number f y → lt x y ≡ ltZ (inUnits f x) (inUnits f y)
-number-lt {f} {x} {y} n m = rw (← signed-back n, ← signed-back m) (worth-lt (worth x n) (worth y m))
+pub number-lt : {f : Format} {x y : Float} → Number f x → Number f y → lt x y ≡ ltZ (signedUnits f x) (signedUnits f y)
+number-lt {f} {x} {y} n m = rw (← signed-back f x, ← signed-back f y) (worth-lt (worth x n) (worth y m))
 
 -- a bound on a difference, times k
 spread : (a b c v u x d g k : ℕ) → (a * c + v * u) * 2 ≤ (b * u + x * c) * 2 + d * g
@@ -233,8 +235,8 @@ reach x⁺ x⁻ y⁺ y⁻ z⁺ z⁻ w⁺ w⁻ c b d e p u g G eq h k o l =
 pub about-lt : {f : Format} {x y : Float} {z w : ℤ} {c b d e : ℕ} → About f x z c d → About f y w b e
     → ltZ (z *ℤ pos b) (w *ℤ pos c) ≡ true → d * b + e * c < 2 ^ prec f * 2 → lt x y ≡ true
 about-lt {f} {x} {y} {z} {w} {c} {b} {d} {e} p q g h =
-    let v = inUnits f x in
-    let t = inUnits f y in
+    let v = signedUnits f x in
+    let t = signedUnits f y in
     let i = parts-times z b in
     let j = parts-times w c in
     let o : above z * b + below w * c < above w * c + below z * b = omega (arith, parts-less (z *ℤ pos b) (w *ℤ pos c) g) in
@@ -252,21 +254,21 @@ about-order {f} {x} {y} {z} {w} {c} {b} p q k h = go (one-of-three (z *ℤ pos b
     go (inl l) = about-lt p q l h ∙ sym l
     go (inr (inl g)) =
         number-lt (p .number) (q .number)
-        ∙ not-less (inUnits f y) (inUnits f x) (sym (number-lt (q .number) (p .number)) ∙ about-lt q p g (omega arith))
+        ∙ not-less (signedUnits f y) (signedUnits f x) (sym (number-lt (q .number) (p .number)) ∙ about-lt q p g (omega arith))
         ∙ sym (not-less (w *ℤ pos c) (z *ℤ pos b) g)
     go (inr (inr e)) = absurd (k e)
 
-pub zero-is : (f : Format) → ofInt f (pos 0) ≡ plusZero
+pub zero-is : (f : Format) → ofInt f (pos 0) ≡ fin false 0 (pos 0)
 unfolding ofInt
 zero-is binary32 = refl
 zero-is binary64 = refl
 
 -- a number that stands for a negative fraction is below 0, so what has its fraction's sign is not -0.0
 pub about-below : {f : Format} {x : Float} {z : ℤ} {c e : ℕ} → About f x z c e → negative x ≡ isNegative z → e < 2 ^ prec f * 2
-    → negative x ≡ true → lt x plusZero ≡ true
+    → negative x ≡ true → lt x (fin false 0 (pos 0)) ≡ true
 about-below {f} {x} {z} {c} {e} a s h = go z a s
   where
-    go : (z : ℤ) → About f x z c e → negative x ≡ isNegative z → negative x ≡ true → lt x plusZero ≡ true
+    go : (z : ℤ) → About f x z c e → negative x ≡ isNegative z → negative x ≡ true → lt x (fin false 0 (pos 0)) ≡ true
     go (pos n) a s t = absurd (true≢false (sym t ∙ s))
     go (negsuc n) a s t =
         let p = parts-times (negsuc n) 1 in
@@ -280,13 +282,13 @@ pub about-sign : {x y : Float} {z w : ℤ} {c b d e : ℕ} → About binary64 x 
 about-sign {x} {y} p q s h = sign-difference x y (p .number .ends) (q .number .ends) (about-below p s h)
 
 -- and a number that stands for a fraction other than 0 is not 0
-pub about-some : {f : Format} {x : Float} {z : ℤ} {c e : ℕ} → About f x z c e → 0 < natAbs z → e < 2 ^ prec f * 2 → eq x plusZero ≡ false
+pub about-some : {f : Format} {x : Float} {z : ℤ} {c e : ℕ} → About f x z c e → 0 < natAbs z → e < 2 ^ prec f * 2 → eq x (fin false 0 (pos 0)) ≡ false
 about-some {f} {x} {z} {c} {e} a h l =
     let k = mul-le-mul-right (2 ^ low f) h in
     let m = mul-lt-mul-of-pos-right l (pow-pos (low f - prec f)) in
     let u = fines f in
-    let p : 0 < natAbs (inUnits f x) = first-pos (natAbs (inUnits f x)) (c * 2) (omega (arith, go (inUnits f x) z (within a))) in
-    worth-zero (worth x (a .number)) ∙ ne-eqb (natAbs (inUnits f x)) 0 (not-zero (natAbs (inUnits f x)) p)
+    let p : 0 < inUnits f x = first-pos (inUnits f x) (c * 2) (omega (arith, rw abs-units at (go (signedUnits f x) z (within a)))) in
+    worth-zero (worth x (a .number)) ∙ ne-eqb (inUnits f x) 0 (not-zero (inUnits f x) p)
   where
     go : (v z : ℤ) → Within f v z c (e * fine f) → natAbs z * 2 ^ low f * 2 ≤ natAbs v * (c * 2) + e * fine f
     go (pos v) (pos z) n = omega arith

@@ -15,7 +15,9 @@ use lib.Ieee.Nearest.{closest}
 use lib.Ieee.Order.{kept, drop}
 use lib.Ieee.Scale.{grid, overflow}
 use Rattle.rounding.specs.Integers.{above, below, signed, Near, gap, parts-times, parts-signed, abs-gap}
-use Rattle.rounding.specs.Units.{inUnits, Number, Worth, worth-number, worth-units, round-worth, number-digits, Digits}
+use Rattle.rounding.specs.Units.{signedUnits, Number, Worth, worth-number, worth-units, round-worth, abs-units}
+use Rattle.rounding.specs.Root.{inUnits}
+use Rattle.rounding.specs.Root.Units.{Made, made}
 use Rattle.rounding.specs.Value.{shape}
 use Rattle.rounding.specs.Error.{places, closest-near, grid-relative}
 use Rattle.rounding.specs.About.{distance}
@@ -24,7 +26,7 @@ use Rattle.rounding.specs.About.{distance}
 pub record NearestTo (f : Format) (z : ℤ) (n : ℕ) (x : Float) : Type 0 where
   pub number : Number f x
   pub least : (y : Float) → Number f y → distance f x z n ≤ distance f y z n
-  pub even : (y : Float) → Number f y → distance f x z n ≡ distance f y z n → ¬ (inUnits f x ≡ inUnits f y) → toBits f x % 2 ≡ 0
+  pub even : (y : Float) → Number f y → distance f x z n ≡ distance f y z n → ¬ (signedUnits f x ≡ signedUnits f y) → toBits f x % 2 ≡ 0
 
 -- ---- a whole number nearest to a / b
 
@@ -169,12 +171,12 @@ worth-even {f} {x} {s} {u} w h =
 
 -- the distance of v units from ±a / c, in natural numbers
 distance-is : (f : Format) (x : Float) (z : ℤ) (c : ℕ)
-    → distance f x z c ≡ gap (above (inUnits f x) * c + below z * 2 ^ low f) (above z * 2 ^ low f + below (inUnits f x) * c)
+    → distance f x z c ≡ gap (above (signedUnits f x) * c + below z * 2 ^ low f) (above z * 2 ^ low f + below (signedUnits f x) * c)
 unfolding distance
 distance-is f x z c =
-    let p = parts-times (inUnits f x) c in
+    let p = parts-times (signedUnits f x) c in
     let q = parts-times z (2 ^ low f) in
-    abs-gap (inUnits f x *ℤ pos c) (z *ℤ pos (2 ^ low f)) ∙ rw (p .0, p .1, q .0, q .1)
+    abs-gap (signedUnits f x *ℤ pos c) (z *ℤ pos (2 ^ low f)) ∙ rw (p .0, p .1, q .0, q .1)
 
 -- on the same side of zero it is the difference of the sizes
 same-side : (s : Bool) (v a c u : ℕ) → gap (above (signed s v) * c + below (signed s a) * u) (above (signed s a) * u + below (signed s v) * c) ≡ gap (v * c) (a * u)
@@ -205,32 +207,33 @@ module _ (f : Format) (s : Bool) (a c : ℕ) (C : 0 < c) (h : grid f a c < overf
   here : distance f (round f s a c) (signed s a) c ≡ gap (grid f a c * c) (a * 2 ^ low f)
   here = distance-is f (round f s a c) (signed s a) c ∙ rw (worth-units found) (same-side s (grid f a c) a c (2 ^ low f))
 
-  against : (v : ℕ) → Digits f v → Best (a * 2 ^ low f) c (places f a c) (kept (prec f) (a * 2 ^ low f) c) v
-  against v d = rw (d .is) (best (rounding f a c C) (d .digits) (d .zeros) (d .short) (omega (arith, two f)))
+  against : (m j : ℕ) → m < 2 ^ prec f → Best (a * 2 ^ low f) c (places f a c) (kept (prec f) (a * 2 ^ low f) c) (m * 2 ^ j)
+  against m j h = best (rounding f a c C) m j h (omega (arith, two f))
 
   against-zero : Best (a * 2 ^ low f) c (places f a c) (kept (prec f) (a * 2 ^ low f) c) 0
-  against-zero = against 0 (record { digits = 0; zeros = 0; short = pow-pos (prec f); is = refl })
+  against-zero = against 0 0 (pow-pos (prec f))
 
   -- no number y is nearer, and as near only if the digits that were kept are even
   record Judged (y : Float) : Type 0 where
     least : distance f (round f s a c) (signed s a) c ≤ distance f y (signed s a) c
-    even : distance f (round f s a c) (signed s a) c ≡ distance f y (signed s a) c → ¬ (inUnits f (round f s a c) ≡ inUnits f y) → kept (prec f) (a * 2 ^ low f) c % 2 ≡ 0
+    even : distance f (round f s a c) (signed s a) c ≡ distance f y (signed s a) c → ¬ (signedUnits f (round f s a c) ≡ signedUnits f y) → kept (prec f) (a * 2 ^ low f) c % 2 ≡ 0
 
   judged : (y : Float) → Number f y → Judged y
-  judged y n = go (either-side s (inUnits f y) a c (2 ^ low f))
+  judged y n = go (either-side s (signedUnits f y) a c (2 ^ low f))
     where
       u : ℕ
       u = 2 ^ low f
 
       v : ℤ
-      v = inUnits f y
+      v = signedUnits f y
 
       there : distance f y (signed s a) c ≡ gap (above v * c + below (signed s a) * u) (above (signed s a) * u + below v * c)
       there = distance-is f y (signed s a) c
 
       go : (v ≡ signed s (natAbs v)) ⊎ (gap (above v * c + below (signed s a) * u) (above (signed s a) * u + below v * c) ≡ natAbs v * c + a * u) → Judged y
       go (inl e) =
-          let b = against (natAbs v) (number-digits y n) in
+          let (m, d) = made f y (n .fit) (n .ends) in
+          let b : Best (a * u) c (places f a c) (kept (prec f) (a * u) c) (natAbs v) = rw (abs-units f y, d .is) (against m (d .j) (d .short)) in
           let d : distance f y (signed s a) c ≡ gap (natAbs v * c) (a * u) =
           there ∙ ap (λ (t : ℤ). gap (above t * c + below (signed s a) * u) (above (signed s a) * u + below t * c)) e ∙ same-side s (natAbs v) a c u in
           record {

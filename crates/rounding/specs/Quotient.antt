@@ -16,11 +16,11 @@ use lib.Ieee.Fits.{two}
 use lib.Ieee.Positive.{first-pos}
 use lib.Ieee.Order.{kept, drop}
 use lib.Ieee.Scale.{grid, overflow, round-same, normal-of-fraction}
-use Rattle.rounding.specs.Leaves.{plusZero, plusOne, minusOne, signOf}
+use Rattle.rounding.specs.Leaves.{plusOne, minusOne, signOf}
 use Rattle.rounding.specs.Integers.{above, below, signed, Near, parts-abs, parts-times, self-not-less}
 use Rattle.rounding.specs.Value.{not-zero, div-at}
 use Rattle.rounding.specs.Whole.{isNegative, whole-value}
-use Rattle.rounding.specs.Units.{inUnits, Number, Worth, unlike-plus, round-worth, worth-negative}
+use Rattle.rounding.specs.Units.{signedUnits, Number, Worth, unlike-plus, round-worth, worth-negative}
 use Rattle.rounding.specs.Nearest.{NearestTo, round-nearest}
 use Rattle.rounding.specs.Error.{places, closest-near, grid-near, grid-range, grid-relative}
 use Rattle.rounding.specs.About.{fine, About, about-worth, about-order, about-sign, number-lt, signed-int, zero-is}
@@ -44,7 +44,7 @@ module _ {f : Format} {z : ℤ} {n : ℕ} (w : Whole f z n) where
       ∙ simp (unlike-plus, mul-one)
 
 -- a quotient of 0 is +0.0
-pub quotient-zero : {f : Format} {n : ℕ} → Whole f (pos 0) n → quotient f (pos 0) n ≡ plusZero
+pub quotient-zero : {f : Format} {n : ℕ} → Whole f (pos 0) n → quotient f (pos 0) n ≡ fin false 0 (pos 0)
 unfolding ofInt
 quotient-zero {f} {n} w = quotient-is w ∙ round-same f false 0 n 0 1 (w .some) (zero-lt-suc 0) (omega arith) ∙ zero-is f
 
@@ -144,7 +144,7 @@ module _ {f : Format} {a b : ℤ} {n m : ℕ} (v : Whole f a n) (w : Whole f b m
         go : Dec (a *ℤ pos m ≡ b *ℤ pos n) → lt (quotient f a n) (quotient f b m) ≡ ltZ (a *ℤ pos m) (b *ℤ pos n)
         go (yes e) =
             let i = about-quotient w .number in
-            rw (quotient-same e, e) (number-lt i i ∙ self-not-less (inUnits f (quotient f b m)) ∙ sym (self-not-less (b *ℤ pos n)))
+            rw (quotient-same e, e) (number-lt i i ∙ self-not-less (signedUnits f (quotient f b m)) ∙ sym (self-not-less (b *ℤ pos n)))
         go (no k) = about-order (about-quotient v) (about-quotient w) k (omega arith)
 
 -- and the sign of their difference says it

@@ -14,17 +14,18 @@ use lib.Ieee.Fits.{and-l, and-r, down-pos, round-fits, round-is, ofInt-fits}
 use lib.Ieee.Exact.{HasValue, units-val}
 use lib.Ieee.Order.{kept, drop}
 use lib.Ieee.Scale.{grid, overflow, finite}
-use Rattle.rounding.specs.Leaves.{plusZero, negative}
+use Rattle.rounding.specs.Root.{inUnits}
+use Rattle.rounding.specs.Root.Units.{value-units}
+use Rattle.rounding.specs.Leaves.{negative}
 use Rattle.rounding.specs.Whole.{isNegative, whole-value}
 use Rattle.rounding.specs.Integers.{signed, parts-signed, parts-lt}
 use lib.Signed.{ltZ}
 use Rattle.rounding.specs.Value.{shape, add-at, sub-at, lt-at, div-at}
 
--- a finite number's value, in units
-unfoldable pub inUnits : Format → Float → ℤ
-inUnits f nan = pos 0
-inUnits f (inf s) = pos 0
-inUnits f (fin s m e) = signed s (m * up e * 2 ^ low f / down e)
+-- a finite number's value in units
+unfoldable pub signedUnits : Format → Float → ℤ
+unfolding negative
+signedUnits f x = signed (negative x) (inUnits f x)
 
 -- x is a finite number of the format f
 pub record Number (f : Format) (x : Float) : Type 0 where
@@ -64,14 +65,15 @@ abs-signed true zero = refl
 abs-signed true (suc u) = refl
 abs-signed false u = refl
 
-pub worth : {f : Format} (x : Float) → Number f x → Worth f x (negative x) (natAbs (inUnits f x))
-unfolding negative inUnits
+pub abs-units : (f : Format) (x : Float) → natAbs (signedUnits f x) ≡ inUnits f x
+unfolding signedUnits
+abs-units f x = abs-signed (negative x) (inUnits f x)
+
+pub worth : {f : Format} (x : Float) → Number f x → Worth f x (negative x) (inUnits f x)
+unfolding negative
 worth nan n = absurd (n .ends)
 worth (inf s) n = absurd (n .ends)
-worth {f} (fin s m e) n = record {
-  fit = n .fit;
-  value = (refl, whole-units f s m e (n .fit) ∙ ap (λ (z : ℕ). z * down e) (sym (abs-signed s (m * up e * 2 ^ low f / down e))));
-}
+worth {f} (fin s m e) n = record { fit = n .fit; value = (refl, whole-units f s m e (n .fit)) }
 
 module _ {f : Format} {x : Float} {s : Bool} {u : ℕ} (w : Worth f x s u) where
   pub worth-number : Number f x
@@ -81,36 +83,9 @@ module _ {f : Format} {x : Float} {s : Bool} {u : ℕ} (w : Worth f x s u) where
   unfolding negative
   worth-negative = let (m, e, p, v) = shape x s u (2 ^ low f) (w .value) in rw p
 
-  pub worth-units : inUnits f x ≡ signed s u
-  unfolding inUnits
-  worth-units = let (m, e, p, v) = shape x s u (2 ^ low f) (w .value) in rw (p, v) (ap (signed s) (mul-div-cancel u (down-pos e)))
-
--- a count of units has at most prec binary digits, and zeros after them
-pub record Digits (f : Format) (u : ℕ) : Type 0 where
-  pub digits : ℕ
-  pub zeros : ℕ
-  pub short : digits < 2 ^ prec f
-  pub is : u ≡ digits * 2 ^ zeros
-
-digits-lt : (f : Format) (s : Bool) (m : ℕ) (e : ℤ) → T (fits f (fin s m e)) → m < 2 ^ prec f
-unfolding fits
-digits-lt f s zero e t = pow-pos (prec f)
-digits-lt f s (suc m) e t =
-    let a = eqb (suc m % 2) 1 in
-    let b = ltb (suc m) (2 ^ prec f) in
-    let c = leb (down e) (2 ^ low f) in
-    ltb→lt (suc m) (2 ^ prec f) (and-r a b (and-l (a && b) c (and-l (a && b && c) (ltb (suc m * up e) (2 ^ suc (emax f) * down e)) t)))
-
-units-digits : (f : Format) (s : Bool) (m : ℕ) (e : ℤ) → T (fits f (fin s m e)) → Digits f (m * up e * 2 ^ low f / down e)
-units-digits f s m e t =
-    let (j, p) = in-low f s m e t in
-    record { digits = m; zeros = j; short = digits-lt f s m e t; is = rw p (mul-div-cancel (m * 2 ^ j) (down-pos e)) }
-
-pub number-digits : {f : Format} (x : Float) → Number f x → Digits f (natAbs (inUnits f x))
-unfolding inUnits
-number-digits nan n = absurd (n .ends)
-number-digits (inf s) n = absurd (n .ends)
-number-digits {f} (fin s m e) n = rw abs-signed (units-digits f s m e (n .fit))
+  pub worth-units : signedUnits f x ≡ signed s u
+  unfolding signedUnits
+  worth-units = rw (worth-negative, value-units f x s u (w .value))
 
 -- a whole number
 pub worth-whole : (f : Format) (z : ℤ) → natAbs z ≤ 2 ^ prec f → Worth f (ofInt f z) (isNegative z) (natAbs z * 2 ^ low f)
@@ -171,7 +146,7 @@ level-zero s a d = rw zero-mul (go s (eqb a 0))
     go false false = refl
 
 -- compared with 0.0
-pub worth-zero : {f : Format} {x : Float} {s : Bool} {u : ℕ} → Worth f x s u → eq x plusZero ≡ eqb u 0
+pub worth-zero : {f : Format} {x : Float} {s : Bool} {u : ℕ} → Worth f x s u → eq x (fin false 0 (pos 0)) ≡ eqb u 0
 unfolding eq
 worth-zero {f} {x} {s} {u} w = let (m, e, p, v) = shape x s u (2 ^ low f) (w .value) in
     rw p (level-zero s (m * up e * 1) (down e) ∙ rw mul-one (both-zero (m * up e) (2 ^ low f) u (down e) (pow-pos (low f)) (down-pos e) v))

@@ -11,7 +11,6 @@ use lib.Ieee.{Float, fin, Format, prec, round, sum, add, sub, ofInt}
 use lib.Ieee.Back.{round-whole}
 use lib.Ieee.Exact.{HasValue}
 use borrow.Author.Tests.{lt-ltb, le-ltb}
-use Rattle.rounding.specs.Leaves.{minusZero}
 use Rattle.rounding.specs.Value.{add-at, sub-at}
 
 abbrev pub isNegative : ℤ → Bool
@@ -78,5 +77,5 @@ module _ (f : Format) (a b : ℤ) (h : natAbs a ≤ 2 ^ prec f) (k : natAbs b �
       sub-at (ofInt f a) (ofInt f b) (isNegative a) (natAbs a) (isNegative b) (natAbs b) 1 (zero-lt-suc 0) (whole-value f a h) (whole-value f b k) f
       ∙ sum-minus f a b
 
-pub add-first : (f : Format) (z : ℤ) → natAbs z ≤ 2 ^ prec f → add f minusZero (ofInt f z) ≡ ofInt f z
-add-first f z h = add-at minusZero (ofInt f z) true 0 (isNegative z) (natAbs z) 1 (zero-lt-suc 0) (refl, refl) (whole-value f z h) f ∙ sum-first f z
+pub add-first : (f : Format) (z : ℤ) → natAbs z ≤ 2 ^ prec f → add f (fin true 0 (pos 0)) (ofInt f z) ≡ ofInt f z
+add-first f z h = add-at (fin true 0 (pos 0)) (ofInt f z) true 0 (isNegative z) (natAbs z) 1 (zero-lt-suc 0) (refl, refl) (whole-value f z h) f ∙ sum-first f z
