@@ -1,16 +1,15 @@
 -- How far a sum or a mean of rounded numbers is from the exact one. Assumes nothing.
-use mathlib.Core.Path.{_≡_, refl}
 use Prim.Native.Nat.{ℕ, zero, suc, _+_, _-_, _*_, _^_, _<_, _≤_}
 use native.Mathlib.Nat.{le-refl, mul-le-mul-right, mul-le-mul-left, mul-le-mul, mul-pos}
 use native.Mathlib.Omega.{arith}
 use lib.Dec.{lit≤}
-use lib.IntN.{ℤ, pos, natAbs}
-use lib.Ieee.{Float, binary64}
+use lib.IntN.{ℤ, natAbs}
+use lib.Ieee.{binary64}
 use Rattle.rounding.specs.Integers.{total, total-size}
 use Rattle.rounding.specs.About.{About, about-weaken, about-minus-zero, about-add, about-div}
 use Rattle.rounding.specs.Quotient.{about-quotient}
 use Rattle.calls.specs.Line.{Line, plusZero, minusZero, from-bar}
-use Rattle.averages.specs.Window.{sumFrom, windowSum, over, mean}
+use Rattle.averages.specs.Window.{sumFrom, windowSum, mean}
 use Rattle.averages.specs.Exact.{Ticks, window-size, window-whole, mean-exact}
 
 -- the cells of f from bar a on stand for the fractions z / c, of size at most b / c, within e

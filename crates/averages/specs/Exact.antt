@@ -1,17 +1,17 @@
 -- On whole ticks a window's sum is exact, however it is made, and a mean is one rounding. Assumes nothing.
-use mathlib.Core.Path.{_≡_, refl, sym, ap, _∙_}
+use mathlib.Core.Path.{_≡_}
 use Prim.Native.Nat.{ℕ, zero, suc, _+_, _-_, _*_, _^_, _<_, _≤_}
 use native.Mathlib.Nat.{add-comm, not-suc-le-zero}
 use native.Mathlib.Numerals.{suc-eq-add-one}
 use native.Mathlib.Omega.{arith}
-use lib.IntN.{ℤ, pos, natAbs, negℤ, _+ℤ_, _-ℤ_, +ℤ-idl, +ℤ-assoc}
-use lib.Ieee.{Float, nan, binary64, add, sub, ofInt}
-use Rattle.rounding.specs.Integers.{total, total-size, total-slides, abs-add, abs-minus}
+use lib.IntN.{ℤ, natAbs, _+ℤ_, _-ℤ_, +ℤ-idl}
+use lib.Ieee.{Float, nan, binary64, ofInt}
+use Rattle.rounding.specs.Integers.{total, total-size, total-slides, abs-minus}
 use Rattle.rounding.specs.Whole.{add-whole, sub-whole, add-first}
 use Rattle.rounding.specs.Quotient.{quotient, Whole}
 use Rattle.calls.specs.Line.{Line, plusZero, minusZero, from-bar}
 use Rattle.calls.specs.Recur.{recur}
-use Rattle.averages.specs.Window.{sumFrom, runningSum, windowSum, over, mean}
+use Rattle.averages.specs.Window.{sumFrom, runningSum, windowSum, mean}
 use Rattle.averages.specs.Averages.{addDifference, smaLine}
 
 -- the first l cells of f are whole ticks, the numbers t, of magnitude at most 16,777,216

@@ -1,13 +1,13 @@
 -- The two-average rule on whole ticks is decided exactly. Assumes nothing.
-use mathlib.Core.Path.{_≡_, _∙_}
+use mathlib.Core.Path.{_≡_}
 use mathlib.Core.Bool.{cond}
-use Prim.Native.Nat.{ℕ, _+_, _-_, _*_, _^_, _<_, _≤_}
+use Prim.Native.Nat.{ℕ, _+_, _-_, _*_, _<_, _≤_}
 use native.Mathlib.Omega.{arith}
-use lib.IntN.{ℤ, pos, negℤ, natAbs, _+ℤ_, _-ℤ_, _*ℤ_, +ℤ-assoc}
+use lib.IntN.{ℤ, pos, negℤ, natAbs, _+ℤ_, _*ℤ_, +ℤ-assoc}
 use lib.Signed.{ltZ}
-use lib.Ieee.{Float, binary64, add, sub, ofInt}
+use lib.Ieee.{binary64}
 use Rattle.rounding.specs.Leaves.{plusOne, minusOne}
-use Rattle.rounding.specs.Integers.{total, abs-add}
+use Rattle.rounding.specs.Integers.{abs-add}
 use Rattle.rounding.specs.Whole.{add-whole, sub-whole}
 use Rattle.rounding.specs.Quotient.{quotient, quotient-sign}
 use Rattle.calls.specs.Line.{Line, plusZero, from-bar}

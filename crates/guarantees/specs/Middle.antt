@@ -4,19 +4,19 @@ use mathlib.Core.Bool.{Bool, true, false, cond}
 use Prim.Native.Nat.{ℕ, zero, suc, _+_, _-_, _*_, _^_, _<_, _≤_}
 use native.Mathlib.Nat.{le-refl, mul-le-mul, mul-lt-mul-of-pos-right, lt-of-mul-lt-mul-right, add-zero, eq-of-mul-eq-mul-right}
 use native.Mathlib.Omega.{arith}
-use lib.Dec.{ltb, lit<, lit≤}
+use lib.Dec.{lit<, lit≤}
 use lib.IntN.{ℤ, pos, natAbs, _+ℤ_, _*ℤ_}
 use lib.Signed.{ltZ}
 use lib.Ieee.{Float, binary64, add, sub, div, lt, ofInt}
 use Rattle.rounding.specs.Leaves.{plusOne, minusOne, signOf}
-use Rattle.rounding.specs.Integers.{above, below, total, abs-add, parts-lt, parts-times, parts-same, ltb-same}
+use Rattle.rounding.specs.Integers.{above, below, abs-add, parts-lt, parts-times, parts-same, ltb-same}
 use Rattle.rounding.specs.Units.{worth-negative}
 use Rattle.rounding.specs.About.{About, about-weaken, about-add, about-div, about-sign, about-order, about-some}
 use Rattle.rounding.specs.Quotient.{quotient, Whole, quotient-lt, quotient-worth, about-quotient}
 use Rattle.calls.specs.Line.{Line, plusZero, from-bar}
 use Rattle.averages.specs.Averages.{two}
 use Rattle.averages.specs.Window.{mean}
-use Rattle.averages.specs.Exact.{Ticks, window-size, window-whole, mean-exact}
+use Rattle.averages.specs.Exact.{Ticks, window-whole, mean-exact}
 use Rattle.averages.specs.Errors.{windowTotal, products, window-total-size}
 use Rattle.guarantees.specs.Single.{some-abs}
 use Rattle.rules.specs.Extreme.{larger, smaller, pickFrom, extreme}

@@ -1,5 +1,5 @@
 -- The one-average rule on whole ticks. Assumes nothing.
-use mathlib.Core.Path.{_≡_, refl, sym, ap, _∙_}
+use mathlib.Core.Path.{_≡_, refl, ap, _∙_}
 use mathlib.Core.Bool.{Bool, cond}
 use Prim.Native.Nat.{ℕ, zero, suc, _+_, _-_, _*_, _^_, _<_, _≤_}
 use native.Mathlib.Nat.{mul-le-mul, mul-one, zero-lt-suc}
@@ -7,10 +7,10 @@ use native.Mathlib.Omega.{arith}
 use lib.Dec.{lit<}
 use lib.IntN.{ℤ, pos, negsuc, negℤ, natAbs, _*ℤ_}
 use lib.Signed.{ltZ}
-use lib.Ieee.{Float, binary64, ofInt}
+use lib.Ieee.{binary64}
 use Rattle.rounding.specs.Leaves.{plusOne, minusOne}
 use Rattle.rounding.specs.Units.{worth-whole, worth-negative}
-use Rattle.rounding.specs.About.{About, about-whole, about-sign, about-order, about-some}
+use Rattle.rounding.specs.About.{about-whole, about-sign, about-order, about-some}
 use Rattle.calls.specs.Line.{Line, plusZero, from-bar}
 use Rattle.averages.specs.Exact.{Ticks}
 use Rattle.averages.specs.Errors.{windowTotal, mean-of-means-about}

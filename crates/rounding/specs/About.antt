@@ -4,22 +4,21 @@
 use mathlib.Core.Path.{_≡_, refl, sym, ap, _∙_}
 use mathlib.Core.Logic.{_⊎_, inl, inr}
 use mathlib.Core.Bool.{Bool, true, false, not, true≢false, cond}
-use Prim.Native.Nat.{ℕ, suc, _+_, _-_, _*_, _/_, _^_, _<_, _≤_, zero-le}
+use Prim.Native.Nat.{ℕ, _+_, _-_, _*_, _/_, _^_, _<_, _≤_, zero-le}
 use native.Mathlib.Nat.{le-refl, le-trans, zero-mul, mul-le-mul-right, mul-pos, le-of-mul-le-mul-right, lt-of-mul-lt-mul-right, mul-lt-mul-of-pos-right}
 use native.Mathlib.Omega.{arith}
-use lib.Dec.{T, ltb, eqb, ltb→lt, nltb→le, lit≤}
+use lib.Dec.{T, ltb, ltb→lt, nltb→le, lit≤}
 use lib.IntN.{ℤ, pos, negsuc, negℤ, natAbs, _+ℤ_, _-ℤ_, _*ℤ_, negℤ-+ℤ, +ℤ-comm}
 use lib.Signed.{ltZ}
 use lib.Pow.{pow-pos, pow-add}
 use borrow.Author.Tests.{lt-ltb, ne-eqb}
 use lib.Ieee.{Float, fin, Format, binary32, binary64, prec, emax, low, round, sum, add, sub, div, lt, eq, ofInt, fits}
 use lib.Ieee.Positive.{first-pos}
-use lib.Ieee.Scale.{grid, overflow}
 use Rattle.rounding.specs.Value.{not-zero}
 use Rattle.rounding.specs.Leaves.{plusOne, minusOne, negative, signOf}
 use Rattle.rounding.specs.Signs.{sign-difference}
 use Rattle.rounding.specs.Root.{inUnits}
-use Rattle.rounding.specs.Integers.{above, below, signed, Near, parts-abs, parts-add, parts-times, parts-signed, parts-same, parts-lt, parts-less, less-parts, one-of-three, not-less, near-abs, abs-near, abs-add}
+use Rattle.rounding.specs.Integers.{above, below, signed, Near, parts-add, parts-times, parts-signed, parts-same, parts-lt, parts-less, less-parts, one-of-three, not-less, near-abs, abs-near, abs-add}
 use Rattle.rounding.specs.Whole.{isNegative, sum-turned}
 use Rattle.rounding.specs.Units.{signedUnits, Number, Worth, worth, worth-number, worth-units, abs-signed, abs-units, worth-whole, worth-add, worth-div, worth-lt, worth-zero, round-worth}
 use Rattle.rounding.specs.Error.{grid-within, grid-range}

@@ -1,16 +1,16 @@
 -- How far `round` moves a number, in units: at most half of the last digit that it keeps. Assumes nothing.
-use mathlib.Core.Path.{_≡_, refl, sym, ap, _∙_}
-use mathlib.Core.Bool.{Bool, true, false, not, cond}
+use mathlib.Core.Path.{_≡_}
+use mathlib.Core.Bool.{not}
 use Prim.Native.Nat.{ℕ, suc, _+_, _-_, _*_, _/_, _%_, _^_, _<_, _≤_, compare, Ordering, Ordering·lt, Ordering·eq, Ordering·gt}
-use native.Mathlib.Nat.{mod-lt, div-add-mod', mul-le-mul-right, mul-le-mul-left, mul-pos, le-trans, div-lt-iff-lt-mul, lt-of-mul-lt-mul-right, sub-le, le-div-iff-mul-le}
+use native.Mathlib.Nat.{mod-lt, div-add-mod', mul-le-mul-right, mul-le-mul-left, mul-pos, div-lt-iff-lt-mul, lt-of-mul-lt-mul-right, sub-le, le-div-iff-mul-le}
 use native.Mathlib.Omega.{arith}
-use lib.Dec.{T, leb, isLe, isEq, leb→le, nleb→lt, eqb→eq}
+use lib.Dec.{T, isLe, isEq, leb→le, nleb→lt, eqb→eq}
 use lib.Pow.{pow-add, pow-pos, pow-mono}
-use lib.Ieee.{Float, Format, prec, emax, low, size, nearest, round}
+use lib.Ieee.{Format, prec, emax, low, size, nearest}
 use lib.Ieee.Digits.{size-le, size-reaches}
 use lib.Ieee.Fits.{two}
 use lib.Ieee.Nearest.{closest}
-use lib.Ieee.Order.{kept, drop}
+use lib.Ieee.Order.{drop}
 use lib.Ieee.Scale.{grid, overflow}
 use Rattle.rounding.specs.Integers.{Near}
 

@@ -1,23 +1,22 @@
 -- The number of a format that is nearest to a fraction: `round` finds it. Assumes nothing.
 use mathlib.Core.Path.{_≡_, refl, sym, ap, _∙_}
 use mathlib.Core.Logic.{_⊎_, inl, inr}
-use mathlib.Core.Bool.{Bool, true, false, not, _&&_, cond}
+use mathlib.Core.Bool.{Bool, true, false, not, cond}
 use Prim.Native.Nat.{ℕ, zero, suc, _+_, _-_, _*_, _/_, _%_, _^_, _<_, _≤_, compare, Ordering, Ordering·lt, Ordering·eq, Ordering·gt}
-use native.Mathlib.Nat.{le-refl, le-antisymm, mod-lt, zero-lt-suc, div-add-mod', mul-le-mul-right, mul-pos, eq-or-lt-of-le, sub-add-cancel, mul-assoc, mul-lt-mul-of-pos-right, mul-right-comm, mul-mod-left, mul-div-cancel, pow-succ', le-of-mul-le-mul-right, add-sub-of-le, le-trans, div-div-eq-div-mul, le-of-lt, ne-of-lt}
+use native.Mathlib.Nat.{le-antisymm, mod-lt, zero-lt-suc, div-add-mod', mul-le-mul-right, mul-pos, sub-add-cancel, mul-assoc, mul-lt-mul-of-pos-right, mul-right-comm, mul-mod-left, mul-div-cancel, pow-succ', le-of-mul-le-mul-right, add-sub-of-le, le-trans, div-div-eq-div-mul, le-of-lt, ne-of-lt}
 use native.Mathlib.Omega.{arith}
-use lib.Dec.{T, ltb, ltb→lt, nltb→le, eqb, isLe, isEq, leb→le, nleb→lt, eqb→eq, eqb-refl}
+use lib.Dec.{T, ltb, ltb→lt, nltb→le, isLe, isEq, leb→le, nleb→lt, eqb→eq}
 use lib.IntN.{ℤ, pos, negsuc, natAbs, _*ℤ_}
 use lib.Pow.{pow-add, pow-pos, pow-mono, shl-lt}
-use lib.Ieee.{Float, Format, binary32, binary64, prec, low, down, up, size, nearest, round, hid, top, toBits}
+use lib.Ieee.{Float, Format, binary32, binary64, prec, low, up, size, nearest, round, hid, top, toBits}
 use lib.Ieee.Fits.{two, eq→eqb, nearest-le, kept-lt, down-pos}
-use lib.Ieee.Digits.{size-le, size-lt, size-reaches}
+use lib.Ieee.Digits.{size-le, size-reaches}
 use lib.Ieee.Nearest.{closest}
-use lib.Ieee.Order.{kept, drop}
+use lib.Ieee.Order.{kept}
 use lib.Ieee.Scale.{grid, overflow}
 use Rattle.rounding.specs.Integers.{above, below, signed, Near, gap, parts-times, parts-signed, abs-gap}
 use Rattle.rounding.specs.Units.{signedUnits, Number, Worth, worth-number, worth-units, round-worth, abs-units}
-use Rattle.rounding.specs.Root.{inUnits}
-use Rattle.rounding.specs.Root.Units.{Made, made}
+use Rattle.rounding.specs.Root.Units.{made}
 use Rattle.rounding.specs.Value.{shape}
 use Rattle.rounding.specs.Error.{places, closest-near, grid-relative}
 use Rattle.rounding.specs.About.{distance}

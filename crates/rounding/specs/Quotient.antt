@@ -1,26 +1,22 @@
 -- Quotients of whole numbers: each is one fraction rounded once, and two of them are in the order of their fractions. Assumes nothing.
 use mathlib.Core.Path.{_≡_, refl, sym, ap, _∙_}
 use mathlib.Core.Logic.{_⊎_, inl, inr}
-use mathlib.Core.Bool.{Bool, true, false, cond}
-use Prim.Native.Nat.{ℕ, zero, suc, _+_, _-_, _*_, _/_, _^_, _<_, _≤_}
-use native.Mathlib.Nat.{le-trans, le-refl, mul-one, mul-le-mul-right, mul-le-mul-left, mul-pos, zero-mul, eq-zero-or-pos, le-of-mul-le-mul-right, lt-of-mul-lt-mul-right, mul-lt-mul-of-pos-right, zero-lt-suc, pow-suc, le-mul-of-pos-right}
+use mathlib.Core.Bool.{Bool, false, cond}
+use Prim.Native.Nat.{ℕ, suc, _+_, _-_, _*_, _^_, _<_, _≤_}
+use native.Mathlib.Nat.{le-trans, mul-one, mul-le-mul-right, mul-le-mul-left, mul-pos, zero-mul, eq-zero-or-pos, le-of-mul-le-mul-right, zero-lt-suc, pow-suc, le-mul-of-pos-right}
 use native.Mathlib.Omega.{arith}
-use lib.Dec.{T, eqb, lit≤}
-use borrow.Author.Tests.{ne-eqb}
+use lib.Dec.{lit≤}
 use lib.IntN.{ℤ, pos, negsuc, natAbs, _*ℤ_, ℤ-discrete}
 use lib.Signed.{ltZ}
-use lib.Pow.{pow-add, pow-pos, pow-mono}
+use lib.Pow.{pow-add, pow-pos}
 use lib.Ieee.{Float, fin, Format, binary32, binary64, prec, emax, low, size, round, sub, div, lt, ofInt}
-use lib.Ieee.Nearest.{closest}
-use lib.Ieee.Fits.{two}
-use lib.Ieee.Positive.{first-pos}
 use lib.Ieee.Order.{kept, drop}
 use lib.Ieee.Scale.{grid, overflow, round-same, normal-of-fraction}
 use Rattle.rounding.specs.Leaves.{plusOne, minusOne, signOf}
 use Rattle.rounding.specs.Integers.{above, below, signed, Near, parts-abs, parts-times, self-not-less}
-use Rattle.rounding.specs.Value.{not-zero, div-at}
+use Rattle.rounding.specs.Value.{div-at}
 use Rattle.rounding.specs.Whole.{isNegative, whole-value}
-use Rattle.rounding.specs.Units.{signedUnits, Number, Worth, unlike-plus, round-worth, worth-negative}
+use Rattle.rounding.specs.Units.{signedUnits, Worth, unlike-plus, round-worth, worth-negative}
 use Rattle.rounding.specs.Nearest.{NearestTo, round-nearest}
 use Rattle.rounding.specs.Error.{places, closest-near, grid-near, grid-range, grid-relative}
 use Rattle.rounding.specs.About.{fine, About, about-worth, about-order, about-sign, number-lt, signed-int, zero-is}

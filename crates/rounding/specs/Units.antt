@@ -1,14 +1,14 @@
 -- Every finite number of a format is a whole number of units, the format's smallest value 2 ^ -low, with a sign. Assumes nothing.
 use mathlib.Core.Path.{_≡_, refl, sym, ap, _∙_}
-use mathlib.Core.Bool.{Bool, true, false, not, _&&_, _||_, Bool·beq, cond}
+use mathlib.Core.Bool.{Bool, true, false, _&&_, _||_, Bool·beq, cond}
 use Prim.Native.Nat.{ℕ, zero, suc, _+_, _-_, _*_, _/_, _%_, _^_, _<_, _≤_, zero-le}
-use native.Mathlib.Nat.{zero-mul, zero-div, mul-one, div-one, mul-assoc, mul-div-cancel, lt-of-not-le, not-le-of-lt, le-of-suc-le-suc, sub-add-cancel, add-zero, zero-add, add-comm, zero-lt-suc, mul-pos, lt-irrefl}
+use native.Mathlib.Nat.{zero-mul, mul-one, mul-assoc, mul-div-cancel, lt-of-not-le, not-le-of-lt, le-of-suc-le-suc, sub-add-cancel, add-zero, zero-add, add-comm, zero-lt-suc, mul-pos, lt-irrefl}
 use native.Mathlib.Omega.{arith}
-use lib.Dec.{T, ltb, leb, eqb, leb→le, ltb→lt, eqb·suc-zero}
-use borrow.Author.Tests.{le-ltb, lt-ltb}
-use lib.IntN.{ℤ, pos, negsuc, negℤ, natAbs}
+use lib.Dec.{T, ltb, leb, eqb, leb→le, eqb·suc-zero}
+use borrow.Author.Tests.{le-ltb}
+use lib.IntN.{ℤ, pos, negsuc, natAbs}
 use lib.Pow.{pow-add, pow-pos, pow-lt}
-use lib.Ieee.{Float, nan, inf, fin, Format, prec, emax, low, up, down, unlike, level, odd, units, round, sum, add, sub, div, lt, eq, ofInt, fits}
+use lib.Ieee.{Float, nan, inf, fin, Format, prec, emax, low, up, down, unlike, level, round, sum, add, div, lt, eq, ofInt, fits}
 use lib.Ieee.{below as isBelow}
 use lib.Ieee.Fits.{and-l, and-r, down-pos, round-fits, round-is, ofInt-fits}
 use lib.Ieee.Exact.{HasValue, units-val}
@@ -20,7 +20,7 @@ use Rattle.rounding.specs.Leaves.{negative}
 use Rattle.rounding.specs.Whole.{isNegative, whole-value}
 use Rattle.rounding.specs.Integers.{signed, parts-signed, parts-lt}
 use lib.Signed.{ltZ}
-use Rattle.rounding.specs.Value.{shape, add-at, sub-at, lt-at, div-at}
+use Rattle.rounding.specs.Value.{shape, add-at, lt-at, div-at}
 
 -- a finite number's value in units
 unfoldable pub signedUnits : Format → Float → ℤ
