@@ -1,4 +1,5 @@
--- What a user can rely on, stated of the definitions that the calls promise.
+-- What a user gets, as theorems about the definitions that the contracts cite. Each statement stands under one sentence.
+pub mod Calls
 pub mod Double
 pub mod Single
 pub mod Middle
