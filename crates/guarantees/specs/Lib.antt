@@ -1,5 +1,6 @@
 -- What a user gets, as theorems about the definitions that the contracts cite. Each statement stands under one sentence.
 pub mod Calls
+pub mod Series
 pub mod Double
 pub mod Single
 pub mod Middle
