@@ -4,3 +4,4 @@ pub mod Series
 pub mod Double
 pub mod Single
 pub mod Middle
+pub mod OnTicks

@@ -10,7 +10,12 @@ use lib.IntN.{ℤ, natAbs}
 use lib.ListN.{length, getD}
 use lib.Ieee.{Float, nan, binary64, ofInt, toSigned, fits}
 use lib.Ieee.Back.{float-back-signed}
-use Rattle.calls.specs.Accepted.{tick, all}
+use Rattle.calls.specs.declared.Answer.{Answer}
+use Rattle.calls.specs.declared.Answer.the-variants.{Cells}
+use Rattle.calls.specs.Accepted.{accepted, tick, all}
+use Rattle.calls.specs.Answer.{answered}
+use Rattle.calls.specs.Room.{room, opened}
+use Rattle.calls.specs.Written.{written, getD-written}
 use Rattle.calls.specs.Line.{Line, line}
 use Rattle.calls.specs.Ticks.{ticked}
 use Rattle.averages.specs.Exact.{Ticks}
@@ -40,6 +45,21 @@ is-true false e = absurd (true≢false (sym e))
 pub whole-ticks : {s : List Float} → WholeTicks s → Ticks (length s) (line s) (price s)
 whole-ticks {s} w = record {
   is = λ i h.
-    sym (float-back-signed binary64 63 (line s i) (is-true (fits binary64 (line s i)) (at (fits binary64) s i (w .floats) h)) (ticked (line s i) (at tick s i (w .ticks) h) .castable) .1);
+      sym (float-back-signed binary64 63 (line s i) (is-true (fits binary64 (line s i)) (at (fits binary64) s i (w .floats) h)) (ticked (line s i) (at tick s i (w .ticks) h) .castable) .1);
   small = λ i h. ticked (line s i) (at tick s i (w .ticks) h) .near;
 }
+
+-- ---- what an answered call has at a bar below its count
+
+pub record Bar (n : ℕ) (s out₁ : List Float) (f : Line) (i : ℕ) : Type 0 where
+  pub some : 0 < n
+  pub narrow : n ≤ 4096
+  pub inside : i < length s
+  pub cell : getD out₁ i nan ≡ f i
+
+pub bar : (n : ℕ) (s out₀ : List Float) (work : List ℕ) (k i : ℕ) {f : Line} {out₁ : List Float} → answered accepted s (n ∷ []) (length out₀) work ≡ Cells k → out₁ ≡ written k f out₀
+    → i < k → Bar n s out₁ f i
+bar n s out₀ work k i {f} e c h =
+    let r = room accepted s (n ∷ []) (length out₀) work k e in
+    let o = opened accepted s n (length out₀) work k e (omega arith) in
+    record { some = o .some; narrow = o .narrow; inside = omega (arith, o .whole); cell = rw c (getD-written k f out₀ i nan h (omega (arith, o .whole, r .out-long))) }
