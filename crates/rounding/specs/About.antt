@@ -98,15 +98,19 @@ about-round f s a c i C h l =
 
 -- ---- the operations
 
+-- the sizes are as near as the values
+sizes : (f : Format) (v z : ℤ) (c e : ℕ) → Within f v z c e → Near (natAbs v * c * 2) (natAbs z * 2 ^ low f * 2) e
+sizes f (pos v) (pos z) c e n = omega arith
+sizes f (pos v) (negsuc z) c e n = omega arith
+sizes f (negsuc v) (pos z) c e n = omega arith
+sizes f (negsuc v) (negsuc z) c e n = omega arith
+
+size-near : {f : Format} {x : Float} {z : ℤ} {c e : ℕ} → About f x z c e → Near (inUnits f x * c * 2) (natAbs z * 2 ^ low f * 2) (e * fine f)
+size-near {f} {x} {z} {c} {e} a = rw abs-units at (sizes f (signedUnits f x) z c (e * fine f) (within a))
+
 -- how many units at most
 size-of : {f : Format} {x : Float} {z : ℤ} {c e : ℕ} → About f x z c e → inUnits f x * c * 2 ≤ (natAbs z * 2 ^ prec f * 2 + e) * fine f
-size-of {f} {x} {z} {c} {e} a = let l = rw (fines f, abs-units f x) at (go (signedUnits f x) z (within a)) in omega arith
-  where
-    go : (v z : ℤ) → Within f v z c (e * fine f) → natAbs v * c * 2 ≤ natAbs z * 2 ^ low f * 2 + e * fine f
-    go (pos v) (pos z) n = omega arith
-    go (pos v) (negsuc z) n = omega arith
-    go (negsuc v) (pos z) n = omega arith
-    go (negsuc v) (negsuc z) n = omega arith
+size-of {f} {x} {z} {c} {e} a = let l = rw (fines f) at (size-near a .above-by) in omega arith
 
 -- a sum is one fraction rounded
 pub record Rounds (f : Format) (x : Float) (z : ℤ) (c : ℕ) : Type 0 where
@@ -286,11 +290,5 @@ about-some {f} {x} {z} {c} {e} a h l =
     let k = mul-le-mul-right (2 ^ low f) h in
     let m = mul-lt-mul-of-pos-right l (pow-pos (low f - prec f)) in
     let u = fines f in
-    let p : 0 < inUnits f x = first-pos (inUnits f x) (c * 2) (omega (arith, rw abs-units at (go (signedUnits f x) z (within a)))) in
+    let p : 0 < inUnits f x = first-pos (inUnits f x) (c * 2) (omega (arith, size-near a .below-by)) in
     worth-zero (worth x (a .number)) ∙ ne-eqb (inUnits f x) 0 (not-zero (inUnits f x) p)
-  where
-    go : (v z : ℤ) → Within f v z c (e * fine f) → natAbs z * 2 ^ low f * 2 ≤ natAbs v * (c * 2) + e * fine f
-    go (pos v) (pos z) n = omega arith
-    go (pos v) (negsuc z) n = omega arith
-    go (negsuc v) (pos z) n = omega arith
-    go (negsuc v) (negsuc z) n = omega arith
