@@ -10,7 +10,7 @@ use Rattle.rounding.specs.About.{About, about-weaken, about-minus-zero, about-a
 use Rattle.rounding.specs.Quotient.{about-quotient}
 use Rattle.calls.specs.Line.{Line, plusZero, minusZero, from-bar}
 use Rattle.averages.specs.Window.{sumFrom, windowSum, mean}
-use Rattle.averages.specs.Exact.{Ticks, window-size, window-whole, mean-exact}
+use Rattle.averages.specs.Exact.{TickLine, window-size, window-whole, mean-exact}
 
 -- the cells of f from bar a on stand for the fractions z / c, of size at most b / c, within e
 pub record Standing (f : Line) (z : ℕ → ℤ) (a k c e b : ℕ) : Type 0 where
@@ -60,7 +60,7 @@ mean-room n p d N P h =
     let c : 0 < n * n = mul-pos N N in
     omega arith
 
-module _ {l : ℕ} {f : Line} {t : ℕ → ℤ} (w : Ticks l f t) (n : ℕ) (N : 0 < n) (M : n ≤ 4096) where
+module _ {l : ℕ} {f : Line} {t : ℕ → ℤ} (w : TickLine l f t) (n : ℕ) (N : 0 < n) (M : n ≤ 4096) where
   pub window-total-size : (i : ℕ) → n ≤ i + 1 → i < l → natAbs (windowTotal n t i) ≤ n * 2 ^ 24
   window-total-size i b h = window-size w (i + 1 - n) n (omega arith)
 

@@ -15,11 +15,11 @@ use Rattle.averages.specs.Window.{sumFrom, runningSum, windowSum, mean}
 use Rattle.averages.specs.Averages.{addDifference, smaLine}
 
 -- the first l cells of f are whole ticks, the numbers t, of magnitude at most 16,777,216
-pub record Ticks (l : ℕ) (f : Line) (t : ℕ → ℤ) : Type 0 where
+pub record TickLine (l : ℕ) (f : Line) (t : ℕ → ℤ) : Type 0 where
   pub is : (i : ℕ) → i < l → f i ≡ ofInt binary64 (t i)
   pub small : (i : ℕ) → i < l → natAbs (t i) ≤ 16777216
 
-module _ {l : ℕ} {f : Line} {t : ℕ → ℤ} (w : Ticks l f t) where
+module _ {l : ℕ} {f : Line} {t : ℕ → ℤ} (w : TickLine l f t) where
   pub window-size : (a k : ℕ) → a + k ≤ l → natAbs (total t a k) ≤ k * 16777216
   window-size a k h = total-size t a k 16777216 (λ j m. w .small (a + j) (omega arith))
 
@@ -46,7 +46,7 @@ difference-slides = record {
       (add-whole binary64 s (new -ℤ old) (omega arith) (omega (arith, abs-minus new old)));
 }
 
-module _ {l : ℕ} {f : Line} {t : ℕ → ℤ} {slide : Float → Float → Float → Float} (w : Ticks l f t) (s : Slides slide) where
+module _ {l : ℕ} {f : Line} {t : ℕ → ℤ} {slide : Float → Float → Float → Float} (w : TickLine l f t) (s : Slides slide) where
   -- a running sum is exact at every bar
   pub running-exact : (n k : ℕ) → 0 < n → n ≤ 4096 → n + k ≤ l → runningSum slide n f k ≡ ofInt binary64 (total t k n)
   unfolding runningSum recur
@@ -58,7 +58,7 @@ module _ {l : ℕ} {f : Line} {t : ℕ → ℤ} {slide : Float → Float → Flo
 
 -- ---- means
 
-module _ {l : ℕ} {f : Line} {t : ℕ → ℤ} (w : Ticks l f t) (n : ℕ) (N : 0 < n) (M : n ≤ 4096) where
+module _ {l : ℕ} {f : Line} {t : ℕ → ℤ} (w : TickLine l f t) (n : ℕ) (N : 0 < n) (M : n ≤ 4096) where
   -- a window's sum and its length are whole numbers that f64 counts without a gap
   pub window-whole : (a : ℕ) → a + n ≤ l → Whole binary64 (total t a n) n
   window-whole a h = record { some = N; size = omega (arith, window-size w a n h); divisor = omega arith }

@@ -3,10 +3,10 @@ use calls::Answer;
 ghost use mathlib.Core.Path.{_≡_};
 ghost use mathlib.Core.List.{[], _∷_};
 ghost use lib.ListN.{length};
-ghost use Rattle.calls.specs.Accepted.{accepted};
+ghost use Rattle.calls.specs.Accepted.{accepted, tick};
 ghost use Rattle.calls.specs.Answer.{answered};
 ghost use Rattle.calls.specs.Line.{line};
-ghost use Rattle.averages.specs.Averages.{smaLine, emaLine, exponentialLine, exponentialAnswer};
+ghost use Rattle.averages.specs.Averages.{smaLine, emaLine, exponentialLine, exponentialAnswer, tickMeanLine};
 ghost use Rattle.capi.specs.Numbers.{Numbers, CCall};
 
 // An answer in numbers: the refusal, or 0, and how many cells were written.
@@ -51,4 +51,12 @@ pub extern "C" fn tegbalowu_exponential_smoothing(
         (now (out .entry)) r (now (out .exit)) ⌝ }
 {
     numbers(averages::exponential_smoothing(series, alpha, out))
+}
+
+#[no_mangle]
+pub extern "C" fn tegbalowu_tick_mean(series: &[f64], n: usize, out: &mut [i64]) -> CAnswer
+    ensures { λ r. ⌜ CCall (answered tick (now (series .entry)) (n ∷ []) (length (now (out .entry))) []) (tickMeanLine n (line (now (series .entry))))
+        (now (out .entry)) r (now (out .exit)) ⌝ }
+{
+    numbers(averages::tick_mean(series, n, out))
 }

@@ -11,7 +11,7 @@ use Rattle.rounding.specs.Integers.{abs-add}
 use Rattle.rounding.specs.Whole.{add-whole, sub-whole}
 use Rattle.rounding.specs.Quotient.{quotient, quotient-sign}
 use Rattle.calls.specs.Line.{Line, plusZero, from-bar}
-use Rattle.averages.specs.Exact.{Ticks, Slides, running-exact, window-size, window-whole}
+use Rattle.averages.specs.Exact.{TickLine, Slides, running-exact, window-size, window-whole}
 use Rattle.averages.specs.Errors.{windowTotal, products}
 use Rattle.rules.specs.Rules.{addThenSubtract, runningMean, doubleLine}
 
@@ -23,7 +23,7 @@ subtract-slides = record {
       (sub-whole binary64 (s +ℤ new) old (omega (arith, abs-add s new)) (omega arith));
 }
 
-module _ {l : ℕ} {f : Line} {t : ℕ → ℤ} (w : Ticks l f t) where
+module _ {l : ℕ} {f : Line} {t : ℕ → ℤ} (w : TickLine l f t) where
   running-mean-exact : (n i : ℕ) → 0 < n → n ≤ 4096 → n ≤ i + 1 → i < l → runningMean n f i ≡ quotient binary64 (windowTotal n t i) n
   unfolding runningMean
   running-mean-exact n i N M b h = rw (running-exact w subtract-slides n (i + 1 - n) N M (omega arith))

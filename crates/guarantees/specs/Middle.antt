@@ -16,7 +16,7 @@ use Rattle.rounding.specs.Quotient.{quotient, Whole, quotient-lt, quotient-wort
 use Rattle.calls.specs.Line.{Line, plusZero, from-bar}
 use Rattle.averages.specs.Averages.{two}
 use Rattle.averages.specs.Window.{mean}
-use Rattle.averages.specs.Exact.{Ticks, window-whole, mean-exact}
+use Rattle.averages.specs.Exact.{TickLine, window-whole, mean-exact}
 use Rattle.averages.specs.Errors.{windowTotal, products, window-total-size}
 use Rattle.guarantees.specs.Single.{some-abs}
 use Rattle.rules.specs.Extreme.{larger, smaller, pickFrom, extreme}
@@ -142,7 +142,7 @@ module _ (n : ℕ) (N : 0 < n) (M : n ≤ 4096) where
       ∙ ap (λ (t : Bool). cond t minusOne plusOne)
       (about-order p q (λ e. d (times-cancel (s *ℤ pos 2) (h +ℤ w) n N (sym (times-two s n) ∙ e))) (omega arith) ∙ ap (λ (z : ℤ). ltZ z ((h +ℤ w) *ℤ pos n)) (times-two s n) ∙ lt-times (s *ℤ pos 2) (h +ℤ w) n N)
 
-module _ {l : ℕ} {f : Line} {t : ℕ → ℤ} (w : Ticks l f t) (n : ℕ) (N : 0 < n) (M : n ≤ 4096) where
+module _ {l : ℕ} {f : Line} {t : ℕ → ℤ} (w : TickLine l f t) (n : ℕ) (N : 0 < n) (M : n ≤ 4096) where
   window-small : (i : ℕ) → n ≤ i + 1 → i < l → Small n (windowTotal n t i)
   window-small i b h = record { whole = window-whole w n N M (i + 1 - n) (omega arith); size = window-total-size w n N M i b h }
 

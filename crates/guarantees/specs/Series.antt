@@ -18,7 +18,7 @@ use Rattle.calls.specs.Room.{room, opened}
 use Rattle.calls.specs.Written.{written, getD-written}
 use Rattle.calls.specs.Line.{Line, line}
 use Rattle.calls.specs.Ticks.{ticked}
-use Rattle.averages.specs.Exact.{Ticks}
+use Rattle.averages.specs.Exact.{TickLine}
 
 -- each is an f64, and a whole tick: a whole number from -16,777,216 to 16,777,216, and not -0.0
 pub record WholeTicks (s : List Float) : Type 0 where
@@ -42,7 +42,7 @@ is-true : (t : Bool) → t ≡ true → T t
 is-true true e = tt
 is-true false e = absurd (true≢false (sym e))
 
-pub whole-ticks : {s : List Float} → WholeTicks s → Ticks (length s) (line s) (price s)
+pub whole-ticks : {s : List Float} → WholeTicks s → TickLine (length s) (line s) (price s)
 whole-ticks {s} w = record {
   is = λ i h.
       sym (float-back-signed binary64 63 (line s i) (is-true (fits binary64 (line s i)) (at (fits binary64) s i (w .floats) h)) (ticked (line s i) (at tick s i (w .ticks) h) .castable) .1);

@@ -12,7 +12,7 @@ use Rattle.rounding.specs.Leaves.{plusOne, minusOne}
 use Rattle.rounding.specs.Units.{worth-whole, worth-negative}
 use Rattle.rounding.specs.About.{about-whole, about-sign, about-order, about-some}
 use Rattle.calls.specs.Line.{Line, plusZero, from-bar}
-use Rattle.averages.specs.Exact.{Ticks}
+use Rattle.averages.specs.Exact.{TickLine}
 use Rattle.averages.specs.Errors.{windowTotal, mean-of-means-about}
 use Rattle.rules.specs.Rules.{singleLine}
 
@@ -25,7 +25,7 @@ some-abs (pos zero) h = absurd (h refl)
 some-abs (pos (suc a)) h = zero-lt-suc a
 some-abs (negsuc a) h = zero-lt-suc a
 
-module _ {l : ℕ} {f : Line} {t : ℕ → ℤ} (w : Ticks l f t) where
+module _ {l : ℕ} {f : Line} {t : ℕ → ℤ} (w : TickLine l f t) where
   pub single-exact : (n i : ℕ) → 0 < n → n ≤ 1022 → 2 * n ≤ i + 2 → i < l
       → ¬ (windowTotal n (windowTotal n t) i ≡ pos 0) → ¬ (t i *ℤ pos (n * n) ≡ windowTotal n (windowTotal n t) i)
       → singleLine n f i ≡ cond (ltZ (t i *ℤ pos (n * n)) (windowTotal n (windowTotal n t) i)) minusOne plusOne
