@@ -46,10 +46,10 @@ products a b n m p q r s =
 -- ---- the mean of the means of whole ticks
 
 -- n means and what their sum is off by stay below 2 ^ 34, and the sum over n below 2 ^ 25; p is 2 ^ 53
-sum-room : (n p : ℕ) → 0 < n → n ≤ 1022 → 2 ^ 20 ≤ p → n * (n * 2 ^ 24 * p * 2 + n * 2 ^ 25 + 2 ^ 34 * n) < 2 ^ 34 * n * p * 2
+sum-room : (n p : ℕ) → 0 < n → n ≤ 1023 → 2 ^ 20 ≤ p → n * (n * 2 ^ 24 * p * 2 + n * 2 ^ 25 + 2 ^ 34 * n) < 2 ^ 34 * n * p * 2
 sum-room n p N L P =
-    let a : n * n ≤ 1022 * n = mul-le-mul-right n L in
-    let b : n * n * p ≤ 1022 * n * p = mul-le-mul-right p a in
+    let a : n * n ≤ 1023 * n = mul-le-mul-right n L in
+    let b : n * n * p ≤ 1023 * n * p = mul-le-mul-right p a in
     let c : n * 2 ^ 20 ≤ n * p = mul-le-mul-left n P in
     omega arith
 
@@ -76,7 +76,7 @@ module _ {l : ℕ} {f : Line} {t : ℕ → ℤ} (w : TickLine l f t) (n : ℕ) (
   }
 
   -- it stands for the sum of the last n window sums over n · n
-  pub mean-of-means-about : n ≤ 1022 → (i : ℕ) → 2 * n ≤ i + 2 → i < l
+  pub mean-of-means-about : n ≤ 1023 → (i : ℕ) → 2 * n ≤ i + 2 → i < l
       → About binary64 (mean n (mean n f) i) (windowTotal n (windowTotal n t) i) (n * n) (n * n * (2 ^ 34 + 2 ^ 26))
   unfolding mean windowSum
   mean-of-means-about L i b h =
