@@ -2,7 +2,7 @@
 -- product named below is one of whole numbers, never rounded; what is said from a bar on holds there and at every later bar below the
 -- count k of the call's answer. Assumes nothing.
 use mathlib.Core.Path.{_≡_, sym, _∙_}
-use mathlib.Core.Bool.{Bool, cond}
+use mathlib.Core.Bool.{cond}
 use mathlib.Core.List.{List, [], _∷_}
 use Prim.Native.Nat.{ℕ, _+_, _-_, _*_, _<_, _≤_}
 use native.Mathlib.Omega.{arith}
@@ -13,17 +13,16 @@ use lib.Ieee.{Float, nan, binary64}
 use Rattle.rounding.specs.Leaves.{plusOne, minusOne}
 use Rattle.rounding.specs.Nearest.{NearestTo}
 use Rattle.rounding.specs.Quotient.{quotient, Whole, quotient-nearest, quotient-zero}
-use Rattle.calls.specs.declared.Answer.{Answer}
 use Rattle.calls.specs.declared.Answer.the-variants.{Cells}
-use Rattle.calls.specs.Accepted.{accepted}
-use Rattle.calls.specs.Line.{Line, plusZero, line}
-use Rattle.calls.specs.Answer.{answered}
-use Rattle.calls.specs.Room.{room, opened}
-use Rattle.calls.specs.Written.{written, getD-written}
+use Rattle.calls.specs.Line.{plusZero, line}
+use Rattle.calls.specs.Written.{getD-written}
+use Rattle.rules.specs.Opened.{double-opened}
+use Rattle.rules.specs.Rules.{doubleLine}
 use Rattle.averages.specs.Exact.{window-whole, sma-exact}
 use Rattle.averages.specs.Errors.{windowTotal}
 use Rattle.guarantees.specs.Calls.{SmaCall, DoubleCall, SingleCall, MidCall}
 use Rattle.guarantees.specs.Series.{WholeTicks, price, whole-ticks, bar}
+use Rattle.guarantees.specs.Double.{double-exact}
 use Rattle.guarantees.specs.Single.{single-exact}
 use Rattle.guarantees.specs.Middle.{highest, lowest, middle-exact}
 
@@ -63,6 +62,15 @@ module _ {s out₀ out₁ : List Float} (w : WholeTicks s) (n : ℕ) {k : ℕ} w
       let v = window-whole t n (r .some) (r .narrow) (i + 1 - n) (omega (arith, r .inside)) in
       rw (r .cell, sma-exact t n (r .some) (r .narrow) i b (r .inside))
       (record { nearest = quotient-nearest v; zero = λ e. zero-mean (windowSumOf n s i) n v e })
+
+  -- Double, for every n < m to 4,096: from bar m - 1 the cell is +1 exactly when m times the last n prices' sum is at least n times the last m
+  -- prices' sum, else -1.
+  pub double-on-ticks : (m : ℕ) → DoubleCall n m s out₀ (Cells k) out₁ → (i : ℕ) → m ≤ i + 1 → i < k
+      → getD out₁ i nan ≡ sideOf (windowSumOf n s i *ℤ pos m) (windowSumOf m s i *ℤ pos n)
+  double-on-ticks m c i b h =
+      let o = double-opened s n m (length out₀) k (sym (c .answer)) (omega arith) in
+      rw (c .cells, getD-written k (doubleLine n m (line s)) out₀ i nan h (omega arith))
+      (double-exact (whole-ticks w) n m i (o .some) (o .order) (o .narrow) b (omega arith))
 
   module _ {work₀ work₁ : List Float} where
     -- One average, for windows to 1,022: from bar 2n - 2 the cell has the sign of n · n · price - D, where that difference and D are not 0.
