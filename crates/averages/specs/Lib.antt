@@ -6,3 +6,5 @@ pub mod Whole
 pub mod Ticks
 pub mod Stages
 pub mod Cases
+pub mod Exact
+pub mod Errors
