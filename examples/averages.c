@@ -1,4 +1,4 @@
-/* Averages of a short price series, by the C header: `tools/examples` builds and runs this. */
+/* Four averages of a short price series, by the C header: `tools/examples` builds and runs this. */
 #include <stdio.h>
 
 #include "tegbalowu.h"
@@ -21,10 +21,17 @@ int main(void)
 {
     const double prices[BARS] = {10, 12, 12, 11, 15, 14};
     double cells[BARS];
+    int64_t ticks[BARS];
 
     print_line("sma of 3", tegbalowu_sma(prices, BARS, 3, cells, BARS), cells);
     print_line("ema of 3", tegbalowu_ema(prices, BARS, 3, cells, BARS), cells);
     print_line("smoothing by 0.25", tegbalowu_exponential_smoothing(prices, BARS, 0.25, cells, BARS), cells);
+
+    tegbalowu_answer means = tegbalowu_tick_mean(prices, BARS, 2, ticks, BARS);
+    printf("tick mean of 2: refusal %llu, count %llu:", (unsigned long long)means.refusal, (unsigned long long)means.count);
+    for (uint64_t i = 0; i < means.count; i++)
+        printf(" %lld", (long long)ticks[i]);
+    printf("\n");
 
     print_line("sma of 0", tegbalowu_sma(prices, BARS, 0, cells, BARS), cells);
     print_line("sma of 4097", tegbalowu_sma(prices, BARS, 4097, cells, BARS), cells);

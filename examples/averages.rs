@@ -1,4 +1,4 @@
-//! Averages of a short price series, from Rust: `tools/examples` builds and runs this.
+//! Four averages of a short price series, from Rust: `tools/examples` builds and runs this.
 
 /// What a call answers, as include/tegbalowu.h declares it.
 #[repr(C)]
@@ -11,27 +11,32 @@ unsafe extern "C" {
     fn tegbalowu_sma(series: *const f64, series_len: usize, n: usize, out: *mut f64, out_len: usize) -> Answer;
     fn tegbalowu_ema(series: *const f64, series_len: usize, period: usize, out: *mut f64, out_len: usize) -> Answer;
     fn tegbalowu_exponential_smoothing(series: *const f64, series_len: usize, alpha: f64, out: *mut f64, out_len: usize) -> Answer;
+    fn tegbalowu_tick_mean(series: *const f64, series_len: usize, n: usize, out: *mut i64, out_len: usize) -> Answer;
 }
 
 /// The cells written, or the number of the refusal.
-type Cells<'a> = Result<&'a [f64], u64>;
+type Cells<'a, T> = Result<&'a [T], u64>;
 
-fn cells(answer: Answer, out: &[f64]) -> Cells<'_> {
+fn cells<T>(answer: Answer, out: &[T]) -> Cells<'_, T> {
     if answer.refusal == 0 { Ok(&out[..answer.count as usize]) } else { Err(answer.refusal) }
 }
 
 // Each pointer below is to as many cells as the length after it says, and an output overlaps nothing.
 
-fn sma<'a>(series: &[f64], n: usize, out: &'a mut [f64]) -> Cells<'a> {
+fn sma<'a>(series: &[f64], n: usize, out: &'a mut [f64]) -> Cells<'a, f64> {
     cells(unsafe { tegbalowu_sma(series.as_ptr(), series.len(), n, out.as_mut_ptr(), out.len()) }, out)
 }
 
-fn ema<'a>(series: &[f64], period: usize, out: &'a mut [f64]) -> Cells<'a> {
+fn ema<'a>(series: &[f64], period: usize, out: &'a mut [f64]) -> Cells<'a, f64> {
     cells(unsafe { tegbalowu_ema(series.as_ptr(), series.len(), period, out.as_mut_ptr(), out.len()) }, out)
 }
 
-fn exponential_smoothing<'a>(series: &[f64], alpha: f64, out: &'a mut [f64]) -> Cells<'a> {
+fn exponential_smoothing<'a>(series: &[f64], alpha: f64, out: &'a mut [f64]) -> Cells<'a, f64> {
     cells(unsafe { tegbalowu_exponential_smoothing(series.as_ptr(), series.len(), alpha, out.as_mut_ptr(), out.len()) }, out)
+}
+
+fn tick_mean<'a>(series: &[f64], n: usize, out: &'a mut [i64]) -> Cells<'a, i64> {
+    cells(unsafe { tegbalowu_tick_mean(series.as_ptr(), series.len(), n, out.as_mut_ptr(), out.len()) }, out)
 }
 
 fn main() {
@@ -40,6 +45,7 @@ fn main() {
     println!("sma of 3: {:?}", sma(&prices, 3, &mut out));
     println!("ema of 3: {:?}", ema(&prices, 3, &mut out));
     println!("smoothing by 0.25: {:?}", exponential_smoothing(&prices, 0.25, &mut out));
+    println!("tick mean of 2: {:?}", tick_mean(&prices, 2, &mut [0; 6]));
     println!("sma of 0: {:?}", sma(&prices, 0, &mut out));
     println!("sma of 4097: {:?}", sma(&prices, 4097, &mut out));
     println!("sma without room: {:?}", sma(&prices, 3, &mut out[..5]));

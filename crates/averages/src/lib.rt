@@ -1,4 +1,4 @@
-// Averages: each window summed afresh, one bar and eight bars side by side.
+// Averages: window sums and means, and the series functions made of them.
 use calls::Answer;
 use calls::Refusal;
 ghost use mathlib.Core.Path.{_≡_};

@@ -119,33 +119,33 @@ pub record Open (l n k : ℕ) : Type 0 where
   pub narrow : n ≤ 4096
   pub whole : k ≡ l
 
-unless-cells : (t : Bool) (q : Refusal) (next : Answer) (k : ℕ) → unless t q next ≡ Cells k → (t ≡ true) × (next ≡ Cells k)
+pub unless-cells : (t : Bool) (q : Refusal) (next : Answer) (k : ℕ) → unless t q next ≡ Cells k → (t ≡ true) × (next ≡ Cells k)
 unless-cells true q next k e = (refl, e)
 unless-cells false q next k e = let z : _≡_ {A = ℕ} 0 1 = cc in absurd (omega arith)
 
-andThen-cells : (a next : Answer) (k : ℕ) → andThen a next ≡ Cells k → (a ≡ Cells (countOf a)) × (next ≡ Cells k)
+pub andThen-cells : (a next : Answer) (k : ℕ) → andThen a next ≡ Cells k → (a ≡ Cells (countOf a)) × (next ≡ Cells k)
 andThen-cells (Cells j) next k e = (refl, e)
 andThen-cells (Refused q) next k e = let z : _≡_ {A = ℕ} 0 1 = cc in absurd (omega arith)
 
-emptyIf-cells : (t : Bool) (next : Answer) (k : ℕ) → emptyIf t next ≡ Cells k → 0 < k → (t ≡ false) × (next ≡ Cells k)
+pub emptyIf-cells : (t : Bool) (next : Answer) (k : ℕ) → emptyIf t next ≡ Cells k → 0 < k → (t ≡ false) × (next ≡ Cells k)
 emptyIf-cells false next k e h = (refl, e)
 emptyIf-cells true next k e h = let z : 0 ≡ k = cc in absurd (omega arith)
 
-same-count : (j k : ℕ) → Cells j ≡ Cells k → j ≡ k
+pub same-count : (j k : ℕ) → Cells j ≡ Cells k → j ≡ k
 same-count j k e = cc
 
 positive : (n : ℕ) → (n ≡ 0 → ⊥) → 0 < n
 positive zero h = absurd (h refl)
 positive (suc n) h = omega arith
 
-nonzero : (n : ℕ) → eqb n 0 ≡ false → 0 < n
+pub nonzero : (n : ℕ) → eqb n 0 ≡ false → 0 < n
 nonzero n e = let h = eqb-false n 0 e in positive n h
 
-and-parts : (t u : Bool) → t && u ≡ true → (t ≡ true) × (u ≡ true)
+pub and-parts : (t u : Bool) → t && u ≡ true → (t ≡ true) × (u ≡ true)
 and-parts true u e = (refl, e)
 and-parts false u e = let z : _≡_ {A = ℕ} 0 1 = cc in absurd (omega arith)
 
-or-parts : (t u : Bool) → t || u ≡ false → (t ≡ false) × (u ≡ false)
+pub or-parts : (t u : Bool) → t || u ≡ false → (t ≡ false) × (u ≡ false)
 or-parts false u e = (refl, e)
 or-parts true u e = let z : _≡_ {A = ℕ} 0 1 = cc in absurd (omega arith)
 

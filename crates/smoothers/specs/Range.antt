@@ -1,17 +1,13 @@
 -- Wilder's true range: what `true_range` writes. Assumes nothing.
 use mathlib.Core.Path.{_≡_, refl}
-use mathlib.Core.Bool.{cond}
 use mathlib.Core.List.{List}
 use Prim.Native.Nat.{ℕ, zero, suc, _<_}
 use native.Mathlib.Nat.{not-suc-le-zero, le-refl}
-use lib.Ieee.{Float, binary64, sub, lt}
+use lib.Ieee.{Float, binary64, sub}
 use Rattle.rounding.specs.Leaves.{magnitudeOf}
 use Rattle.calls.specs.Line.{Line, line, Same}
 use Rattle.calls.specs.Written.{Writing}
-
--- the larger of two, the first of equals
-abbrev pub larger : Float → Float → Float
-larger x y = cond (lt x y) y x
+use Rattle.extremes.specs.Extreme.{larger}
 
 -- The largest of high less low, the size of high less the close before, and the size of low less it.
 unfoldable pub trueRange : Float → Float → Float → Float

@@ -13,10 +13,11 @@ ghost use Rattle.calls.specs.Call.{Call};
 ghost use Rattle.calls.specs.Room.{Three};
 ghost use Rattle.calls.specs.Line.{line};
 ghost use Rattle.calls.specs.Written.{Writing};
+ghost use Rattle.extremes.specs.Extreme.{larger};
 ghost use Rattle.smoothers.specs.Coefficients.{ofPair, coefficients};
 ghost use Rattle.smoothers.specs.Smoother.{formula, smooth, smootherAnswer, Begun, Smoothed};
 ghost use Rattle.smoothers.specs.Period.{isPeriod, wholePart};
-ghost use Rattle.smoothers.specs.Range.{larger, trueRange, trueRangeLine, Ranging};
+ghost use Rattle.smoothers.specs.Range.{trueRange, trueRangeLine, Ranging};
 
 // What the smoother's step needs of its period.
 pub struct Coefficients {
