@@ -14,7 +14,7 @@ use Rattle.rounding.specs.Leaves.{plusOne, minusOne}
 use Rattle.rounding.specs.Nearest.{NearestTo}
 use Rattle.rounding.specs.Quotient.{quotient, Whole, quotient-nearest, quotient-zero}
 use Rattle.calls.specs.declared.Answer.the-variants.{Cells}
-use Rattle.calls.specs.Line.{plusZero, line}
+use Rattle.calls.specs.Line.{plusZero, minusZero, line}
 use Rattle.calls.specs.Written.{getD-written}
 use Rattle.rules.specs.Opened.{double-opened}
 use Rattle.rules.specs.Rules.{doubleLine}
