@@ -1,4 +1,4 @@
-// Averages: each window summed afresh, one bar and eight bars side by side.
+// Averages: window sums and means, and the series functions made of them.
 use calls::Answer;
 use calls::Refusal;
 ghost use mathlib.Core.Path.{_≡_};
@@ -153,7 +153,7 @@ pub fn write_means(series: &[f64], n: usize, means: &mut [f64])
     means_by_one(series, n, reached, means);
 }
 
-// Writes the running means from bar n on: the new price less the old one is added to the sum in one step.
+// Writes the running means from bar n on, two bars a turn: the new price less the old one is added to the sum in one step.
 fn slide_means(series: &[f64], n: usize, first: f64, out: &mut [f64])
     requires { ⌜ Sliding (now series) n first (now out) ⌝ }
     ensures { λ _. ⌜ Writing (length (now (series .entry))) (smaLine n (line (now (series .entry)))) (now (out .entry)) (now (out .exit)) ⌝ }
@@ -161,10 +161,15 @@ fn slide_means(series: &[f64], n: usize, first: f64, out: &mut [f64])
     let count = n as f64;
     let mut sum = first;
     let mut i = n;
-    while i < series.len() {
-        sum = sum + (series[i] - series[i - n]);
-        out[i] = sum / count;
-        i += 1;
+    while i + 2 <= series.len() {
+        let half = sum + (series[i] - series[i - n]);
+        sum = half + (series[i + 1] - series[i + 1 - n]);
+        out[i] = half / count;
+        out[i + 1] = sum / count;
+        i += 2;
+    }
+    if i < series.len() {
+        out[i] = (sum + (series[i] - series[i - n])) / count;
     }
 }
 

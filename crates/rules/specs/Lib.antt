@@ -3,3 +3,4 @@ pub mod Rules
 pub mod Numbers
 pub mod Stages
 pub mod Opened
+pub mod Cases

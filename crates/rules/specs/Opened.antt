@@ -1,17 +1,21 @@
 -- What is known of a call that was answered with cells. Assumes nothing.
-use mathlib.Core.Path.{_≡_, refl, sym}
+use mathlib.Core.Path.{_≡_, refl, sym, _∙_}
 use mathlib.Core.Bool.{true, false, _&&_, _||_}
 use mathlib.Core.List.{List, [], _∷_}
 use Prim.Native.Nat.{ℕ, _*_, _<_, _≤_}
+use native.Mathlib.Omega.{arith}
 use borrow.Author.Tests.{leb-true, ltb-true}
 use lib.Dec.{leb, ltb, eqb}
 use lib.ListN.{length}
 use lib.Ieee.{Float}
+use Rattle.calls.specs.declared.Answer.{Answer}
 use Rattle.calls.specs.declared.Answer.the-variants.{Cells}
 use Rattle.calls.specs.Accepted.{accepted, all}
 use Rattle.calls.specs.Answer.{windowed, answered}
-use Rattle.calls.specs.Line.{line}
-use Rattle.calls.specs.Room.{and-parts, or-parts, unless-cells, andThen-cells, emptyIf-cells, nonzero, same-count, checked-room, room, opened}
+use Rattle.calls.specs.Call.{WorkCall, work-counted}
+use Rattle.calls.specs.Line.{Line, line, plusZero}
+use Rattle.calls.specs.Room.{Room, Open, and-parts, or-parts, unless-cells, andThen-cells, emptyIf-cells, nonzero, same-count, checked-room, room, opened}
+use Rattle.calls.specs.Written.{Writing, none-written, ends}
 use Rattle.averages.specs.Window.{mean}
 use Rattle.extremes.specs.Best.{Numbers}
 use Rattle.rules.specs.Numbers.{means-are-numbers}
@@ -26,14 +30,39 @@ pub record Priced (n : ℕ) (s : List Float) (out work : ℕ) : Type 0 where
   pub work-long : 8 * length s ≤ work
   pub values : all accepted s ≡ true
 
-pub priced : (s : List Float) (n out work k : ℕ) → answered accepted s (n ∷ []) out (work ∷ []) ≡ Cells k → 0 < k
-    → Priced n s out work × (k ≡ length s)
-priced s n out work k e h =
-    let r = room accepted s (n ∷ []) out (work ∷ []) k e in
-    let o = opened accepted s n out (work ∷ []) k e h in (
-      record { some = o .some; narrow = o .narrow; short = r .short; out-long = r .out-long; work-long = r .work-long .0; values = r .values },
-      o .whole,
-    )
+module _ (s : List Float) (n out work : ℕ) {r : Answer} {k : ℕ} (e : r ≡ answered accepted s (n ∷ []) out (work ∷ [])) (q : r ≡ Cells k) where
+  facts : Room accepted s out (work ∷ [])
+  facts = room accepted s (n ∷ []) out (work ∷ []) k (sym e ∙ q)
+
+  -- there is room to clear
+  pub clearable : 8 * length s ≤ work
+  clearable = facts .work-long .0
+
+  -- where there are cells to be written
+  module _ (h : 0 < k) where
+    window : Open (length s) n k
+    window = opened accepted s n out (work ∷ []) k (sym e ∙ q) h
+
+    pub priced : Priced n s out work
+    priced = record {
+      some = window .some;
+      narrow = window .narrow;
+      short = facts .short;
+      out-long = facts .out-long;
+      work-long = clearable;
+      values = facts .values;
+    }
+
+    -- they are all written, and the work slice is cleared
+    pub all-called : {f : Line} {out₀ out₁ work₀ work₁ : List Float}
+        → Writing (length s) f out₀ out₁ × Writing (8 * length s) (λ i. plusZero) work₀ work₁
+        → WorkCall (answered accepted s (n ∷ []) out (work ∷ [])) f out₀ (length s) work₀ (Cells k) out₁ work₁
+    all-called (o, w) = work-counted (sym q ∙ e) (ends o (sym (window .whole))) w
+
+  -- where there are none, the work slice is cleared all the same
+  pub none-called : {f : Line} {out₀ work₀ work₁ : List Float} → k ≤ 0 → Writing (8 * length s) (λ i. plusZero) work₀ work₁
+      → WorkCall (answered accepted s (n ∷ []) out (work ∷ [])) f out₀ (length s) work₀ (Cells k) out₀ work₁
+  none-called h w = work-counted (sym q ∙ e) (ends none-written (omega arith)) w
 
 -- its means are numbers
 pub priced-means : {n : ℕ} {s : List Float} {out work : ℕ} → Priced n s out work → Numbers (mean n (line s)) (length s)

@@ -7,11 +7,10 @@ use lib.ListN.{length, take, length-take}
 use lib.Seq.{getD-take}
 use lib.Ieee.{Float, nan, binary64, sub}
 use Rattle.calls.specs.Line.{Line, line, plusZero, from-bar, Causal}
-use Rattle.calls.specs.Recur.{recur}
 use Rattle.calls.specs.Rows.{beside}
 use Rattle.calls.specs.Written.{Writing, getD-untouched, read-back, ends, writing-same}
 use Rattle.rounding.specs.Leaves.{signOf}
-use Rattle.averages.specs.Window.{mean, over, windowSum, runningSum}
+use Rattle.averages.specs.Window.{mean, over, Running}
 use Rattle.extremes.specs.Best.{Numbers}
 use Rattle.extremes.specs.Extreme.{larger, smaller, extreme}
 use Rattle.rules.specs.Rules.{againstMean, singleLine, addThenSubtract, runningMean, doubleLine, againstMiddle, midLine}
@@ -70,37 +69,17 @@ mid-at n f i e g k p = rw (e, g, k, from-bar (2 * n - 2) plusZero _ i p)
 
 -- ---- two averages
 
--- x is the running sum of n prices at bar i
-pub record Sliding (n : ℕ) (f : Line) (i : ℕ) (x : Float) : Type 0 where
-  pub is : x ≡ runningSum addThenSubtract n f (i + 1 - n)
-
--- it begins with a window summed afresh
-pub begins : {n : ℕ} {f : Line} {i : ℕ} {x : Float} → x ≡ windowSum n f i → i + 1 ≡ n → Sliding n f i x
-unfolding runningSum recur windowSum
-begins {n} {f} {i} e h =
-    let zero-steps : i + 1 - n ≡ 0 = omega arith in
-    record { is = rw (e, zero-steps) }
-
--- and slides one bar on
-pub slides : {n : ℕ} {f : Line} {i : ℕ} {x : Float} → Sliding n f i x → n ≤ i + 1
-    → Sliding n f (i + 1) (addThenSubtract x (f (i + 1)) (f (i + 1 - n)))
-unfolding runningSum recur
-slides {n} {f} {i} s h =
-    let next : i + 1 + 1 - n ≡ suc (i + 1 - n) = omega arith in
-    let new : n + (i + 1 - n) ≡ i + 1 = omega arith in
-    record { is = rw (s .is, next, new) }
-
--- the same bar, said otherwise
-pub at-bar : {n : ℕ} {f : Line} {i j : ℕ} {x : Float} → Sliding n f i x → i ≡ j → Sliding n f j x
-at-bar s e = rw (← e) s
-
 -- the sign of the short average less the long one, from the two running sums
 abbrev pub crossing : ℕ → ℕ → Float → Float → Float
 crossing n m short long = signOf (sub binary64 (over n short) (over m long))
 
-pub double-at : {n m : ℕ} {f : Line} {i : ℕ} {x y : Float} → Sliding n f i x → Sliding m f i y → m ≤ i + 1 → crossing n m x y ≡ doubleLine n m f i
+-- the running sum of the n bars up to bar i
+abbrev pub Sum : ℕ → Line → ℕ → Float → Type 0
+Sum n f i x = Running addThenSubtract n f (i + 1) x
+
+pub double-at : {n m : ℕ} {f : Line} (i : ℕ) {x y : Float} → Sum n f i x → Sum m f i y → m ≤ i + 1 → crossing n m x y ≡ doubleLine n m f i
 unfolding doubleLine runningMean
-double-at {n} {m} {f} {i} s t h = rw (s .is, t .is, from-bar (m - 1) plusZero _ i (omega arith))
+double-at {m = m} i s t h = rw (s .is, t .is, from-bar (m - 1) plusZero _ i (omega arith))
 
 -- two windows that are in order and full at bar m - 1, and the cells before it
 pub record Started (n m : ℕ) (s now : List Float) : Type 0 where

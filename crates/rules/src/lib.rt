@@ -13,11 +13,10 @@ ghost use Rattle.calls.specs.Accepted.{accepted};
 ghost use Rattle.calls.specs.Call.{Call, WorkCall};
 ghost use Rattle.calls.specs.Line.{line, plusZero};
 ghost use Rattle.calls.specs.Written.{Writing};
-ghost use Rattle.averages.specs.Eight.{Windows};
-ghost use Rattle.averages.specs.Window.{mean};
+ghost use Rattle.averages.specs.Window.{mean, Running};
 ghost use Rattle.rules.specs.Opened.{Priced};
-ghost use Rattle.rules.specs.Rules.{againstMean, singleLine, againstMiddle, midLine, doubleLine, doubleAnswer};
-ghost use Rattle.rules.specs.Stages.{Averaged, Ranges, Sliding, Started, crossing};
+ghost use Rattle.rules.specs.Rules.{againstMean, singleLine, againstMiddle, midLine, addThenSubtract, doubleLine, doubleAnswer};
+ghost use Rattle.rules.specs.Stages.{Averaged, Ranges, Started, crossing};
 
 // The sign of a price less its average, 0 where that average is 0.0.
 fn against_mean(price: f64, average: f64) -> f64
@@ -149,16 +148,16 @@ fn cross(short: f64, n: usize, long: f64, m: usize) -> f64
     rounding::sign(short / (n as f64) - long / (m as f64))
 }
 
-// The running sum of n prices at bar i.
+// The running sum of the n bars before bar i.
 fn running_sum(series: &[f64], n: usize, i: usize) -> f64
-    requires { ⌜ Windows n i 1 (length (now series)) ⌝ }
-    ensures { λ r. ⌜ Sliding n (line (now (series .entry))) i r ⌝ }
+    requires { ⌜ (0 < n) × (n ≤ 4096) × (n ≤ i) × (i ≤ length (now series)) ⌝ }
+    ensures { λ r. ⌜ Running addThenSubtract n (line (now (series .entry))) i r ⌝ }
 {
-    let mut j = n - 1;
-    let mut sum = averages::sum_at(series, n, j);
+    let mut sum = averages::sum_at(series, n, n - 1);
+    let mut j = n;
     while j < i {
-        j += 1;
         sum = sum + series[j] - series[j - n];
+        j += 1;
     }
     sum
 }
@@ -168,9 +167,9 @@ fn write_crossings(series: &[f64], n: usize, m: usize, out: &mut [f64])
     requires { ⌜ Started n m (now series) (now out) ⌝ }
     ensures { λ _. ⌜ Writing (length (now (series .entry))) (doubleLine n m (line (now (series .entry)))) (now (out .entry)) (now (out .exit)) ⌝ }
 {
+    let mut short = running_sum(series, n, m);
+    let mut long = running_sum(series, m, m);
     let mut i = m - 1;
-    let mut short = running_sum(series, n, i);
-    let mut long = running_sum(series, m, i);
     while i + 1 < series.len() {
         out[i] = cross(short, n, long, m);
         i += 1;

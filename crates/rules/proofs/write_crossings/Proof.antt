@@ -2,8 +2,9 @@
 use Rattle.calls.specs.Line.{line}
 use Rattle.calls.specs.Written.{Writing, one-more, ends}
 use Rattle.rules.specs.Rules.{doubleLine}
-use Rattle.rules.specs.Stages.{Sliding, slides, double-at}
-use mathlib.Core.Path.{_∙_}
+use Rattle.averages.specs.Window.{next-running}
+use Rattle.rules.specs.Stages.{Sum, double-at}
+use mathlib.Core.Path.{_≡_, _∙_}
 use Prim.Native.Nat.{_+_, _-_, _≤_, _<_}
 use native.Mathlib.Omega.{arith}
 use lib.ListN.{length}
@@ -12,19 +13,21 @@ use Rattle.rules.proofs.write_crossings.Statement.{statement}
 use Rattle.rules.proofs.write_crossings.Tie as tie
 
 abbrev Inv-loop : tie.InvT-loop
-Inv-loop series n m out₀ i₀ short₀ long₀ out i short long =
+Inv-loop series n m out₀ short₀ long₀ i₀ out short long i =
     (m ≤ i + 1)
     × (i < length series)
     × Writing i (doubleLine n m (line series)) out₀ out
-    × Sliding n (line series) i short
-    × Sliding m (line series) i long
+    × Sum n (line series) i short
+    × Sum m (line series) i long
 
 abbrev μ-loop : tie.MeasureT-loop
-μ-loop series n m out₀ i₀ short₀ long₀ out i short long = length series - i
+μ-loop series n m out₀ short₀ long₀ i₀ out short long i = length series - i
 
 loop-holds : tie.Need-loop-holds Inv-loop μ-loop
 loop-holds c =
-    (omega arith, omega arith, search needs, c .before .running-sum .ensures, c .running-sum2 .ensures)
+    let m = c .before .before .before .before .args .m in
+    let bar : m - 1 + 1 ≡ m = omega arith in
+    (omega arith, omega arith, search needs, rw bar (c .before .running-sum .ensures), rw bar (c .running-sum2 .ensures))
 
 loop-again : tie.Need-loop-again Inv-loop μ-loop
 loop-again c =
@@ -32,15 +35,15 @@ loop-again c =
     let inv = here .before .before .loop .inv in (
       omega arith,
       omega arith,
-      one-more (inv .2) (here .cross .ensures ∙ double-at (inv .3) (inv .4) (omega arith)) (omega arith),
-      slides (inv .3) (omega arith),
-      slides (inv .4) (omega arith),
+      one-more (inv .2) (here .cross .ensures ∙ double-at _ (inv .3) (inv .4) (omega arith)) (omega arith),
+      next-running (inv .3) (omega arith),
+      next-running (inv .4) (omega arith),
     )
 
 returns : tie.Need-returns Inv-loop μ-loop
 returns c =
     let inv = c .before .before .loop .inv in
-    ends (one-more (inv .2) (c .cross2 .ensures ∙ double-at (inv .3) (inv .4) (omega arith)) (omega arith)) (omega arith)
+    ends (one-more (inv .2) (c .cross2 .ensures ∙ double-at _ (inv .3) (inv .4) (omega arith)) (omega arith)) (omega arith)
 
 pub write-crossings-spec : {M : Type 1} → statement M
 write-crossings-spec =
@@ -48,9 +51,9 @@ write-crossings-spec =
     (tie.spec
     Inv-loop
     μ-loop
-    (λ c. search needs)  -- sub-i
     (λ c κs. search needs)  -- running-sum-requires
     (λ c κs. search needs)  -- running-sum-requires-2
+    (λ c. search needs)  -- sub-i
     loop-holds
     (λ c. search needs)  -- add-loop
     (λ c κs. search needs)  -- cross-requires
