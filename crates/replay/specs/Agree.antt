@@ -61,5 +61,5 @@ pub record Given (q : Call) (bars cells : ℕ) : Type 0 where
 
 -- a call that was run is of a function that has a count
 abbrev pub Counted : Step → Type 0
-Counted (Run function same place) = function < 10
+Counted (Run function differs place) = function < 10
 Counted Stop = 0 < 10

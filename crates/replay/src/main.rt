@@ -3,10 +3,12 @@
 // many records there are and how many were not run: those from the first on that breaks off, is too long or is of a
 // function that is not here.
 mod same;
+
 use calls::Answer;
 use records::Word;
 use records::stream::Place;
 ghost use mathlib.Core.Path.{_≡_};
+ghost use mathlib.Core.Bool.{cond};
 ghost use Prim.Native.Nat.{_<_, _≤_};
 ghost use lib.ListN.{length};
 ghost use Rattle.calls.specs.Answer.{refusalOf, countOf};
@@ -28,11 +30,11 @@ struct Call {
     cleared: u64,
 }
 
-// What the next record came to.
+// What the next record came to: a call that differs 0 times or once, and the place after it.
 enum Step {
     Run {
         function: u64,
-        same: bool,
+        differs: u64,
         place: Place,
     },
     Stop,
@@ -127,8 +129,29 @@ fn answer_floats(
     }
 }
 
-// Whether such a call left what was recorded. The series stand one after the other.
-fn floats_agree(call: Call, series: &[f64], recorded: &[u64]) -> bool
+// Whether such a call leaves what was recorded.
+fn floats_agree(
+    call: Call,
+    first: &[f64],
+    second: &[f64],
+    third: &[f64],
+    recorded: &[u64],
+    out: &mut [f64],
+    work: &mut [f64],
+) -> bool
+    requires { ⌜ length (now out) ≡ length (now recorded) ⌝ }
+{
+    let answer = answer_floats(call, first, second, third, out, work);
+    if same_answer(call, answer) {
+        if same::same_floats(out, recorded) {
+            return same::same_work(work, call.cleared);
+        }
+    }
+    false
+}
+
+// Whether a call of these series, one after the other, leaves the recorded words.
+fn agrees(call: Call, series: &[f64], recorded: &[u64]) -> bool
     requires { ⌜ Given call (length (now series)) (length (now recorded)) ⌝ }
 {
     let untouched = records::floats::float_of(same::UNTOUCHED);
@@ -138,50 +161,60 @@ fn floats_agree(call: Call, series: &[f64], recorded: &[u64]) -> bool
     let two = one + call.second;
     let cells = call.out;
     let room = call.work;
-    let answer = answer_floats(
+    floats_agree(
         call,
         &series[..one],
         &series[one..two],
         &series[two..],
+        recorded,
         &mut out[..cells],
         &mut work[..room],
-    );
-    if same_answer(call, answer) {
-        if same::same_floats(&out[..cells], recorded) {
-            return same::same_work(&work[..room], call.cleared);
-        }
-    }
-    false
+    )
 }
 
-// Whether a call left what was recorded. The words are those of the series and then those of the output.
-fn agrees(call: Call, words: &[u64]) -> bool
+// Whether a call leaves what was recorded. The words are those of the series and then those of the output.
+fn words_agree(call: Call, words: &[u64]) -> bool
     requires { ⌜ Runs call × (length (now words) ≡ wordsOf call) ⌝ }
 {
     let bars = call.first + call.second + call.third;
     let mut series = [0.0; 180];
     write_floats(&words[..bars], &mut series);
-    floats_agree(call, &series[..bars], &words[bars..])
+    agrees(call, &series[..bars], &words[bars..])
+}
+
+// How often a call differs.
+fn misses(same: bool) -> u64
+    ensures { λ r. ⌜ r ≡ cond same 0 1 ⌝ }
+{
+    if same { 0 } else { 1 }
 }
 
 // Reads the words of a call and runs it.
+fn run_with(call: Call, words: &mut [u64], block: &mut [u8], start: Place) -> Step
+    requires { ⌜ Runs call × (length (now words) ≡ wordsOf call) ⌝ }
+    ensures { λ r. ⌜ Counted r ⌝ }
+{
+    let read = records::stream::fill(libc::STDIN_FILENO, block, start, words);
+    if read.count < words.len() {
+        return Step::Stop;
+    }
+    let place = read.place;
+    let differs = misses(words_agree(call, words));
+    Step::Run {
+        function: call.function,
+        differs,
+        place,
+    }
+}
+
+// The same, with room for the words.
 fn run(call: Call, block: &mut [u8], start: Place) -> Step
     requires { ⌜ Runs call ⌝ }
     ensures { λ r. ⌜ Counted r ⌝ }
 {
-    let length = call.first + call.second + call.third + call.out;
     let mut words = [0u64; 259];
-    let read = records::stream::fill(libc::STDIN_FILENO, block, start, &mut words[..length]);
-    if read.count < length {
-        return Step::Stop;
-    }
-    let place = read.place;
-    let same = agrees(call, &words[..length]);
-    Step::Run {
-        function: call.function,
-        same,
-        place,
-    }
+    let length = call.first + call.second + call.third + call.out;
+    run_with(call, &mut words[..length], block, start)
 }
 
 // Reads a record and runs its call.
@@ -202,27 +235,36 @@ fn run_next(block: &mut [u8], start: Place) -> Step
     }
 }
 
-// One more at an index. A count would need 2^64 records to wrap.
-fn count_one(counts: &mut [u64; 10], at: u64)
+// Adds to the count at an index. A count would need 2^64 records to wrap.
+fn add(counts: &mut [u64; 10], at: u64, more: u64)
     requires { ⌜ at < 10 ⌝ }
 {
     let at = at as usize;
-    counts[at] = std::num::wrapping_add_u64(counts[at], 1);
+    counts[at] = std::num::wrapping_add_u64(counts[at], more);
 }
 
 // Runs the records, counts the calls of each function and those that differ, and gives how many records are left.
-fn run_all(block: &mut [u8], start: Place, records: u64, calls: &mut [u64; 10], differ: &mut [u64; 10]) -> u64 {
+fn run_all(
+    block: &mut [u8],
+    start: Place,
+    records: u64,
+    calls: &mut [u64; 10],
+    differ: &mut [u64; 10],
+) -> u64 {
     let mut place = start;
     let mut left = records;
     while left > 0 {
         let step = run_next(block, place);
-        let Step::Run { function, same, place: after } = step else {
+        let Step::Run {
+            function,
+            differs,
+            place: after,
+        } = step
+        else {
             return left;
         };
-        count_one(calls, function);
-        if !same {
-            count_one(differ, function);
-        }
+        add(calls, function, 1);
+        add(differ, function, differs);
         place = after;
         left -= 1;
     }
@@ -241,7 +283,11 @@ fn main() {
     let mut block = [0u8; 17408];
     let mut calls = [0u64; 10];
     let mut differ = [0u64; 10];
-    let first = records::stream::next_word(libc::STDIN_FILENO, &mut block, records::stream::start());
+    let first = records::stream::next_word(
+        libc::STDIN_FILENO,
+        &mut block,
+        records::stream::start(),
+    );
     let word = first.word;
     let Word::Bits(recorded) = word else {
         return;

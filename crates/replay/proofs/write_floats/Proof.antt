@@ -1,5 +1,4 @@
 -- `write_floats` meets its contract: the cells before i are written. Assumes nothing.
-use mathlib.Core.Path.{_≡_}
 use Prim.Native.Nat.{_-_, _≤_}
 use native.Mathlib.Omega.{arith}
 use lib.ListN.{length}

@@ -1,9 +1,9 @@
 -- `same::same_floats` meets its contract: the cells before i agree. Assumes nothing.
-use mathlib.Core.Path.{_≡_, refl, sym, ap, _∙_}
+use mathlib.Core.Path.{sym, _∙_}
 use mathlib.Core.Bool.{true≢false}
-use Prim.Native.Nat.{ℕ, _+_, _-_, _≤_, _<_}
+use Prim.Native.Nat.{_-_, _≤_}
 use native.Mathlib.Omega.{arith}
-use lib.ListN.{length, getD}
+use lib.ListN.{length}
 use Rattle.calls.specs.Line.{line}
 use Rattle.replay.specs.Agree.{floats}
 use Rattle.replay.proofs.Deciding.{Agreeing, none-agrees, one-agrees, all-agree, one-differs}
