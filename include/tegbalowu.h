@@ -1,5 +1,5 @@
 /*
- * Tegbalowu as C functions: averages of a price series, each proved to give its definition's cells.
+ * Tegbalowu as C functions: averages and positions of a price series, each proved to give its definition's cells.
  *
  * A call is answered or refused. Answered: refusal is 0 and count says how many of the output's first
  * cells were written; every later cell is as it was. Refused: refusal says why, count is 0 and no cell
@@ -50,6 +50,28 @@ tegbalowu_answer tegbalowu_exponential_smoothing(const double *series, size_t se
 
 /* The mean of the last n whole ticks to a whole tick, half away from zero; 0 before bar n-1. */
 tegbalowu_answer tegbalowu_tick_mean(const double *series, size_t series_len, size_t n, int64_t *out, size_t out_len);
+
+/* Ehlers' ultimate smoother: the first four cells copy the input. The period is whole, from 0 to 512; with 0 every later cell is NaN. */
+tegbalowu_answer tegbalowu_ultimate_smoother(const double *price, size_t price_len, double period, double *out,
+                                             size_t out_len);
+
+/* Wilder's true range; bar 0 is high less low. Three series of one length; close_prev[i] is the close before bar i. */
+tegbalowu_answer tegbalowu_true_range(const double *high, size_t high_len, const double *low, size_t low_len,
+                                      const double *close_prev, size_t close_prev_len, double *out, size_t out_len);
+
+/* Positions: +1, -1 or 0 for each bar. The work slice holds +0.0 in its first 8 * series_len cells afterwards. */
+
+/* One average: the sign of price less the doubly averaged price, from bar 2n-2. */
+tegbalowu_answer tegbalowu_single_sma_positions(const double *series, size_t series_len, size_t n, double *out,
+                                                size_t out_len, double *work, size_t work_len);
+
+/* Two averages: the sign of the short average less the long one, from bar m-1; a tie is +1. n is below m. */
+tegbalowu_answer tegbalowu_double_sma_positions(const double *series, size_t series_len, size_t n, size_t m,
+                                                double *out, size_t out_len);
+
+/* The middle: the sign of the mean less half of the highest plus the lowest mean, from bar 2n-2. */
+tegbalowu_answer tegbalowu_mid_positions(const double *series, size_t series_len, size_t n, double *out,
+                                         size_t out_len, double *work, size_t work_len);
 
 #ifdef __cplusplus
 }

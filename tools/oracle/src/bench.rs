@@ -52,11 +52,7 @@ pub fn run() {
 
 /// The windows that a function is timed with: none for one without windows.
 fn windows(function: &Function, bars: usize) -> Vec<Option<usize>> {
-    if function.roles.contains(&Role::Window) {
-        WINDOWS.iter().filter(|n| **n <= bars).map(|n| Some(*n)).collect()
-    } else {
-        vec![None]
-    }
+    if function.roles.contains(&Role::Window) { WINDOWS.iter().filter(|n| **n <= bars).map(|n| Some(*n)).collect() } else { vec![None] }
 }
 
 /// Both sides on a walk of whole ticks, by turns, and the best time of each.
@@ -94,7 +90,7 @@ fn walk(seed: u64, bars: usize) -> Vec<f64> {
     let mut rng = Rng::new(seed);
     let mut price = 100_000;
     let step = |_| {
-        price += rng.from_to(-40, 40);
+        price += rng.between(-40, 40);
         price as f64
     };
     (0..bars).map(step).collect()

@@ -99,9 +99,9 @@ fn window_sums(ticks: &[i64], n: usize) -> Vec<i128> {
 fn ticks(rng: &mut Rng, len: usize) -> Vec<i64> {
     let spread = rng.pick(&[1, 3, 40, 1_000, 1 << 20, 1 << 22]);
     let highest = TICK_LIMIT - 3 * spread - WINDOW_LIMIT as i64;
-    let anywhere = rng.from_to(-highest, highest);
+    let anywhere = rng.between(-highest, highest);
     let level = rng.pick(&[0, highest, -highest, anywhere]);
-    (0..len).map(|_| level + rng.from_to(-spread, spread)).collect()
+    (0..len).map(|_| level + rng.between(-spread, spread)).collect()
 }
 
 /// A window from 1 to the limit, of any size with equal chance.
@@ -168,7 +168,7 @@ fn nearly_equal_means(rng: &mut Rng, ticks: &mut [i64], n: usize, m: usize) {
     let (recent, earlier) = (end - n as usize, end - m as usize);
     let difference = |ticks: &[i64]| (m - n) * ticks[recent..].iter().sum::<i64>() - n * ticks[earlier..recent].iter().sum::<i64>();
     let divisor = common_divisor(m, n);
-    let want = divisor * rng.from_to(-1, 1);
+    let want = divisor * rng.between(-1, 1);
     let present = difference(ticks);
     let more = (0..n).find(|more| (present + more * (m - n) - want) % n == 0).unwrap();
     ticks[end - 1] += more;
@@ -188,7 +188,7 @@ fn one_average(rng: &mut Rng, function: &Function, fact: &mut Fact) {
     let n = window(rng, ONE_AVERAGE_LIMIT);
     let extra = rng.below(20);
     let mut ticks = ticks(rng, 2 * n - 1 + extra);
-    let want = rng.from_to(-1, 1);
+    let want = rng.between(-1, 1);
     nearly_averaged(&mut ticks, n, want);
     let cells = of_ticks(function, &ticks, &[n]);
     let sums = window_sums(&ticks, n);
@@ -248,7 +248,7 @@ fn nearly_in_the_middle(rng: &mut Rng, ticks: &mut [i64], n: usize) {
     let (present, before) = sums.split_last().unwrap();
     let before = &before[before.len() - (n - 1)..];
     if let (Some(high), Some(low)) = (before.iter().max(), before.iter().min()) {
-        let want = (high + low + rng.from_to(-1, 1) as i128).div_euclid(2);
+        let want = (high + low + rng.between(-1, 1) as i128).div_euclid(2);
         let tick = ticks[last] + (want - present) as i64;
         ticks[last] = tick.clamp(-TICK_LIMIT, TICK_LIMIT);
     }

@@ -33,21 +33,8 @@ pub const DAMAGED: &[f64] = &[
 /// Lengths, then windows, that are tried together with every series kind.
 const LONG: &[usize] = &[SERIES_LIMIT - 1, SERIES_LIMIT, SERIES_LIMIT + 1, SERIES_LIMIT + 4_000];
 const ODD_COUNTS: &[usize] = &[0, WINDOW_LIMIT - 1, WINDOW_LIMIT, WINDOW_LIMIT + 1, 1 << 31, 1 << 32, 1 << 63, usize::MAX];
-const ODD_REALS: &[f64] = &[
-    0.0,
-    -0.0,
-    1.0,
-    -1.0,
-    2.0,
-    1e300,
-    -1e300,
-    f64::MAX,
-    f64::MIN,
-    5e-324,
-    f64::INFINITY,
-    f64::NEG_INFINITY,
-    f64::NAN,
-];
+const ODD_REALS: &[f64] =
+    &[0.0, -0.0, 1.0, -1.0, 2.0, 1e300, -1e300, f64::MAX, f64::MIN, 5e-324, f64::INFINITY, f64::NEG_INFINITY, f64::NAN];
 const ODD_PERIODS: &[f64] = &[0.0, -0.0, 511.0, 512.0, 513.0, -1.0, 0.5, 511.5, 1e300, 5e-324, f64::INFINITY, f64::NEG_INFINITY, f64::NAN];
 
 /// How the values of a series are made.
@@ -107,27 +94,39 @@ pub fn series(rng: &mut Rng, domain: Domain, len: usize) -> Vec<f64> {
         Domain::Accepted => rng.pick(ALL_SHAPES),
         Domain::WholeTicks => rng.pick(TICK_SHAPES),
     };
-    let start = rng.from_to(-TICK_LIMIT + SERIES_LIMIT as i64 * 2, TICK_LIMIT - SERIES_LIMIT as i64 * 2);
-    let few = [rng.from_to(-9, 9), rng.from_to(-9, 9), rng.from_to(-9, 9)];
+    let start = rng.between(-TICK_LIMIT + SERIES_LIMIT as i64 * 2, TICK_LIMIT - SERIES_LIMIT as i64 * 2);
+    let few = [rng.between(-9, 9), rng.between(-9, 9), rng.between(-9, 9)];
     let base = (rng.unit() - 0.5) * 2.0 * rng.pick(&[1.0, 100.0, 1e6, VALUE_LIMIT / 2.0]);
     let mut walk = start;
     let value = |bar: usize| -> f64 {
         let ticks = match shape {
-            Shape::SmallTicks => rng.from_to(-20, 20),
-            Shape::WideTicks => rng.from_to(-5_000, 5_000),
-            Shape::LargeTicks => rng.from_to(-TICK_LIMIT, TICK_LIMIT),
+            Shape::SmallTicks => rng.between(-20, 20),
+            Shape::WideTicks => rng.between(-5_000, 5_000),
+            Shape::LargeTicks => rng.between(-TICK_LIMIT, TICK_LIMIT),
             Shape::WalkOfTicks => {
-                walk = (walk + rng.from_to(-3, 3)).clamp(-TICK_LIMIT, TICK_LIMIT);
+                walk = (walk + rng.between(-3, 3)).clamp(-TICK_LIMIT, TICK_LIMIT);
                 walk
             }
             Shape::FewValues => rng.pick(&few),
             Shape::Flat => few[0],
             Shape::Rising => start + bar as i64,
             Shape::Falling => start - bar as i64,
-            Shape::Alternating => if bar % 2 == 0 { few[0] } else { -few[0] },
-            Shape::MostlyZero => if rng.one_in(8) { few[1] } else { 0 },
-            Shape::Cents => return rng.from_to(-1_000_000, 1_000_000) as f64 / 100.0,
-            Shape::Subnormal => return 5e-324 * rng.from_to(-40, 40) as f64 + 0.0,
+            Shape::Alternating => {
+                if bar.is_multiple_of(2) {
+                    few[0]
+                } else {
+                    -few[0]
+                }
+            }
+            Shape::MostlyZero => {
+                if rng.one_in(8) {
+                    few[1]
+                } else {
+                    0
+                }
+            }
+            Shape::Cents => return rng.between(-1_000_000, 1_000_000) as f64 / 100.0,
+            Shape::Subnormal => return 5e-324 * rng.between(-40, 40) as f64 + 0.0,
             Shape::UnitsApart => return f64::from_bits(base.to_bits() ^ rng.word() & 3),
             Shape::Large => return VALUE_LIMIT * (1.0 - 2.0 * rng.unit()),
             Shape::MixedSizes => return mixed(rng.word()),
@@ -267,7 +266,9 @@ pub fn short_edges(rng: &mut Rng, function: &Function) -> Vec<Call> {
         calls.push(call);
     }
     let full = plain(rng, function, LEN, modest(function));
-    for (out, work) in [(0, full.work), (LEN - 1, full.work), (LEN + 2, full.work), (LEN, full.work.saturating_sub(1)), (LEN, full.work + 3)] {
+    for (out, work) in
+        [(0, full.work), (LEN - 1, full.work), (LEN + 2, full.work), (LEN, full.work.saturating_sub(1)), (LEN, full.work + 3)]
+    {
         calls.push(Call { out, work: if function.work { work } else { 0 }, ..full.clone() });
     }
     for place in 1..function.series {

@@ -30,25 +30,13 @@ pub fn compare(seeds: &[u64], count: usize) -> bool {
     differ == 0
 }
 
-const EDGES: &[f64] = &[
-    0.0,
-    -0.0,
-    1.0,
-    -1.0,
-    2.0,
-    5e-324,
-    -5e-324,
-    f64::MIN_POSITIVE,
-    f64::MAX,
-    f64::INFINITY,
-    f64::NEG_INFINITY,
-    f64::NAN,
-];
+const EDGES: &[f64] =
+    &[0.0, -0.0, 1.0, -1.0, 2.0, 5e-324, -5e-324, f64::MIN_POSITIVE, f64::MAX, f64::INFINITY, f64::NEG_INFINITY, f64::NAN];
 
 /// Any bits, a number next to a square, or one next to the middle of two roots.
 fn number(rng: &mut Rng) -> f64 {
-    let side = rng.unit() * 2.0f64.powi(rng.from_to(-60, 60) as i32);
-    let units = rng.from_to(-2, 2);
+    let side = rng.unit() * 2.0f64.powi(rng.between(-60, 60) as i32);
+    let units = rng.between(-2, 2);
     match rng.below(4) {
         0 => f64::from_bits(rng.word()),
         1 => f64::from_bits(rng.word() >> 12),

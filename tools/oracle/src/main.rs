@@ -42,15 +42,15 @@ fn main() -> ExitCode {
             exact::run(&seeds, calls / 50) & leaf::compare(&seeds, calls) & compare::run(&seeds, calls)
         }
         ["notice", calls, names @ ..] => compare::notices(1, number(calls) as usize, names),
-        ["bench"] => done(bench::run()),
-        ["record"] => done(record::print()),
+        ["bench"] => told(|| bench::run()),
+        ["record"] => told(|| record::print()),
         ["sheet"] => sheet::run(stdin().lock(), BufWriter::new(stdout().lock())).is_ok(),
         ["sheet-compare", program, seed, damaged] => sheet_compare::compare(program, number(seed), number(damaged) as usize),
-        ["sheet-bench", program, file] => done(sheet_compare::bench(program, file)),
-        ["smoother", "list"] => done(smoother::print_list()),
-        ["smoother", "tables"] => done(smoother::print_tables()),
+        ["sheet-bench", program, file] => told(|| sheet_compare::bench(program, file)),
+        ["smoother", "list"] => told(|| smoother::print_list()),
+        ["smoother", "tables"] => told(|| smoother::print_tables()),
         ["smoother", "check"] => smoother::check(),
-        ["platform"] => done(println!("{}", smoother::platform())),
+        ["platform"] => told(|| println!("{}", smoother::platform())),
         _ => {
             eprintln!("{USAGE}");
             return ExitCode::from(2);
@@ -59,7 +59,9 @@ fn main() -> ExitCode {
     if good { ExitCode::SUCCESS } else { ExitCode::FAILURE }
 }
 
-fn done(_: ()) -> bool {
+/// A command that only prints ends well.
+fn told(print: impl FnOnce()) -> bool {
+    print();
     true
 }
 

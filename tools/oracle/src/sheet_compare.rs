@@ -35,7 +35,13 @@ impl Comparison<'_> {
             self.differ += 1;
             if self.differ <= SHOWN {
                 let head = |bytes: &[u8]| String::from_utf8_lossy(&bytes[..bytes.len().min(300)]).into_owned();
-                println!("input of {} bytes:\n{:?}\nexpected:\n{:?}\nwritten:\n{:?}", input.len(), head(input), head(&expected), head(&written));
+                println!(
+                    "input of {} bytes:\n{:?}\nexpected:\n{:?}\nwritten:\n{:?}",
+                    input.len(),
+                    head(input),
+                    head(&expected),
+                    head(&written)
+                );
             }
         }
     }

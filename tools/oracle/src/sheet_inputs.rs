@@ -20,9 +20,9 @@ pub fn request(rng: &mut Rng, bars: usize) -> String {
     let m = n + rng.below(bars / 2 + 3);
     let desk = rng.below(10_000);
     let spread = rng.pick(&[0, 1, 3, 100]);
-    let mut price = rng.from_to(-300, 300);
+    let mut price = rng.between(-300, 300);
     let mut step = |_| {
-        price += rng.from_to(-spread, spread);
+        price += rng.between(-spread, spread);
         price
     };
     let prices = lines((0..bars as i64).map(&mut step));
@@ -49,7 +49,7 @@ pub fn large(rng: &mut Rng, bytes: usize) -> String {
         let mut price = 100_000;
         text += &header(1 + rng.below(16), 1 + rng.below(3), n, m, bars);
         text += &lines((0..bars).map(|_| {
-            price += rng.from_to(-40, 40);
+            price += rng.between(-40, 40);
             price
         }));
     }
@@ -83,23 +83,61 @@ pub fn edges(rng: &mut Rng) -> Vec<Vec<u8>> {
         (1, 2, 511, 512, 512),
         (1, 1, 2, 0, 999_999),
     ] {
-        let text = header(desk, rule, n, m, bars) + &lines((0..bars.min(600) as i64).map(|_| rng.from_to(-9, 9)));
+        let text = header(desk, rule, n, m, bars) + &lines((0..bars.min(600) as i64).map(|_| rng.between(-9, 9)));
         texts.push(text.clone());
         texts.push(text + EXAMPLE);
     }
     for price in [
-        "          -0", "         -00", "000000000007", "-00000000007", "           -", "          --", "         --1", "         - 1",
-        "          1-", "          +1", "         1 2", "            ", "           x", "         1.5", "        1e01", "          \t1",
-        "          1\r", "         1\r", "1073741824", "  1073741824", "  1073741825", " -1073741824", " -1073741825", "999999999999",
-        "-99999999999", "           1 ", "          1", "", "\0\0\0\0\0\0\0\0\0\0\01", "          ١",
+        "          -0",
+        "         -00",
+        "000000000007",
+        "-00000000007",
+        "           -",
+        "          --",
+        "         --1",
+        "         - 1",
+        "          1-",
+        "          +1",
+        "         1 2",
+        "            ",
+        "           x",
+        "         1.5",
+        "        1e01",
+        "          \t1",
+        "          1\r",
+        "         1\r",
+        "1073741824",
+        "  1073741824",
+        "  1073741825",
+        " -1073741824",
+        " -1073741825",
+        "999999999999",
+        "-99999999999",
+        "           1 ",
+        "          1",
+        "",
+        "\0\0\0\0\0\0\0\0\0\0\u{0}1",
+        "          ١",
     ] {
         texts.push(format!("{}{:12}\n{price}\n{:12}\n", header(3, 1, 1, 0, 3), 4, 5));
         texts.push(format!("{EXAMPLE}{}{price}\n", header(3, 3, 1, 0, 1)));
     }
     for head in [
-        "0007000200000100000200000", "   7   2     1     2      ", "   7   2     1           0", "   7   2           2     0", "       2     1     2     0",
-        "   7         1     2     0", "   7   1     1           0", "  -7   2     1     2     0", "   7   2    -1     2     0", "   7   2     1     2    -0",
-        "   7   2     1     2     0\r", "   7   2     1     2      0", "   7   2     1     2    0", "7      2     1     2     0", "   7   2 1         2     0",
+        "0007000200000100000200000",
+        "   7   2     1     2      ",
+        "   7   2     1           0",
+        "   7   2           2     0",
+        "       2     1     2     0",
+        "   7         1     2     0",
+        "   7   1     1           0",
+        "  -7   2     1     2     0",
+        "   7   2    -1     2     0",
+        "   7   2     1     2    -0",
+        "   7   2     1     2     0\r",
+        "   7   2     1     2      0",
+        "   7   2     1     2    0",
+        "7      2     1     2     0",
+        "   7   2 1         2     0",
     ] {
         texts.push(format!("{head}\n"));
         texts.push(format!("{head}0\n"));

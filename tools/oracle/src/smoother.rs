@@ -52,7 +52,8 @@ pub fn line(price: &[f64], period: f64) -> Vec<f64> {
     let cells = by_table(price, period);
     if platform_agrees() {
         let source = pure::ultimate_smoother(price, period);
-        let same = cells.len() == source.len() && cells.iter().zip(&source).all(|(a, b)| a.to_bits() == b.to_bits() || a.is_nan() && b.is_nan());
+        let same =
+            cells.len() == source.len() && cells.iter().zip(&source).all(|(a, b)| a.to_bits() == b.to_bits() || a.is_nan() && b.is_nan());
         assert!(same, "period {period}: the step on the recorded values differs from pure.rs");
     }
     cells
