@@ -42,7 +42,7 @@ worked cleared i = ofBits binary64 (workWord cleared i)
 
 -- the call's function is here, and no slice is longer than RECORD.md allows
 pub record Runs (q : Call) : Type 0 where
-  pub function : (0 < q .function) × (q .function ≤ 3)
+  pub function : (0 < q .function) × (q .function ≤ 9)
   pub first : q .first ≤ 60
   pub second : q .second ≤ 60
   pub third : q .third ≤ 60

@@ -64,7 +64,7 @@ fn can_run(call: Call) -> bool
     if call.function < 1 {
         return false;
     }
-    if call.function > 3 {
+    if call.function > 9 {
         return false;
     }
     if call.first > 60 {
@@ -121,11 +121,17 @@ fn answer_floats(
 ) -> Answer {
     let function = call.function;
     let n = call.a as usize;
+    let m = call.b as usize;
     let x = records::floats::float_of(call.a);
     match function {
         1 => averages::sma(first, n, out),
         2 => averages::ema(first, n, out),
-        _ => averages::exponential_smoothing(first, x, out),
+        3 => averages::exponential_smoothing(first, x, out),
+        5 => rules::single_sma_positions(first, n, out, work),
+        6 => rules::double_sma_positions(first, n, m, out),
+        7 => rules::mid_positions(first, n, out, work),
+        8 => smoothers::ultimate_smoother(first, x, out),
+        _ => smoothers::true_range(first, second, third, out),
     }
 }
 
@@ -150,17 +156,33 @@ fn floats_agree(
     false
 }
 
+// The same of a function whose cells are whole numbers. It has one series and no work slice.
+fn ticks_agree(call: Call, series: &[f64], recorded: &[u64], out: &mut [i64]) -> bool
+    requires { ⌜ length (now out) ≡ length (now recorded) ⌝ }
+{
+    let n = call.a as usize;
+    let answer = averages::tick_mean(series, n, out);
+    if same_answer(call, answer) {
+        return same::same_ticks(out, recorded);
+    }
+    false
+}
+
 // Whether a call of these series, one after the other, leaves the recorded words.
 fn agrees(call: Call, series: &[f64], recorded: &[u64]) -> bool
     requires { ⌜ Given call (length (now series)) (length (now recorded)) ⌝ }
 {
+    let one = call.first;
+    let cells = call.out;
+    if call.function == 4 {
+        let mut ticks = [same::UNTOUCHED_TICK; 79];
+        return ticks_agree(call, &series[..one], recorded, &mut ticks[..cells]);
+    }
+    let two = one + call.second;
+    let room = call.work;
     let untouched = records::floats::float_of(same::UNTOUCHED);
     let mut out = [untouched; 79];
     let mut work = [untouched; 512];
-    let one = call.first;
-    let two = one + call.second;
-    let cells = call.out;
-    let room = call.work;
     floats_agree(
         call,
         &series[..one],
@@ -297,6 +319,12 @@ fn main() {
     print_line(b"sma ", calls[1], differ[1]);
     print_line(b"ema ", calls[2], differ[2]);
     print_line(b"exponential_smoothing ", calls[3], differ[3]);
+    print_line(b"tick_mean ", calls[4], differ[4]);
+    print_line(b"single_sma_positions ", calls[5], differ[5]);
+    print_line(b"double_sma_positions ", calls[6], differ[6]);
+    print_line(b"mid_positions ", calls[7], differ[7]);
+    print_line(b"ultimate_smoother ", calls[8], differ[8]);
+    print_line(b"true_range ", calls[9], differ[9]);
     io::print_decimal(1, recorded);
     io::write_all(1, b" records, ");
     io::print_decimal(1, left);

@@ -4,8 +4,10 @@ ghost use lib.ListN.{length, getD};
 ghost use Rattle.calls.specs.Line.{line};
 ghost use Rattle.replay.specs.Agree.{Agree, floats, twosComplement, words, workWord, worked};
 
-// What every output and work cell holds before a call: the pattern of -987654321.125.
+// What every output and work cell holds before a call: the pattern of -987654321.125, and a whole number where cells are.
 pub const UNTOUCHED: u64 = 0xc1cd_6f34_5890_0000;
+
+pub const UNTOUCHED_TICK: i64 = -987654321;
 
 // Whether each cell is the f64 of its word.
 pub fn same_floats(cells: &[f64], recorded: &[u64]) -> bool

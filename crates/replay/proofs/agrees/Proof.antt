@@ -11,8 +11,13 @@ pub agrees-spec : {M : Type 1} → statement M
 agrees-spec =
     tie.close
     (tie.spec
-    (λ c κs. search needs)  -- float-of-requires
+    (λ c. sym (length-take-le _ _ (omega arith)))  -- slice-aggregate-ticks-agree
+    (λ c. search needs)  -- array-borrow-prefix-ticks
+    (λ c. sym (length-take-le _ _ (omega arith)))  -- slice-aggregate-ticks-agree-2
+    (λ c κs. simp length-take (omega arith))  -- ticks-agree-requires
+    (λ c. search needs)  -- returns
     (λ c. search needs)  -- add-two
+    (λ c κs. search needs)  -- float-of-requires
     (λ c. sym (length-take-le _ _ (omega arith)))  -- slice-aggregate-floats-agree
     (λ c. search needs)  -- mul-floats-agree
     (λ c. search needs)  -- sub-floats-agree
@@ -27,5 +32,5 @@ agrees-spec =
     (λ c. search needs)  -- array-borrow-prefix-work
     (λ c. sym (length-take-le _ _ (omega arith)))  -- slice-aggregate-floats-agree-3
     (λ c κs. simp length-take (omega arith))  -- floats-agree-requires
-    (λ c. search needs)  -- returns
+    (λ c. search needs)  -- returns-2
     )
