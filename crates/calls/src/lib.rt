@@ -1,10 +1,12 @@
 // What a call is given and what it answers: accepted values, the refusals in document 01's order, and the clearing of slices.
 ghost use mathlib.Core.Path.{_≡_};
+ghost use mathlib.Core.Bool.{not};
 ghost use mathlib.Core.List.{[], _∷_};
-ghost use Prim.Native.Nat.{_*_, _≤_, min};
-ghost use lib.Dec.{leb};
+ghost use Prim.Native.Nat.{_*_, _^_, _≤_, min};
+ghost use lib.Dec.{leb, eqb};
 ghost use lib.ListN.{length};
-ghost use Rattle.calls.specs.Accepted.{accepted, tick, finite, all};
+ghost use lib.Ieee.{binary64, toBits};
+ghost use Rattle.calls.specs.Accepted.{within, accepted, tick, finite, all};
 ghost use Rattle.calls.specs.Answer.{number, refusalOf, countOf, unless, andThen, slices, checked, windowed, answered};
 ghost use Rattle.calls.specs.Line.{plusZero, Led};
 ghost use Rattle.calls.specs.Written.{Writing};
@@ -65,16 +67,22 @@ pub fn count_of(answer: Answer) -> usize
     }
 }
 
-// Whether a series may hold x.
-pub fn is_accepted(x: f64) -> bool
-    ensures { λ r. ⌜ r ≡ accepted x ⌝ }
+// Whether x lies within 2^30. A NaN does not.
+fn is_near(x: f64) -> bool
+    ensures { λ r. ⌜ r ≡ within 30 x ⌝ }
 {
     if x >= -1073741824.0 {
-        if x <= 1073741824.0 {
-            return f64::to_bits(x) != 0x8000_0000_0000_0000;
-        }
+        x <= 1073741824.0
+    } else {
+        false
     }
-    false
+}
+
+// 0, unless x is -0.0.
+fn minus_zero_bits(x: f64) -> u64
+    ensures { λ r. ⌜ eqb r 0 ≡ not (eqb (toBits binary64 x) (2 ^ 63)) ⌝ }
+{
+    if x == 0.0 { f64::to_bits(x) } else { 0 }
 }
 
 // Whether x is a whole tick.
@@ -102,19 +110,19 @@ pub fn is_finite(x: f64) -> bool
     if x < infinity { -infinity < x } else { false }
 }
 
-// Whether a series may hold every number of s.
+// Whether a series may hold every number of s. All are looked at, and what was found is kept in two variables: so the loop takes several at a time.
 pub fn all_accepted(s: &[f64]) -> bool
     ensures { λ r. ⌜ r ≡ all accepted (now (s .entry)) ⌝ }
 {
+    let mut near = true;
+    let mut minus_zeros = 0;
     let mut i = 0;
     while i < s.len() {
-        if is_accepted(s[i]) {
-            i += 1;
-        } else {
-            return false;
-        }
+        near = near & is_near(s[i]);
+        minus_zeros = minus_zeros | minus_zero_bits(s[i]);
+        i += 1;
     }
-    true
+    near & (minus_zeros == 0)
 }
 
 // Whether every number of s is a whole tick.

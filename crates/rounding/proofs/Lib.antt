@@ -1,3 +1,4 @@
 -- What the proofs of the functions at the crate's root share.
 mod Patterns
 mod ToWhole
+mod Opposite

@@ -28,7 +28,7 @@ one-down : (e : ℤ) → up e * down e ≡ 1 → down e ≡ 1
 one-down (pos k) h = refl
 one-down (negsuc k) h = sym (one-mul (2 ^ suc k)) ∙ h
 
-written : (s : Bool) (m : ℕ) (e : ℤ) → T (fits binary64 (fin s m e)) → Written m e
+pub written : (s : Bool) (m : ℕ) (e : ℤ) → T (fits binary64 (fin s m e)) → Written m e
 unfolding fits
 written s zero e t =
     let d : down e ≡ 1 = one-down e (eqb→eq (up e * down e) 1 t) in
@@ -51,7 +51,7 @@ written s (suc m) e t =
 abbrev two : Float
 two = fin false 1 (pos 1)
 
-pow-le-back : (a b : ℕ) → 2 ^ a ≤ 2 ^ b → a ≤ b
+pub pow-le-back : (a b : ℕ) → 2 ^ a ≤ 2 ^ b → a ≤ b
 pow-le-back a b h = le-of-suc-le-suc (lt-of-not-le (λ (g : suc b ≤ a). lt-irrefl (2 ^ b) (lt-of-lt-of-le (pow-lt g) h)))
 
 rest : (k : ℕ) → suc k ≤ 1074 → 1074 - k + suc k ≡ 1075

@@ -13,15 +13,12 @@ pub fn is_nan(x: f64) -> bool
     x != x
 }
 
-// x without its sign.
+// x without its sign: the larger of x and its opposite, which is +0.0 for both zeros.
 pub fn magnitude(x: f64) -> f64
     ensures { λ r. ⌜ r ≡ magnitudeOf x ⌝ }
 {
-    if is_nan(x) {
-        x
-    } else {
-        f64::from_bits(f64::to_bits(x) % 0x8000_0000_0000_0000)
-    }
+    let opposite = 0.0 - x;
+    if opposite < x { x } else { opposite }
 }
 
 // 1.0 with the sign of x, and NaN for NaN.

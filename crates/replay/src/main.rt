@@ -1,0 +1,332 @@
+// Runs the calls that tools/oracle/RECORD.md describes. For each function a line says how many calls were run and how many
+// left something else than was recorded: another refusal, count, cell of the output or work cell. The last line says how
+// many records there are and how many were not run: those from the first on that breaks off, is too long or is of a
+// function that is not here.
+mod same;
+
+use calls::Answer;
+use records::Word;
+use records::stream::Place;
+ghost use mathlib.Core.Path.{_≡_};
+ghost use mathlib.Core.Bool.{cond};
+ghost use Prim.Native.Nat.{_<_, _≤_};
+ghost use lib.ListN.{length};
+ghost use Rattle.calls.specs.Answer.{refusalOf, countOf};
+ghost use Rattle.calls.specs.Written.{Writing};
+ghost use Rattle.replay.specs.Agree.{Decides, floats, Runs, wordsOf, Given, Counted};
+
+// The numbers of a recorded call. No function here has more than two parameters.
+struct Call {
+    function: u64,
+    first: usize,
+    second: usize,
+    third: usize,
+    a: u64,
+    b: u64,
+    out: usize,
+    work: usize,
+    refusal: u64,
+    count: u64,
+    cleared: u64,
+}
+
+// What the next record came to: a call that differs 0 times or once, and the place after it.
+enum Step {
+    Run {
+        function: u64,
+        differs: u64,
+        place: Place,
+    },
+    Stop,
+}
+
+// The numbers of a record, in RECORD.md's order.
+fn call_of(head: &[u64; 13]) -> Call {
+    Call {
+        function: head[0],
+        first: head[1] as usize,
+        second: head[2] as usize,
+        third: head[3] as usize,
+        a: head[4],
+        b: head[5],
+        out: head[8] as usize,
+        work: head[9] as usize,
+        refusal: head[10],
+        count: head[11],
+        cleared: head[12],
+    }
+}
+
+// Whether a call's function is here and its slices are no longer than RECORD.md allows.
+fn can_run(call: Call) -> bool
+    ensures { λ r. ⌜ Decides (Runs call) r ⌝ }
+{
+    if call.function < 1 {
+        return false;
+    }
+    if call.function > 9 {
+        return false;
+    }
+    if call.first > 60 {
+        return false;
+    }
+    if call.second > 60 {
+        return false;
+    }
+    if call.third > 60 {
+        return false;
+    }
+    if call.out > 79 {
+        return false;
+    }
+    if call.work > 512 {
+        return false;
+    }
+    true
+}
+
+// Writes the numbers that the words stand for.
+fn write_floats(words: &[u64], cells: &mut [f64])
+    requires { ⌜ length (now words) ≤ length (now cells) ⌝ }
+    ensures { λ _. ⌜ Writing (length (now (words .entry))) (floats (now (words .entry))) (now (cells .entry)) (now (cells .exit)) ⌝ }
+{
+    let mut i = 0;
+    while i < words.len() {
+        cells[i] = records::floats::float_of(words[i]);
+        i += 1;
+    }
+}
+
+// Whether a call answered what was recorded.
+fn same_answer(call: Call, answer: Answer) -> bool
+    ensures { λ r. ⌜ Decides ((refusalOf answer ≡ call .refusal) × (countOf answer ≡ call .count)) r ⌝ }
+{
+    if calls::refusal_of(answer) != call.refusal {
+        return false;
+    }
+    if calls::count_of(answer) as u64 != call.count {
+        return false;
+    }
+    true
+}
+
+// Calls a function of the library whose cells are f64.
+fn answer_floats(
+    call: Call,
+    first: &[f64],
+    second: &[f64],
+    third: &[f64],
+    out: &mut [f64],
+    work: &mut [f64],
+) -> Answer {
+    let function = call.function;
+    let n = call.a as usize;
+    let m = call.b as usize;
+    let x = records::floats::float_of(call.a);
+    match function {
+        1 => averages::sma(first, n, out),
+        2 => averages::ema(first, n, out),
+        3 => averages::exponential_smoothing(first, x, out),
+        5 => rules::single_sma_positions(first, n, out, work),
+        6 => rules::double_sma_positions(first, n, m, out),
+        7 => rules::mid_positions(first, n, out, work),
+        8 => smoothers::ultimate_smoother(first, x, out),
+        _ => smoothers::true_range(first, second, third, out),
+    }
+}
+
+// Whether such a call leaves what was recorded.
+fn floats_agree(
+    call: Call,
+    first: &[f64],
+    second: &[f64],
+    third: &[f64],
+    recorded: &[u64],
+    out: &mut [f64],
+    work: &mut [f64],
+) -> bool
+    requires { ⌜ length (now out) ≡ length (now recorded) ⌝ }
+{
+    let answer = answer_floats(call, first, second, third, out, work);
+    if same_answer(call, answer) {
+        if same::same_floats(out, recorded) {
+            return same::same_work(work, call.cleared);
+        }
+    }
+    false
+}
+
+// The same of a function whose cells are whole numbers. It has one series and no work slice.
+fn ticks_agree(call: Call, series: &[f64], recorded: &[u64], out: &mut [i64]) -> bool
+    requires { ⌜ length (now out) ≡ length (now recorded) ⌝ }
+{
+    let n = call.a as usize;
+    let answer = averages::tick_mean(series, n, out);
+    if same_answer(call, answer) {
+        return same::same_ticks(out, recorded);
+    }
+    false
+}
+
+// Whether a call of these series, one after the other, leaves the recorded words.
+fn agrees(call: Call, series: &[f64], recorded: &[u64]) -> bool
+    requires { ⌜ Given call (length (now series)) (length (now recorded)) ⌝ }
+{
+    let one = call.first;
+    let cells = call.out;
+    if call.function == 4 {
+        let mut ticks = [same::UNTOUCHED_TICK; 79];
+        return ticks_agree(call, &series[..one], recorded, &mut ticks[..cells]);
+    }
+    let two = one + call.second;
+    let room = call.work;
+    let untouched = records::floats::float_of(same::UNTOUCHED);
+    let mut out = [untouched; 79];
+    let mut work = [untouched; 512];
+    floats_agree(
+        call,
+        &series[..one],
+        &series[one..two],
+        &series[two..],
+        recorded,
+        &mut out[..cells],
+        &mut work[..room],
+    )
+}
+
+// Whether a call leaves what was recorded. The words are those of the series and then those of the output.
+fn words_agree(call: Call, words: &[u64]) -> bool
+    requires { ⌜ Runs call × (length (now words) ≡ wordsOf call) ⌝ }
+{
+    let bars = call.first + call.second + call.third;
+    let mut series = [0.0; 180];
+    write_floats(&words[..bars], &mut series);
+    agrees(call, &series[..bars], &words[bars..])
+}
+
+// How often a call differs.
+fn misses(same: bool) -> u64
+    ensures { λ r. ⌜ r ≡ cond same 0 1 ⌝ }
+{
+    if same { 0 } else { 1 }
+}
+
+// Reads the words of a call and runs it.
+fn run_with(call: Call, words: &mut [u64], block: &mut [u8], start: Place) -> Step
+    requires { ⌜ Runs call × (length (now words) ≡ wordsOf call) ⌝ }
+    ensures { λ r. ⌜ Counted r ⌝ }
+{
+    let read = records::stream::fill(libc::STDIN_FILENO, block, start, words);
+    if read.count < words.len() {
+        return Step::Stop;
+    }
+    let place = read.place;
+    let differs = misses(words_agree(call, words));
+    Step::Run {
+        function: call.function,
+        differs,
+        place,
+    }
+}
+
+// The same, with room for the words.
+fn run(call: Call, block: &mut [u8], start: Place) -> Step
+    requires { ⌜ Runs call ⌝ }
+    ensures { λ r. ⌜ Counted r ⌝ }
+{
+    let mut words = [0u64; 259];
+    let length = call.first + call.second + call.third + call.out;
+    run_with(call, &mut words[..length], block, start)
+}
+
+// Reads a record and runs its call.
+fn run_next(block: &mut [u8], start: Place) -> Step
+    ensures { λ r. ⌜ Counted r ⌝ }
+{
+    let mut head = [0u64; 13];
+    let read = records::stream::fill(libc::STDIN_FILENO, block, start, &mut head);
+    if read.count < 13 {
+        return Step::Stop;
+    }
+    let place = read.place;
+    let call = call_of(&head);
+    if can_run(call) {
+        run(call, block, place)
+    } else {
+        Step::Stop
+    }
+}
+
+// Adds to the count at an index. A count would need 2^64 records to wrap.
+fn add(counts: &mut [u64; 10], at: u64, more: u64)
+    requires { ⌜ at < 10 ⌝ }
+{
+    let at = at as usize;
+    counts[at] = std::num::wrapping_add_u64(counts[at], more);
+}
+
+// Runs the records, counts the calls of each function and those that differ, and gives how many records are left.
+fn run_all(
+    block: &mut [u8],
+    start: Place,
+    records: u64,
+    calls: &mut [u64; 10],
+    differ: &mut [u64; 10],
+) -> u64 {
+    let mut place = start;
+    let mut left = records;
+    while left > 0 {
+        let step = run_next(block, place);
+        let Step::Run {
+            function,
+            differs,
+            place: after,
+        } = step
+        else {
+            return left;
+        };
+        add(calls, function, 1);
+        add(differ, function, differs);
+        place = after;
+        left -= 1;
+    }
+    left
+}
+
+fn print_line(name: &[u8], calls: u64, differ: u64) {
+    io::write_all(1, name);
+    io::print_decimal(1, calls);
+    io::write_all(1, b" calls, ");
+    io::print_decimal(1, differ);
+    io::write_all(1, b" differ\n");
+}
+
+fn main() {
+    let mut block = [0u8; 17408];
+    let mut calls = [0u64; 10];
+    let mut differ = [0u64; 10];
+    let first = records::stream::next_word(
+        libc::STDIN_FILENO,
+        &mut block,
+        records::stream::start(),
+    );
+    let word = first.word;
+    let Word::Bits(recorded) = word else {
+        return;
+    };
+    let place = first.place;
+    let left = run_all(&mut block, place, recorded, &mut calls, &mut differ);
+    print_line(b"sma ", calls[1], differ[1]);
+    print_line(b"ema ", calls[2], differ[2]);
+    print_line(b"exponential_smoothing ", calls[3], differ[3]);
+    print_line(b"tick_mean ", calls[4], differ[4]);
+    print_line(b"single_sma_positions ", calls[5], differ[5]);
+    print_line(b"double_sma_positions ", calls[6], differ[6]);
+    print_line(b"mid_positions ", calls[7], differ[7]);
+    print_line(b"ultimate_smoother ", calls[8], differ[8]);
+    print_line(b"true_range ", calls[9], differ[9]);
+    io::print_decimal(1, recorded);
+    io::write_all(1, b" records, ");
+    io::print_decimal(1, left);
+    io::write_all(1, b" not run\n");
+}
