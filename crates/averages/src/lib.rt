@@ -182,7 +182,7 @@ fn fill_nan(out: &mut [f64], n: usize, bars: usize) -> usize
 }
 
 // Writes the cells of `sma`.
-fn write_sma(series: &[f64], n: usize, out: &mut [f64])
+pub fn write_sma(series: &[f64], n: usize, out: &mut [f64])
     requires { ⌜ WindowRoom n (length (now series)) (length (now out)) ⌝ }
     ensures { λ _. ⌜ Writing (length (now (series .entry))) (smaLine n (line (now (series .entry)))) (now (out .entry)) (now (out .exit)) ⌝ }
 {
