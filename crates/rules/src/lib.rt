@@ -41,7 +41,7 @@ fn write_means_of_prices(series: &[f64], n: usize, means: &mut [f64])
             return;
         }
     }
-    averages::write_means(series, n, means);
+    windows::write_means(series, n, means);
 }
 
 // The sign of a price less its average, 0 where that average is 0.0.
@@ -75,7 +75,7 @@ fn write_single(series: &[f64], n: usize, out: &mut [f64], work: &mut [f64])
 {
     let bars = series.len();
     write_means_of_prices(series, n, work);
-    averages::write_means(&work[..bars], n, out);
+    windows::write_means(&work[..bars], n, out);
     write_against_means(series, n, out);
     calls::clear(work, 8 * bars);
 }
