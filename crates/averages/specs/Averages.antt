@@ -2,7 +2,7 @@
 use mathlib.Core.Path.{_≡_, refl, ap}
 use mathlib.Core.Bool.{false}
 use mathlib.Core.List.{List, [], _∷_}
-use Prim.Native.Nat.{ℕ, zero, suc, _+_, _-_, _*_, _/_, _<_, _≤_}
+use Prim.Native.Nat.{ℕ, zero, suc, _+_, _-_, _*_, _/_, _<_}
 use native.Mathlib.Omega.{arith}
 use lib.IntN.{ℤ, pos, negsuc, negℤ, _+ℤ_}
 use lib.ListN.{length}
@@ -12,10 +12,10 @@ use Rattle.calls.specs.declared.Answer.{Answer}
 use Rattle.calls.specs.declared.Answer.the-variants.{Cells}
 use Rattle.calls.specs.Accepted.{accepted, finite}
 use Rattle.calls.specs.Answer.{checked, andThen, unless}
-use Rattle.calls.specs.Line.{Line, fromBar, from-bar, Same, Causal, causal-from}
+use Rattle.calls.specs.Line.{Line, fromBar, Same, Causal, causal-from}
 use Rattle.calls.specs.Recur.{recur, recur-same}
 use Rattle.rounding.specs.Leaves.{plusOne}
-use Rattle.averages.specs.Window.{mean, causal-mean, over, runningSum, runningSum-same, Running}
+use Rattle.averages.specs.Window.{mean, causal-mean, over, runningSum, runningSum-same}
 
 -- ---- sma: TA-Lib's SMA, with the difference of the new price and the old one added to the running sum in one step
 
@@ -30,11 +30,6 @@ smaLine n f = fromBar (n - 1) nan (λ i. over n (runningSum addDifference n f (i
 pub causal-sma : (n : ℕ) → 0 < n → Causal (smaLine n)
 unfolding smaLine
 causal-sma n p = causal-from (n - 1) nan (λ f g b s l. ap (over n) (runningSum-same addDifference n f g b (b + 1 - n) p (omega arith) s))
-
--- the cell of bar i, from the running sum with that bar in it
-pub sma-cell : (n i : ℕ) (f : Line) {x : Float} → Running addDifference n f (i + 1) x → n ≤ i + 1 → over n x ≡ smaLine n f i
-unfolding smaLine
-sma-cell n i f r h = rw (r .is, from-bar (n - 1) nan _ i (omega arith))
 
 -- ---- ema and exponential_smoothing
 
@@ -61,31 +56,6 @@ emaLine n f = smoothLine (emaAlpha n) (n - 1) (mean n f (n - 1)) f
 abbrev pub exponentialLine : Float → Line → Line
 exponentialLine alpha f = smoothLine alpha 0 (f 0) f
 
--- x is the cell before bar i: what the loop that blends keeps
-pub record Blending (alpha : Float) (a : ℕ) (seed : Float) (f : Line) (i : ℕ) (x : Float) : Type 0 where
-  pub is : x ≡ smoothLine alpha a seed f (i - 1)
-
-module _ {alpha : Float} {a : ℕ} {seed : Float} {f : Line} where
-  pub seeded : Blending alpha a seed f (a + 1) seed
-  unfolding smoothLine recur
-  seeded =
-      let none : a + 1 - 1 - a ≡ 0 = omega arith in
-      record { is = rw (from-bar a nan _ (a + 1 - 1) (omega arith), none) }
-
-  pub next-blended : {i : ℕ} {x y : Float} → Blending alpha a seed f i x → y ≡ blend alpha x (f i) → a < i → Blending alpha a seed f (i + 1) y
-  unfolding smoothLine recur
-  next-blended {i} r e h =
-      let now : i + 1 - 1 ≡ i = omega arith in
-      let one : i - a ≡ suc (i - 1 - a) = omega arith in
-      let bar : a + 1 + (i - 1 - a) ≡ i = omega arith in
-      record { is = rw (e, r .is, now, from-bar a nan _ i (omega arith), from-bar a nan _ (i - 1) (omega arith), one, bar) }
-
-  -- the cell of bar i
-  pub blended-cell : (i : ℕ) {x : Float} → Blending alpha a seed f (i + 1) x → x ≡ smoothLine alpha a seed f i
-  blended-cell i r =
-      let now : i + 1 - 1 ≡ i = omega arith in
-      rw (r .is, now)
-
 -- refusals 1 to 5, then 6 for alpha; no bars give the empty answer
 unfoldable pub exponentialAnswer : List Float → Float → ℕ → Answer
 exponentialAnswer s alpha output = andThen (checked accepted (s ∷ []) (output ∷ []) []) (unless (finite alpha) ParameterNotFinite (Cells (length s)))
@@ -106,7 +76,7 @@ causal-exponential alpha = causal-smooth alpha 0 (λ f. f 0) (λ f g s. s 0 (ome
 
 -- ---- tick_mean, our own: on whole numbers
 
--- the whole ticks f a + .. + f (a + k - 1)
+-- the whole ticks f a + .. + f (a + k - 1): `toSigned 63` is Rust's `as i64`
 unfoldable pub tickSum : Line → ℕ → ℕ → ℤ
 tickSum f a zero = pos 0
 tickSum f a (suc k) = tickSum f a k +ℤ toSigned 63 (f (a + k))

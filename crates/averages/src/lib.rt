@@ -16,7 +16,7 @@ ghost use Rattle.averages.specs.Window.{windowSum, mean};
 ghost use Rattle.averages.specs.Eight.{Windows, WindowRoom, Eight, Begun, Reached};
 ghost use Rattle.averages.specs.Averages.{smaLine, blend, emaLine, exponentialLine, exponentialAnswer, toTick, tickMeanLine};
 ghost use Rattle.averages.specs.Ticks.{TickRoom, Passed, TickRunning};
-ghost use Rattle.averages.specs.Stages.{Sliding, Leading, Seeded, Smooth};
+ghost use Rattle.averages.specs.Stages.{Sliding, Smoothing, Smooth};
 
 // A number for each of eight bars side by side.
 pub struct Lanes {
@@ -182,7 +182,7 @@ fn fill_nan(out: &mut [f64], n: usize, bars: usize) -> usize
 }
 
 // Writes the cells of `sma`.
-fn write_sma(series: &[f64], n: usize, out: &mut [f64])
+pub fn write_sma(series: &[f64], n: usize, out: &mut [f64])
     requires { ⌜ WindowRoom n (length (now series)) (length (now out)) ⌝ }
     ensures { λ _. ⌜ Writing (length (now (series .entry))) (smaLine n (line (now (series .entry)))) (now (out .entry)) (now (out .exit)) ⌝ }
 {
@@ -203,7 +203,7 @@ fn blended(alpha: f64, last: f64, x: f64) -> f64
 
 // Writes the blended cells after bar `first`, where the seed stands.
 fn blend_on(series: &[f64], alpha: f64, first: usize, seed: f64, out: &mut [f64])
-    requires { ⌜ Seeded (now series) alpha first seed (now out) ⌝ }
+    requires { ⌜ Smoothing (now series) alpha first seed (first + 1) (now out) ⌝ }
     ensures { λ _. ⌜ Smooth (now (series .entry)) alpha first seed (now (out .entry)) (now (out .exit)) ⌝ }
 {
     let mut last = seed;
@@ -217,7 +217,7 @@ fn blend_on(series: &[f64], alpha: f64, first: usize, seed: f64, out: &mut [f64]
 
 // Writes the seed at bar `first` and the blended cells after it.
 fn write_smooth(series: &[f64], alpha: f64, first: usize, seed: f64, out: &mut [f64])
-    requires { ⌜ Leading (now series) alpha first seed (now out) ⌝ }
+    requires { ⌜ Smoothing (now series) alpha first seed first (now out) ⌝ }
     ensures { λ _. ⌜ Smooth (now (series .entry)) alpha first seed (now (out .entry)) (now (out .exit)) ⌝ }
 {
     out[first] = seed;

@@ -7,7 +7,7 @@ ghost use Rattle.calls.specs.Line.{line};
 ghost use Rattle.calls.specs.Written.{Writing};
 ghost use Rattle.extremes.specs.Extreme.{pickOf, extreme};
 ghost use Rattle.extremes.specs.Best.{Numbers, Best};
-ghost use Rattle.extremes.specs.Blocks.{Windows, UpTo, Whole};
+ghost use Rattle.extremes.specs.Blocks.{Room, Begun, Windows, UpTo, Whole};
 ghost use Rattle.extremes.specs.Part.{Replacing};
 
 // The larger of two where the highest is asked, the smaller where the lowest is; the first of equals.
@@ -82,16 +82,39 @@ fn last_of(e: usize, n: usize, bars: usize) -> usize
     if e + n < bars { e + n - 1 } else { bars - 1 }
 }
 
-// Writes the highest, or the lowest, of the last n cells of each bar, 0.0 before the first whole window.
-pub fn write_extremes(cells: &[f64], high: bool, n: usize, out: &mut [f64])
-    requires { ⌜ (0 < n) × (n ≤ 4096) × (length (now cells) ≤ 65536) × (length (now cells) ≤ length (now out)) ⌝ }
-    requires { ⌜ Numbers (line (now cells)) (length (now cells)) ⌝ }
+// Writes the best of every window, block after block.
+fn write_blocks(cells: &[f64], high: bool, n: usize, out: &mut [f64])
+    requires { ⌜ Begun high (now cells) n (now out) ⌝ }
     ensures { λ _. ⌜ Writing (length (now (cells .entry))) (extreme (pickOf high) n (line (now (cells .entry)))) (now (out .entry)) (now (out .exit)) ⌝ }
 {
-    calls::fill_lead(out, n - 1, cells.len(), 0.0);
     let mut e = n - 1;
     while e < cells.len() {
         write_block(cells, high, n, e, last_of(e, n, cells.len()), out);
         e += n;
+    }
+}
+
+// The same, each window by itself: for short ones.
+fn write_each(cells: &[f64], high: bool, n: usize, out: &mut [f64])
+    requires { ⌜ Begun high (now cells) n (now out) ⌝ }
+    ensures { λ _. ⌜ Writing (length (now (cells .entry))) (extreme (pickOf high) n (line (now (cells .entry)))) (now (out .entry)) (now (out .exit)) ⌝ }
+{
+    let mut i = n - 1;
+    while i < cells.len() {
+        out[i] = best_of(cells, high, i + 1 - n, i);
+        i += 1;
+    }
+}
+
+// Writes the highest, or the lowest, of the last n cells of each bar, 0.0 before the first whole window.
+pub fn write_extremes(cells: &[f64], high: bool, n: usize, out: &mut [f64])
+    requires { ⌜ Room (now cells) n (length (now out)) ⌝ }
+    ensures { λ _. ⌜ Writing (length (now (cells .entry))) (extreme (pickOf high) n (line (now (cells .entry)))) (now (out .entry)) (now (out .exit)) ⌝ }
+{
+    calls::fill_lead(out, n - 1, cells.len(), 0.0);
+    if n > 8 {
+        write_blocks(cells, high, n, out);
+    } else {
+        write_each(cells, high, n, out);
     }
 }

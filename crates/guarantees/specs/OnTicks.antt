@@ -6,15 +6,16 @@ use mathlib.Core.Bool.{cond}
 use mathlib.Core.List.{List, [], _∷_}
 use Prim.Native.Nat.{ℕ, _+_, _-_, _*_, _<_, _≤_}
 use native.Mathlib.Omega.{arith}
-use lib.IntN.{ℤ, pos, _+ℤ_, _*ℤ_}
+use lib.IntN.{ℤ, pos, natAbs, _+ℤ_, _*ℤ_}
 use lib.Signed.{ltZ}
 use lib.ListN.{length, getD}
-use lib.Ieee.{Float, nan, binary64}
+use lib.Ieee.{Float, nan, binary64, round}
 use Rattle.rounding.specs.Leaves.{plusOne, minusOne}
+use Rattle.rounding.specs.Whole.{isNegative}
 use Rattle.rounding.specs.Nearest.{NearestTo}
-use Rattle.rounding.specs.Quotient.{quotient, Whole, quotient-nearest, quotient-zero}
+use Rattle.rounding.specs.Quotient.{quotient, Whole, quotient-is, quotient-nearest, quotient-zero}
 use Rattle.calls.specs.declared.Answer.the-variants.{Cells}
-use Rattle.calls.specs.Line.{plusZero, line}
+use Rattle.calls.specs.Line.{plusZero, minusZero, line}
 use Rattle.calls.specs.Written.{getD-written}
 use Rattle.rules.specs.Opened.{double-opened}
 use Rattle.rules.specs.Rules.{doubleLine}
@@ -45,8 +46,9 @@ W n s = lowest n (windowSumOf n s)
 abbrev pub sideOf : ℤ → ℤ → Float
 sideOf a b = cond (ltZ a b) minusOne plusOne
 
--- x is the f64 nearest z / n, ties to even, and +0.0 where z is 0
+-- x is z / n rounded once: the f64 nearest to it, ties to even, and +0.0 where z is 0
 pub record IsMean (z : ℤ) (n : ℕ) (x : Float) : Type 0 where
+  pub rounded : x ≡ round binary64 (isNegative z) (natAbs z) n
   pub nearest : NearestTo binary64 z n x
   pub zero : z ≡ pos 0 → x ≡ plusZero
 
@@ -61,7 +63,7 @@ module _ {s out₀ out₁ : List Float} (w : WholeTicks s) (n : ℕ) {k : ℕ} w
       let t = whole-ticks w in
       let v = window-whole t n (r .some) (r .narrow) (i + 1 - n) (omega (arith, r .inside)) in
       rw (r .cell, sma-exact t n (r .some) (r .narrow) i b (r .inside))
-      (record { nearest = quotient-nearest v; zero = λ e. zero-mean (windowSumOf n s i) n v e })
+      (record { rounded = quotient-is v; nearest = quotient-nearest v; zero = λ e. zero-mean (windowSumOf n s i) n v e })
 
   -- Double, for every n < m to 4,096: from bar m - 1 the cell is +1 exactly when m times the last n prices' sum is at least n times the last m
   -- prices' sum, else -1.

@@ -76,7 +76,7 @@ accepted-finite (inf true) p = absurd (true≢false (sym p))
 accepted-finite (inf false) p = absurd (true≢false (sym p))
 accepted-finite (fin s m e) p = refl
 
-all-at : (p : Float → Bool) (s : List Float) (i : ℕ) → all p s ≡ true → i < length s → p (getD s i nan) ≡ true
+pub all-at : (p : Float → Bool) (s : List Float) (i : ℕ) → all p s ≡ true → i < length s → p (getD s i nan) ≡ true
 all-at p [] i h l = absurd (not-suc-le-zero l)
 all-at p (x ∷ s) zero h l = and-parts (p x) (all p s) h .0
 all-at p (x ∷ s) (suc i) h l = all-at p s i (and-parts (p x) (all p s) h .1) (le-of-suc-le-suc l)

@@ -6,7 +6,7 @@ use Prim.Native.Nat.{ℕ, _*_, _<_, _≤_}
 use native.Mathlib.Omega.{arith}
 use borrow.Author.Tests.{leb-true, ltb-true}
 use lib.Dec.{leb, ltb, eqb}
-use lib.ListN.{length}
+use lib.ListN.{length, take}
 use lib.Ieee.{Float}
 use Rattle.calls.specs.declared.Answer.{Answer}
 use Rattle.calls.specs.declared.Answer.the-variants.{Cells}
@@ -17,8 +17,9 @@ use Rattle.calls.specs.Line.{Line, line, plusZero}
 use Rattle.calls.specs.Room.{Room, Open, and-parts, or-parts, unless-cells, andThen-cells, emptyIf-cells, nonzero, same-count, checked-room, room, opened}
 use Rattle.calls.specs.Written.{Writing, none-written, ends}
 use Rattle.averages.specs.Window.{mean}
-use Rattle.extremes.specs.Best.{Numbers}
+use Rattle.extremes.specs.Blocks as Extremes
 use Rattle.rules.specs.Numbers.{means-are-numbers}
+use Rattle.rules.specs.Stages.{part-long, part-numbers}
 use Rattle.rules.specs.Rules.{doubleAnswer}
 
 -- a window, room for the cells and in the work slice, and accepted prices
@@ -64,9 +65,18 @@ module _ (s : List Float) (n out work : ℕ) {r : Answer} {k : ℕ} (e : r ≡ a
       → WorkCall (answered accepted s (n ∷ []) out (work ∷ [])) f out₀ (length s) work₀ (Cells k) out₀ work₁
   none-called h w = work-counted (sym q ∙ e) (ends none-written (omega arith)) w
 
--- its means are numbers
-pub priced-means : {n : ℕ} {s : List Float} {out work : ℕ} → Priced n s out work → Numbers (mean n (line s)) (length s)
-priced-means {n} {s} p = means-are-numbers n s (p .some, p .narrow) (p .values)
+-- its means, in the first part of a slice, are numbers with a window
+pub means-room : {n : ℕ} {s : List Float} {out work cells : ℕ} {old mid : List Float} → Priced n s out work
+    → Writing (length s) (mean n (line s)) old mid → length s ≤ length old → length s ≤ cells → Extremes.Room (take (length s) mid) n cells
+means-room {n} {s} p w h l =
+    let long = part-long w h in
+    record {
+      some = p .some;
+      narrow = p .narrow;
+      short = rw long (p .short);
+      room = rw long l;
+      numbers = part-numbers w h (means-are-numbers n s (p .some, p .narrow) (p .values));
+    }
 
 -- two windows in order, room in the output, and cells for all bars
 pub record DoubleOpen (s : List Float) (n m output k : ℕ) : Type 0 where

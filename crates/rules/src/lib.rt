@@ -9,14 +9,40 @@ ghost use lib.ListN.{length};
 ghost use Rattle.calls.specs.declared.Refusal.the-variants.{WindowsOutOfOrder};
 ghost use Rattle.calls.specs.declared.Answer.the-variants.{Cells};
 ghost use Rattle.calls.specs.Answer.{unless, windowed, answered};
-ghost use Rattle.calls.specs.Accepted.{accepted};
+ghost use Rattle.calls.specs.Accepted.{accepted, tick, all};
 ghost use Rattle.calls.specs.Call.{Call, WorkCall};
 ghost use Rattle.calls.specs.Line.{line, plusZero};
 ghost use Rattle.calls.specs.Written.{Writing};
+ghost use mathlib.Core.Bool.{true};
+ghost use Rattle.averages.specs.Eight.{WindowRoom};
 ghost use Rattle.averages.specs.Window.{mean, Running};
 ghost use Rattle.rules.specs.Opened.{Priced};
 ghost use Rattle.rules.specs.Rules.{againstMean, singleLine, againstMiddle, midLine, addThenSubtract, doubleLine, doubleAnswer};
 ghost use Rattle.rules.specs.Stages.{Averaged, Ranges, Started, crossing};
+
+// Writes the means of whole ticks by running sums, which are exact, so that each cell is that of its window summed afresh.
+fn write_means_of_ticks(series: &[f64], n: usize, means: &mut [f64])
+    requires { ⌜ WindowRoom n (length (now series)) (length (now means)) ⌝ }
+    requires { ⌜ all tick (now series) ≡ true ⌝ }
+    ensures { λ _. ⌜ Writing (length (now (series .entry))) (mean n (line (now (series .entry)))) (now (means .entry)) (now (means .exit)) ⌝ }
+{
+    averages::write_sma(series, n, means);
+    calls::fill_lead(means, n - 1, series.len(), 0.0);
+}
+
+// Writes the means of prices. It pays to look whether they are whole ticks where the window is long.
+fn write_means_of_prices(series: &[f64], n: usize, means: &mut [f64])
+    requires { ⌜ WindowRoom n (length (now series)) (length (now means)) ⌝ }
+    ensures { λ _. ⌜ Writing (length (now (series .entry))) (mean n (line (now (series .entry)))) (now (means .entry)) (now (means .exit)) ⌝ }
+{
+    if n > 32 {
+        if calls::all_ticks(series) {
+            write_means_of_ticks(series, n, means);
+            return;
+        }
+    }
+    averages::write_means(series, n, means);
+}
 
 // The sign of a price less its average, 0 where that average is 0.0.
 fn against_mean(price: f64, average: f64) -> f64
@@ -48,7 +74,7 @@ fn write_single(series: &[f64], n: usize, out: &mut [f64], work: &mut [f64])
         × Writing (8 * length (now (series .entry))) (λ i. plusZero) (now (work .entry)) (now (work .exit)) ⌝ }
 {
     let bars = series.len();
-    averages::write_means(series, n, work);
+    write_means_of_prices(series, n, work);
     averages::write_means(&work[..bars], n, out);
     write_against_means(series, n, out);
     calls::clear(work, 8 * bars);
@@ -92,7 +118,7 @@ fn write_ranges(series: &[f64], n: usize, out: &mut [f64], work: &mut [f64])
         × Ranges n (now (series .entry)) (now (work .entry)) (now (work .exit)) ⌝ }
 {
     let bars = series.len();
-    averages::write_means(series, n, out);
+    write_means_of_prices(series, n, out);
     extremes::write_extremes(&out[..bars], true, n, work);
     extremes::write_extremes(&out[..bars], false, n, &mut work[bars..]);
 }

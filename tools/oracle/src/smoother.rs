@@ -109,5 +109,14 @@ pub fn check() -> bool {
 
 /// Platform, compiler and the C library whose exp and cos were run.
 pub fn platform() -> String {
-    format!("{}-{}, {}, {}", std::env::consts::ARCH, std::env::consts::OS, env!("ORACLE_RUSTC"), env!("ORACLE_LIBM"))
+    format!("{}-{}, {}, {}, {}", std::env::consts::ARCH, std::env::consts::OS, env!("ORACLE_RUSTC"), env!("ORACLE_LIBM"), fused())
+}
+
+/// Whether the processor has FMA: glibc's exp has another form without it, which differs at period 230.
+fn fused() -> &'static str {
+    #[cfg(target_arch = "x86_64")]
+    if std::arch::is_x86_feature_detected!("fma") {
+        return "fma";
+    }
+    "no fma"
 }

@@ -4,7 +4,8 @@ use native.Mathlib.Omega.{arith}
 use lib.ListN.{length}
 use Rattle.calls.specs.Line.{line}
 use Rattle.calls.specs.Written.{Writing, one-more, ends}
-use Rattle.averages.specs.Averages.{smoothLine, Blending, seeded, next-blended, blended-cell}
+use Rattle.averages.specs.Averages.{smoothLine}
+use Rattle.averages.specs.Stages.{Blending, seeded, next-blended, blended-cell}
 use borrow.Author.Needs.{needs}
 use Rattle.averages.proofs.blend_on.Statement.{statement}
 use Rattle.averages.proofs.blend_on.Tie as tie

@@ -3,7 +3,7 @@ use Rattle.calls.specs.Line.{line}
 use Rattle.averages.specs.Window.{Running, first-running, next-running}
 use Rattle.rules.specs.Rules.{addThenSubtract}
 use mathlib.Core.Path.{_≡_}
-use Prim.Native.Nat.{_+_, _-_, _≤_}
+use Prim.Native.Nat.{_-_, _≤_}
 use native.Mathlib.Omega.{arith}
 use borrow.Author.Needs.{needs}
 use Rattle.rules.proofs.running_sum.Statement.{statement}

@@ -1,8 +1,8 @@
 -- `write_ranges` meets its contract: the extremes of the means that stand in `out`, in one row after the other. Assumes nothing.
 use Rattle.calls.specs.Rows.{lent-on}
 use Rattle.extremes.specs.Extreme.{larger, smaller, extreme, causal-extreme}
-use Rattle.rules.specs.Opened.{priced-means}
-use Rattle.rules.specs.Stages.{part-long, part-numbers, through}
+use Rattle.rules.specs.Opened.{means-room}
+use Rattle.rules.specs.Stages.{part-long, through}
 use mathlib.Core.Path.{sym}
 use native.Mathlib.Omega.{arith}
 use lib.ListN.{length-take, length-drop}
@@ -14,28 +14,24 @@ write-extremes-requires : tie.Need-write-extremes-requires
 write-extremes-requires c κs =
     let means = c .before .before .before .before in
     let pre = means .before .before .before .before .before .pre in
-    let long = part-long (means .write-means .ensures) (omega arith) in
-    (omega arith, part-numbers (means .write-means .ensures) (omega arith) (priced-means pre))
+    means-room pre (means .write-means-of-prices .ensures) (omega arith) (omega arith)
 
 slice-aggregate-write-extremes-2 : tie.Need-slice-aggregate-write-extremes-2
 slice-aggregate-write-extremes-2 c =
     let means = c .before .before .before .before .before .before .before .before in
-    sym (part-long (means .write-means .ensures) (omega arith))
+    sym (part-long (means .write-means-of-prices .ensures) (omega arith))
 
 write-extremes-requires-2 : tie.Need-write-extremes-requires-2
 write-extremes-requires-2 c κs =
     let means = c .before .before .before .before .before .before .before .before .before in
     let pre = means .before .before .before .before .before .pre in
-    let long = part-long (means .write-means .ensures) (omega arith) in (
-      simp (length-take, length-drop) (omega arith),
-      part-numbers (means .write-means .ensures) (omega arith) (priced-means pre),
-    )
+    means-room pre (means .write-means-of-prices .ensures) (omega arith) (simp (length-take, length-drop) (omega arith))
 
 returns : tie.Need-returns
 returns c =
     let low = c .before .before in
     let high = low .before .before .before .before .before in
-    let means = high .before .before .before .before .before .write-means .ensures in
+    let means = high .before .before .before .before .before .write-means-of-prices .ensures in
     let pre = high .before .before .before .before .before .before .before .before .before .before .pre in
     let highs = through means (omega arith) (extreme larger _) (causal-extreme larger _ (pre .some)) (high .write-extremes .ensures) in
     let lows = through means (omega arith) (extreme smaller _) (causal-extreme smaller _ (pre .some)) (low .write-extremes2 .ensures) in
@@ -45,9 +41,9 @@ pub write-ranges-spec : {M : Type 1} → statement M
 write-ranges-spec =
     tie.close
     (tie.spec
-    (λ c κs. search needs)  -- write-means-requires
+    (λ c κs. search needs)  -- write-means-of-prices-requires
     (λ c. search needs)  -- slice-reshare-prefix-write-extremes
-    (λ c. sym (part-long (c .before .before .before .write-means .ensures) (omega arith)))  -- slice-aggregate-write-extremes
+    (λ c. sym (part-long (c .before .before .before .write-means-of-prices .ensures) (omega arith)))  -- slice-aggregate-write-extremes
     write-extremes-requires
     (λ c. search needs)  -- slice-reshare-prefix-write-extremes-2
     slice-aggregate-write-extremes-2

@@ -1,0 +1,86 @@
+-- Sixteen bars side by side, as two times eight. Assumes nothing.
+use mathlib.Core.Path.{_≡_}
+use mathlib.Core.List.{List}
+use Prim.Native.Nat.{ℕ, _+_, _<_, _≤_}
+use native.Mathlib.Omega.{arith}
+use lib.ListN.{length, set}
+use lib.Ieee.{Float, binary64, add}
+use Rattle.calls.specs.Line.{Line, minusZero}
+use Rattle.calls.specs.Written.{Writing, ends}
+use Rattle.averages.specs.declared.Lanes.{Lanes}
+use Rattle.averages.specs.Window.{Summing, none-summed, one-added, window-sum, windowSum, over, mean, mean-of}
+use Rattle.averages.specs.Eight.{Eight, eight-more}
+use Rattle.windows.specs.declared.Sixteen.{Sixteen}
+
+-- the cells of a line at the sixteen bars from i on
+pub record SixteenOf (line : Line) (i : ℕ) (r : Sixteen) : Type 0 where
+  pub low : Eight line i (r .low)
+  pub high : Eight line (i + 8) (r .high)
+
+-- each lane divided by the window's length
+abbrev pub eachOver : ℕ → Lanes → Lanes
+eachOver n r = record { a = over n (r .a); b = over n (r .b); c = over n (r .c); d = over n (r .d); e = over n (r .e); f = over n (r .f); g = over n (r .g); h = over n (r .h) }
+
+-- the eight lanes, stored from cell i on
+abbrev pub storeEight : List Float → ℕ → Lanes → List Float
+storeEight cells i r =
+    set (set (set (set (set (set (set (set cells i (r .a)) (i + 1) (r .b)) (i + 2) (r .c)) (i + 3) (r .d))
+    (i + 4) (r .e)) (i + 5) (r .f)) (i + 6) (r .g)) (i + 7) (r .h)
+
+-- eight sums side by side, each k cells long: what the loop that sums keeps of eight of its lanes
+pub record Summed (f : Line) (a k : ℕ) (r : Lanes) : Type 0 where
+  pub first : Summing minusZero f a k (r .a)
+  pub second : Summing minusZero f (a + 1) k (r .b)
+  pub third : Summing minusZero f (a + 2) k (r .c)
+  pub fourth : Summing minusZero f (a + 3) k (r .d)
+  pub fifth : Summing minusZero f (a + 4) k (r .e)
+  pub sixth : Summing minusZero f (a + 5) k (r .f)
+  pub seventh : Summing minusZero f (a + 6) k (r .g)
+  pub eighth : Summing minusZero f (a + 7) k (r .h)
+
+-- none is summed yet
+pub none-of-eight : {f : Line} {a : ℕ} → Summed f a 0 (record { a = minusZero; b = minusZero; c = minusZero; d = minusZero; e = minusZero; f = minusZero; g = minusZero; h = minusZero })
+none-of-eight = record { first = none-summed; second = none-summed; third = none-summed; fourth = none-summed; fifth = none-summed; sixth = none-summed; seventh = none-summed; eighth = none-summed }
+
+-- one more cell in each
+pub each-added : {f : Line} {a k : ℕ} {r : Lanes} → Summed f a k r
+    → Summed f a (k + 1) (record { a = add binary64 (r .a) (f (a + k)); b = add binary64 (r .b) (f (a + 1 + k)); c = add binary64 (r .c) (f (a + 2 + k)); d = add binary64 (r .d) (f (a + 3 + k)); e = add binary64 (r .e) (f (a + 4 + k)); f = add binary64 (r .f) (f (a + 5 + k)); g = add binary64 (r .g) (f (a + 6 + k)); h = add binary64 (r .h) (f (a + 7 + k)) })
+each-added s = record { first = one-added (s .first); second = one-added (s .second); third = one-added (s .third); fourth = one-added (s .fourth); fifth = one-added (s .fifth); sixth = one-added (s .sixth); seventh = one-added (s .seventh); eighth = one-added (s .eighth) }
+
+-- the windows' sums at the eight bars from i on, the first of which starts at bar a
+pub eight-sums : (n i a : ℕ) {f : Line} {k : ℕ} {r : Lanes} → Summed f a k r → (k ≡ n) × (a + n ≡ i + 1) → Eight (windowSum n f) i r
+eight-sums n i a s (p, q) =
+    record {
+      first = window-sum n _ (s .first) (omega arith);
+      second = window-sum n _ (s .second) (omega arith);
+      third = window-sum n _ (s .third) (omega arith);
+      fourth = window-sum n _ (s .fourth) (omega arith);
+      fifth = window-sum n _ (s .fifth) (omega arith);
+      sixth = window-sum n _ (s .sixth) (omega arith);
+      seventh = window-sum n _ (s .seventh) (omega arith);
+      eighth = window-sum n _ (s .eighth) (omega arith);
+    }
+
+-- the means at those bars, from the sums
+pub eight-means : (n i : ℕ) (f : Line) {r : Lanes} → Eight (windowSum n f) i r → n ≤ i + 1 → Eight (mean n f) i (eachOver n r)
+eight-means n i f s h =
+    record {
+      first = mean-of n _ f (s .first) (omega arith);
+      second = mean-of n _ f (s .second) (omega arith);
+      third = mean-of n _ f (s .third) (omega arith);
+      fourth = mean-of n _ f (s .fourth) (omega arith);
+      fifth = mean-of n _ f (s .fifth) (omega arith);
+      sixth = mean-of n _ f (s .sixth) (omega arith);
+      seventh = mean-of n _ f (s .seventh) (omega arith);
+      eighth = mean-of n _ f (s .eighth) (omega arith);
+    }
+
+-- eight more cells of a line, stored
+pub eight-stored : (k : ℕ) {f : Line} {old now next : List Float} {r : Lanes} → Writing k f old now → Eight f k r
+    → next ≡ storeEight now k r → k + 8 ≤ length old → Writing (k + 8) f old next
+eight-stored k w r e h = rw e (eight-more w r (omega arith))
+
+-- sixteen more, by two stores of eight
+pub sixteen-stored : (k : ℕ) {f : Line} {old now mid next : List Float} {r : Sixteen} → Writing k f old now → SixteenOf f k r
+    → mid ≡ storeEight now k (r .low) → next ≡ storeEight mid (k + 8) (r .high) → k + 16 ≤ length old → Writing (k + 16) f old next
+sixteen-stored k w r d e h = ends (eight-stored (k + 8) (eight-stored k w (r .low) d (omega arith)) (r .high) e (omega arith)) (omega arith)
