@@ -5,9 +5,9 @@ use mathlib.Core.Path.{_≡_}
 use Prim.Native.Nat.{ℕ, suc, _+_, _-_, _^_, _<_, _≤_}
 use lib.Dec.{ltb}
 use lib.IntN.{ℤ, pos, negsuc}
-use lib.ListN.{getD}
-use lib.Ieee.{binary64, ofBits}
-use Rattle.calls.specs.Line.{Line}
+use lib.ListN.{length, getD}
+use lib.Ieee.{Float, binary64, ofBits}
+use Rattle.calls.specs.Line.{Line, line}
 use Rattle.replay.specs.declared.Call.{Call}
 use Rattle.replay.specs.declared.Step.{Step}
 use Rattle.replay.specs.declared.Step.the-variants.{Run, Stop}
@@ -17,9 +17,13 @@ pub record Decides (P : Type 0) (r : Bool) : Type 0 where
   pub yes : r ≡ true → P
   pub no : P → r ≡ true
 
--- r says whether f and g are the same at the first n places
+-- f and g are the same at the first n places
+abbrev pub Same : {A : Type 0} → ℕ → (ℕ → A) → (ℕ → A) → Type 0
+Same n f g = (i : ℕ) → i < n → f i ≡ g i
+
+-- r says whether they are
 abbrev pub Agree : {A : Type 0} → ℕ → (ℕ → A) → (ℕ → A) → Bool → Type 0
-Agree n f g r = Decides ((i : ℕ) → i < n → f i ≡ g i) r
+Agree n f g r = Decides (Same n f g) r
 
 -- the numbers that words stand for
 abbrev pub floats : List ℕ → Line
@@ -39,6 +43,11 @@ workWord cleared i = cond (ltb i cleared) 0 0xc1cd_6f34_5890_0000
 
 abbrev pub worked : ℕ → Line
 worked cleared i = ofBits binary64 (workWord cleared i)
+
+-- the cells that a call left, where they are f64, are those that were recorded
+pub record Left (q : Call) (recorded : List ℕ) (out work : List Float) : Type 0 where
+  pub cells : Same (length out) (line out) (floats recorded)
+  pub cleared : Same (length work) (line work) (worked (q .cleared))
 
 -- the call's function is here, and no slice is longer than RECORD.md allows
 pub record Runs (q : Call) : Type 0 where

@@ -8,12 +8,12 @@ use calls::Answer;
 use records::Word;
 use records::stream::Place;
 ghost use mathlib.Core.Path.{_≡_};
-ghost use mathlib.Core.Bool.{cond};
-ghost use Prim.Native.Nat.{_<_, _≤_};
-ghost use lib.ListN.{length};
+ghost use mathlib.Core.Bool.{true, cond};
+ghost use Prim.Native.Nat.{_+_, _%_, _^_, _<_, _≤_};
+ghost use lib.ListN.{length, getD, set};
 ghost use Rattle.calls.specs.Answer.{refusalOf, countOf};
 ghost use Rattle.calls.specs.Written.{Writing};
-ghost use Rattle.replay.specs.Agree.{Decides, floats, Runs, wordsOf, Given, Counted};
+ghost use Rattle.replay.specs.Agree.{Decides, Same, floats, words, Left, Runs, wordsOf, Given, Counted};
 
 // The numbers of a recorded call. No function here has more than two parameters.
 struct Call {
@@ -146,6 +146,7 @@ fn floats_agree(
     work: &mut [f64],
 ) -> bool
     requires { ⌜ length (now out) ≡ length (now recorded) ⌝ }
+    ensures { λ r. ⌜ (r ≡ true → Left call (now (recorded .entry)) (now (out .exit)) (now (work .exit))) ⌝ }
 {
     let answer = answer_floats(call, first, second, third, out, work);
     if same_answer(call, answer) {
@@ -159,6 +160,7 @@ fn floats_agree(
 // The same of a function whose cells are whole numbers. It has one series and no work slice.
 fn ticks_agree(call: Call, series: &[f64], recorded: &[u64], out: &mut [i64]) -> bool
     requires { ⌜ length (now out) ≡ length (now recorded) ⌝ }
+    ensures { λ r. ⌜ (r ≡ true → Same (length (now (out .exit))) (words (now (out .exit))) (λ i. getD (now (recorded .entry)) i 0)) ⌝ }
 {
     let n = call.a as usize;
     let answer = averages::tick_mean(series, n, out);
@@ -260,6 +262,7 @@ fn run_next(block: &mut [u8], start: Place) -> Step
 // Adds to the count at an index. A count would need 2^64 records to wrap.
 fn add(counts: &mut [u64; 10], at: u64, more: u64)
     requires { ⌜ at < 10 ⌝ }
+    ensures { λ _. ⌜ now (counts .exit) ≡ set (now (counts .entry)) at ((getD (now (counts .entry)) at 0 + more) % 2 ^ 64) ⌝ }
 {
     let at = at as usize;
     counts[at] = std::num::wrapping_add_u64(counts[at], more);
@@ -312,6 +315,7 @@ fn main() {
     );
     let word = first.word;
     let Word::Bits(recorded) = word else {
+        io::write_all(1, b"no records\n");
         return;
     };
     let place = first.place;
