@@ -1,0 +1,65 @@
+// The sheet's requests, on byte slices and numbers: reading them, answering, printing and counting refusals.
+use calls::Answer;
+use columns::Field;
+use columns::Price;
+ghost use mathlib.Core.Path.{_≡_};
+ghost use Prim.Native.Nat.{_+_, _≤_};
+ghost use lib.ListN.{length};
+ghost use lib.Seq.{slice};
+ghost use Rattle.requests.specs.Header.{readHeader, readPriceLine};
+
+// What a request's first line asks.
+pub struct Request {
+    pub desk: u64,
+    pub rule: u64,
+    pub n: usize,
+    pub m: usize,
+    pub bars: usize,
+}
+
+// A request's first line as it was read.
+pub enum Header {
+    Asked(Request),
+    Malformed,
+}
+
+// The request in the 27 bytes from `at` on, its line feed with it.
+fn read_header(block: &[u8], at: usize) -> Header
+    requires { ⌜ at + 27 ≤ length (now block) ⌝ }
+    ensures { λ r. ⌜ r ≡ readHeader (slice at (at + 27) (now (block .entry))) ⌝ }
+{
+    if block[at + 26] != b'\n' {
+        return Header::Malformed;
+    }
+    let Field::Value(desk) = columns::read_field(block, at, at + 4) else {
+        return Header::Malformed;
+    };
+    let Field::Value(rule) = columns::read_field(block, at + 4, at + 8) else {
+        return Header::Malformed;
+    };
+    let Field::Value(n) = columns::read_field(block, at + 8, at + 14) else {
+        return Header::Malformed;
+    };
+    let Field::Value(m) = columns::read_field(block, at + 14, at + 20) else {
+        return Header::Malformed;
+    };
+    let Field::Value(bars) = columns::read_field(block, at + 20, at + 26) else {
+        return Header::Malformed;
+    };
+    if rule < 1 {
+        return Header::Malformed;
+    }
+    if rule > 3 {
+        return Header::Malformed;
+    }
+    if bars > 512 {
+        return Header::Malformed;
+    }
+    Header::Asked(Request {
+        desk: desk,
+        rule: rule,
+        n: n as usize,
+        m: m as usize,
+        bars: bars as usize,
+    })
+}
