@@ -27,11 +27,21 @@ given Broken next = Malformed
 abbrev pub accepted : ℕ → ℕ → Bool
 accepted rule bars = (leb 1 rule && leb rule 3) && leb bars 512
 
+-- the request that its five numbers make
+unfoldable pub requestOf : Field → Field → Field → Field → Field → Header
+requestOf desk rule n m bars =
+    given desk (λ d. given rule (λ r. given n (λ a. given m (λ b. given bars (λ l. cond (accepted r l) (Asked (record { desk = d; rule = r; n = a; m = b; bars = l })) Malformed)))))
+
 -- A request's first line: desk in 4 columns, rule in 4, n in 6, m in 6, bars in 6.
 unfoldable pub readHeader : List ℕ → Header
 readHeader line =
     cond (columned 26 line)
-    (given (readField (slice 0 4 line)) (λ desk. given (readField (slice 4 8 line)) (λ rule. given (readField (slice 8 14 line)) (λ n. given (readField (slice 14 20 line)) (λ m. given (readField (slice 20 26 line)) (λ bars. cond (accepted rule bars) (Asked (record { desk = desk; rule = rule; n = n; m = m; bars = bars })) Malformed))))))
+    (requestOf
+    (readField (slice 0 4 line))
+    (readField (slice 4 8 line))
+    (readField (slice 8 14 line))
+    (readField (slice 14 20 line))
+    (readField (slice 20 26 line)))
     Malformed
 
 -- A price's line: 12 columns.
