@@ -11,7 +11,7 @@ use lib.ListN.{length, take, drop, getD}
 use lib.Seq.{slice, length-slice, take-take, drop-drop, getD-drop, getD-take, take-nil}
 use Rattle.requests.specs.Header.{columned}
 
-take-drop : {A : Type 0} (a k : ℕ) (l : List A) → take k (drop a l) ≡ drop a (take (a + k) l)
+pub take-drop : {A : Type 0} (a k : ℕ) (l : List A) → take k (drop a l) ≡ drop a (take (a + k) l)
 take-drop zero k l = rw zero-add
 take-drop (suc a) k [] = rw (suc-add, take-nil)
 take-drop (suc a) k (x ∷ l) = rw suc-add (take-drop a k l)
