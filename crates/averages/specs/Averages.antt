@@ -2,7 +2,7 @@
 use mathlib.Core.Path.{_≡_, refl, ap}
 use mathlib.Core.Bool.{false}
 use mathlib.Core.List.{List, [], _∷_}
-use Prim.Native.Nat.{ℕ, zero, suc, _+_, _-_, _*_, _/_, _<_}
+use Prim.Native.Nat.{ℕ, zero, suc, _+_, _-_, _*_, _/_, _<_, _≤_}
 use native.Mathlib.Omega.{arith}
 use lib.IntN.{ℤ, pos, negsuc, negℤ, _+ℤ_}
 use lib.ListN.{length}
@@ -12,9 +12,10 @@ use Rattle.calls.specs.declared.Answer.{Answer}
 use Rattle.calls.specs.declared.Answer.the-variants.{Cells}
 use Rattle.calls.specs.Accepted.{accepted, finite}
 use Rattle.calls.specs.Answer.{checked, andThen, unless}
-use Rattle.calls.specs.Line.{Line, minusZero, fromBar, Causal, causal-from}
+use Rattle.calls.specs.Line.{Line, fromBar, from-bar, Same, Causal, causal-from}
 use Rattle.calls.specs.Recur.{recur, recur-same}
-use Rattle.averages.specs.Window.{sumFrom, sumFrom-same, over, runningSum, runningSum-same}
+use Rattle.rounding.specs.Leaves.{plusOne}
+use Rattle.averages.specs.Window.{mean, causal-mean, over, runningSum, runningSum-same, Running}
 
 -- ---- sma: TA-Lib's SMA, with the difference of the new price and the old one added to the running sum in one step
 
@@ -30,48 +31,78 @@ pub causal-sma : (n : ℕ) → 0 < n → Causal (smaLine n)
 unfolding smaLine
 causal-sma n p = causal-from (n - 1) nan (λ f g b s l. ap (over n) (runningSum-same addDifference n f g b (b + 1 - n) p (omega arith) s))
 
--- ---- ema and exponential_smoothing
+-- the cell of bar i, from the running sum with that bar in it
+pub sma-cell : (n i : ℕ) (f : Line) {x : Float} → Running addDifference n f (i + 1) x → n ≤ i + 1 → over n x ≡ smaLine n f i
+unfolding smaLine
+sma-cell n i f r h = rw (r .is, from-bar (n - 1) nan _ i (omega arith))
 
-abbrev pub one : Float
-one = fin false 1 (pos 0)
+-- ---- ema and exponential_smoothing
 
 abbrev pub two : Float
 two = fin false 1 (pos 1)
 
 -- alpha · x + (1 - alpha) · last
 abbrev pub blend : Float → Float → Float → Float
-blend alpha last x = add binary64 (mul binary64 alpha x) (mul binary64 (sub binary64 one alpha) last)
+blend alpha last x = add binary64 (mul binary64 alpha x) (mul binary64 (sub binary64 plusOne alpha) last)
 
 -- 2 / (n + 1)
 abbrev pub emaAlpha : ℕ → Float
 emaAlpha n = div binary64 two (ofInt binary64 (pos (n + 1)))
 
--- k bars after bar n - 1, where the mean of the first n is the seed: TA-Lib's EMA
-unfoldable pub emaFrom : ℕ → Line → ℕ → Float
-emaFrom n f = recur (over n (sumFrom minusZero f 0 n)) (λ k last. blend (emaAlpha n) last (f (n + k)))
+-- the seed stands at bar a, each later cell blends its bar with the cell before it, and NaN stands before bar a
+unfoldable pub smoothLine : Float → ℕ → Float → Line → Line
+smoothLine alpha a seed f = fromBar a nan (λ i. recur seed (λ k last. blend alpha last (f (a + 1 + k))) (i - a))
 
--- NaN before bar n - 1
-unfoldable pub emaLine : ℕ → Line → Line
-emaLine n f = fromBar (n - 1) nan (λ i. emaFrom n f (i + 1 - n))
+-- TA-Lib's EMA: the seed is the mean of the first n, at bar n - 1
+abbrev pub emaLine : ℕ → Line → Line
+emaLine n f = smoothLine (emaAlpha n) (n - 1) (mean n f (n - 1)) f
 
--- the first cell is the first value
-unfoldable pub exponentialLine : Float → Line → Line
-exponentialLine alpha f = recur (f 0) (λ k last. blend alpha last (f (k + 1)))
+-- the seed is the first value
+abbrev pub exponentialLine : Float → Line → Line
+exponentialLine alpha f = smoothLine alpha 0 (f 0) f
+
+-- x is the cell before bar i: what the loop that blends keeps
+pub record Blending (alpha : Float) (a : ℕ) (seed : Float) (f : Line) (i : ℕ) (x : Float) : Type 0 where
+  pub is : x ≡ smoothLine alpha a seed f (i - 1)
+
+module _ {alpha : Float} {a : ℕ} {seed : Float} {f : Line} where
+  pub seeded : Blending alpha a seed f (a + 1) seed
+  unfolding smoothLine recur
+  seeded =
+      let none : a + 1 - 1 - a ≡ 0 = omega arith in
+      record { is = rw (from-bar a nan _ (a + 1 - 1) (omega arith), none) }
+
+  pub next-blended : {i : ℕ} {x y : Float} → Blending alpha a seed f i x → y ≡ blend alpha x (f i) → a < i → Blending alpha a seed f (i + 1) y
+  unfolding smoothLine recur
+  next-blended {i} r e h =
+      let now : i + 1 - 1 ≡ i = omega arith in
+      let one : i - a ≡ suc (i - 1 - a) = omega arith in
+      let bar : a + 1 + (i - 1 - a) ≡ i = omega arith in
+      record { is = rw (e, r .is, now, from-bar a nan _ i (omega arith), from-bar a nan _ (i - 1) (omega arith), one, bar) }
+
+  -- the cell of bar i
+  pub blended-cell : (i : ℕ) {x : Float} → Blending alpha a seed f (i + 1) x → x ≡ smoothLine alpha a seed f i
+  blended-cell i r =
+      let now : i + 1 - 1 ≡ i = omega arith in
+      rw (r .is, now)
 
 -- refusals 1 to 5, then 6 for alpha; no bars give the empty answer
 unfoldable pub exponentialAnswer : List Float → Float → ℕ → Answer
 exponentialAnswer s alpha output = andThen (checked accepted (s ∷ []) (output ∷ []) []) (unless (finite alpha) ParameterNotFinite (Cells (length s)))
 
-pub causal-ema : (n : ℕ) → 0 < n → Causal (emaLine n)
-unfolding emaLine emaFrom
-causal-ema n p =
-    causal-from (n - 1) nan
-    (λ f g b s l. recur-same _ _ _ _ (b + 1 - n) (ap (over n) (sumFrom-same minusZero f g 0 n (λ j m. s j (omega arith))))
-      (λ j x m. rw (s (n + j) (omega arith))))
+-- where the seed needs nothing after bar a, the line has no look-ahead
+causal-smooth : (alpha : Float) (a : ℕ) (seed : Line → Float) → ((f g : Line) → Same f g a → seed f ≡ seed g)
+    → Causal (λ f. smoothLine alpha a (seed f) f)
+unfolding smoothLine
+causal-smooth alpha a seed h =
+    causal-from a nan
+    (λ f g b s l. recur-same _ _ _ _ (b - a) (h f g (λ j m. s j (omega arith))) (λ j x m. rw (s (a + 1 + j) (omega arith))))
+
+pub causal-ema : (n : ℕ) → Causal (emaLine n)
+causal-ema n = causal-smooth (emaAlpha n) (n - 1) (λ f. mean n f (n - 1)) (λ f g. causal-mean n f g (n - 1))
 
 pub causal-exponential : (alpha : Float) → Causal (exponentialLine alpha)
-unfolding exponentialLine
-causal-exponential alpha f g b s = recur-same _ _ _ _ b (s 0 (omega arith)) (λ j x m. rw (s (j + 1) (omega arith)))
+causal-exponential alpha = causal-smooth alpha 0 (λ f. f 0) (λ f g s. s 0 (omega arith))
 
 -- ---- tick_mean, our own: on whole numbers
 

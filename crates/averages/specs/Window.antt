@@ -45,13 +45,38 @@ pub one-added : {z : Float} {f : Line} {a k : ℕ} {x : Float} → Summing z f a
 unfolding sumFrom
 one-added s = record { is = rw (add-one, s .is) }
 
--- the mean at bar i, from the sum of its window, which starts at bar a
-pub mean-at : (n i : ℕ) {f : Line} {a k : ℕ} {x : Float} → Summing minusZero f a k x
-    → (k ≡ n) × (a + n ≡ i + 1) → over n x ≡ mean n f i
-unfolding mean windowSum
-mean-at n i {f} {a} s (p, q) =
+-- the window's sum at bar i, from the sum of its n cells, which start at bar a
+pub window-sum : (n i : ℕ) {f : Line} {a k : ℕ} {x : Float} → Summing minusZero f a k x → (k ≡ n) × (a + n ≡ i + 1) → x ≡ windowSum n f i
+unfolding windowSum
+window-sum n i {f} {a} s (p, q) =
     let start : i + 1 - n ≡ a = omega arith in
-    rw (s .is, p, from-bar (n - 1) plusZero _ i (omega arith), start)
+    rw (s .is, p, start)
+
+-- the mean at bar i, from the window's sum there
+pub mean-of : (n i : ℕ) (f : Line) {x : Float} → x ≡ windowSum n f i → n ≤ i + 1 → over n x ≡ mean n f i
+unfolding mean
+mean-of n i f e h = rw (e, from-bar (n - 1) plusZero _ i (omega arith))
+
+-- x is the running sum of the n bars before bar i: what the loops that slide keep
+pub record Running (slide : Float → Float → Float → Float) (n : ℕ) (f : Line) (i : ℕ) (x : Float) : Type 0 where
+  pub is : x ≡ runningSum slide n f (i - n)
+
+module _ {slide : Float → Float → Float → Float} {f : Line} where
+  -- the first n bars are summed afresh
+  pub first-running : (n : ℕ) {x : Float} → x ≡ windowSum n f (n - 1) → 0 < n → Running slide n f n x
+  unfolding runningSum windowSum recur
+  first-running n e h =
+      let start : n - 1 + 1 - n ≡ 0 = omega arith in
+      let none : n - n ≡ 0 = omega arith in
+      record { is = rw (e, start, none) }
+
+  -- bar i comes in, and bar i - n goes out
+  pub next-running : {n i : ℕ} {x : Float} → Running slide n f i x → n ≤ i → Running slide n f (i + 1) (slide x (f i) (f (i - n)))
+  unfolding runningSum recur
+  next-running {n} {i} r h =
+      let one : i + 1 - n ≡ suc (i - n) = omega arith in
+      let bar : n + (i - n) ≡ i = omega arith in
+      record { is = rw (r .is, one, bar) }
 
 -- a window's length is a float
 pub count-is-float : (n : ℕ) → n ≤ 4097 → T (inFloat binary64 (pos n))

@@ -1,1 +1,278 @@
-// Averages.
+// Averages: each window summed afresh, one bar and eight bars side by side.
+use calls::Answer;
+use calls::Refusal;
+ghost use mathlib.Core.Path.{_≡_};
+ghost use mathlib.Core.List.{[], _∷_};
+ghost use Prim.Native.Nat.{_-_};
+ghost use lib.ListN.{length};
+ghost use lib.Ieee.{nan};
+ghost use Rattle.calls.specs.Accepted.{accepted};
+ghost use Rattle.calls.specs.Answer.{answered};
+ghost use Rattle.calls.specs.Call.{Call};
+ghost use Rattle.calls.specs.Line.{line, Led};
+ghost use Rattle.calls.specs.Written.{Writing};
+ghost use Rattle.averages.specs.Window.{windowSum, mean};
+ghost use Rattle.averages.specs.Eight.{Windows, WindowRoom, Eight, Begun, Reached};
+ghost use Rattle.averages.specs.Averages.{smaLine, blend, emaLine, exponentialLine, exponentialAnswer};
+ghost use Rattle.averages.specs.Stages.{Sliding, Leading, Seeded, Smooth};
+
+// A number for each of eight bars side by side.
+pub struct Lanes {
+    pub a: f64,
+    pub b: f64,
+    pub c: f64,
+    pub d: f64,
+    pub e: f64,
+    pub f: f64,
+    pub g: f64,
+    pub h: f64,
+}
+
+// The sum of the n prices up to bar i.
+pub fn sum_at(series: &[f64], n: usize, i: usize) -> f64
+    requires { ⌜ Windows n i 1 (length (now series)) ⌝ }
+    ensures { λ r. ⌜ r ≡ windowSum n (line (now (series .entry))) i ⌝ }
+{
+    let at = i + 1 - n;
+    let mut sum = -0.0;
+    let mut k = 0;
+    while k < n {
+        sum = sum + series[at + k];
+        k += 1;
+    }
+    sum
+}
+
+// The same for the eight bars from i on, each with a sum of its own.
+pub fn sums_at(series: &[f64], n: usize, i: usize) -> Lanes
+    requires { ⌜ Windows n i 8 (length (now series)) ⌝ }
+    ensures { λ r. ⌜ Eight (windowSum n (line (now (series .entry)))) i r ⌝ }
+{
+    let at = i + 1 - n;
+    let mut a = -0.0;
+    let mut b = -0.0;
+    let mut c = -0.0;
+    let mut d = -0.0;
+    let mut e = -0.0;
+    let mut f = -0.0;
+    let mut g = -0.0;
+    let mut h = -0.0;
+    let mut k = 0;
+    while k < n {
+        a = a + series[at + k];
+        b = b + series[at + 1 + k];
+        c = c + series[at + 2 + k];
+        d = d + series[at + 3 + k];
+        e = e + series[at + 4 + k];
+        f = f + series[at + 5 + k];
+        g = g + series[at + 6 + k];
+        h = h + series[at + 7 + k];
+        k += 1;
+    }
+    Lanes {
+        a,
+        b,
+        c,
+        d,
+        e,
+        f,
+        g,
+        h,
+    }
+}
+
+// The mean of the n prices up to bar i.
+pub fn mean_at(series: &[f64], n: usize, i: usize) -> f64
+    requires { ⌜ Windows n i 1 (length (now series)) ⌝ }
+    ensures { λ r. ⌜ r ≡ mean n (line (now (series .entry))) i ⌝ }
+{
+    sum_at(series, n, i) / (n as f64)
+}
+
+// The same for the eight bars from i on.
+pub fn means_at(series: &[f64], n: usize, i: usize) -> Lanes
+    requires { ⌜ Windows n i 8 (length (now series)) ⌝ }
+    ensures { λ r. ⌜ Eight (mean n (line (now (series .entry)))) i r ⌝ }
+{
+    let sums = sums_at(series, n, i);
+    let count = n as f64;
+    Lanes {
+        a: sums.a / count,
+        b: sums.b / count,
+        c: sums.c / count,
+        d: sums.d / count,
+        e: sums.e / count,
+        f: sums.f / count,
+        g: sums.g / count,
+        h: sums.h / count,
+    }
+}
+
+// Writes the means from bar `from` on, eight at a time, and gives the bar where fewer than eight are left.
+fn means_by_eight(series: &[f64], n: usize, from: usize, means: &mut [f64]) -> usize
+    requires { ⌜ Begun (now series) n from (now means) ⌝ }
+    ensures { λ r. ⌜ Reached (now (series .entry)) n from r (now (means .entry)) (now (means .exit)) ⌝ }
+{
+    let mut i = from;
+    while i + 8 <= series.len() {
+        let eight = means_at(series, n, i);
+        means[i] = eight.a;
+        means[i + 1] = eight.b;
+        means[i + 2] = eight.c;
+        means[i + 3] = eight.d;
+        means[i + 4] = eight.e;
+        means[i + 5] = eight.f;
+        means[i + 6] = eight.g;
+        means[i + 7] = eight.h;
+        i += 8;
+    }
+    i
+}
+
+// Writes the means from bar `from` to the last.
+fn means_by_one(series: &[f64], n: usize, from: usize, means: &mut [f64])
+    requires { ⌜ Begun (now series) n from (now means) ⌝ }
+    ensures { λ _. ⌜ Writing (length (now (series .entry))) (mean n (line (now (series .entry)))) (now (means .entry)) (now (means .exit)) ⌝ }
+{
+    let mut i = from;
+    while i < series.len() {
+        means[i] = mean_at(series, n, i);
+        i += 1;
+    }
+}
+
+// Writes the mean of each bar's window, and 0.0 before the first whole one.
+pub fn write_means(series: &[f64], n: usize, means: &mut [f64])
+    requires { ⌜ WindowRoom n (length (now series)) (length (now means)) ⌝ }
+    ensures { λ _. ⌜ Writing (length (now (series .entry))) (mean n (line (now (series .entry)))) (now (means .entry)) (now (means .exit)) ⌝ }
+{
+    let first = calls::fill_lead(means, n - 1, series.len(), 0.0);
+    let reached = means_by_eight(series, n, first, means);
+    means_by_one(series, n, reached, means);
+}
+
+// Writes the running means from bar n on: the new price less the old one is added to the sum in one step.
+fn slide_means(series: &[f64], n: usize, first: f64, out: &mut [f64])
+    requires { ⌜ Sliding (now series) n first (now out) ⌝ }
+    ensures { λ _. ⌜ Writing (length (now (series .entry))) (smaLine n (line (now (series .entry)))) (now (out .entry)) (now (out .exit)) ⌝ }
+{
+    let count = n as f64;
+    let mut sum = first;
+    let mut i = n;
+    while i < series.len() {
+        sum = sum + (series[i] - series[i - n]);
+        out[i] = sum / count;
+        i += 1;
+    }
+}
+
+// Writes NaN before bar n - 1, and gives the bar after those cells.
+fn fill_nan(out: &mut [f64], n: usize, bars: usize) -> usize
+    requires { ⌜ WindowRoom n bars (length (now out)) ⌝ }
+    ensures { λ r. ⌜ Led (n - 1) bars nan r (now (out .entry)) (now (out .exit)) ⌝ }
+{
+    calls::fill_lead(out, n - 1, bars, 0.0 / 0.0)
+}
+
+// Writes the cells of `sma`.
+fn write_sma(series: &[f64], n: usize, out: &mut [f64])
+    requires { ⌜ WindowRoom n (length (now series)) (length (now out)) ⌝ }
+    ensures { λ _. ⌜ Writing (length (now (series .entry))) (smaLine n (line (now (series .entry)))) (now (out .entry)) (now (out .exit)) ⌝ }
+{
+    fill_nan(out, n, series.len());
+    if n <= series.len() {
+        let sum = sum_at(series, n, n - 1);
+        out[n - 1] = sum / (n as f64);
+        slide_means(series, n, sum, out);
+    }
+}
+
+// alpha of x and the rest of `last`.
+fn blended(alpha: f64, last: f64, x: f64) -> f64
+    ensures { λ r. ⌜ r ≡ blend alpha last x ⌝ }
+{
+    alpha * x + (1.0 - alpha) * last
+}
+
+// Writes the blended cells after bar `first`, where the seed stands.
+fn blend_on(series: &[f64], alpha: f64, first: usize, seed: f64, out: &mut [f64])
+    requires { ⌜ Seeded (now series) alpha first seed (now out) ⌝ }
+    ensures { λ _. ⌜ Smooth (now (series .entry)) alpha first seed (now (out .entry)) (now (out .exit)) ⌝ }
+{
+    let mut last = seed;
+    let mut i = first + 1;
+    while i < series.len() {
+        last = blended(alpha, last, series[i]);
+        out[i] = last;
+        i += 1;
+    }
+}
+
+// Writes the seed at bar `first` and the blended cells after it.
+fn write_smooth(series: &[f64], alpha: f64, first: usize, seed: f64, out: &mut [f64])
+    requires { ⌜ Leading (now series) alpha first seed (now out) ⌝ }
+    ensures { λ _. ⌜ Smooth (now (series .entry)) alpha first seed (now (out .entry)) (now (out .exit)) ⌝ }
+{
+    out[first] = seed;
+    blend_on(series, alpha, first, seed, out);
+}
+
+// Writes the cells of `ema`.
+fn write_ema(series: &[f64], n: usize, out: &mut [f64])
+    requires { ⌜ WindowRoom n (length (now series)) (length (now out)) ⌝ }
+    ensures { λ _. ⌜ Writing (length (now (series .entry))) (emaLine n (line (now (series .entry)))) (now (out .entry)) (now (out .exit)) ⌝ }
+{
+    fill_nan(out, n, series.len());
+    if n <= series.len() {
+        let alpha = 2.0 / ((n + 1) as f64);
+        let seed = mean_at(series, n, n - 1);
+        write_smooth(series, alpha, n - 1, seed, out);
+    }
+}
+
+// The mean of the last n prices: TA-Lib's SMA.
+pub fn sma(series: &[f64], n: usize, out: &mut [f64]) -> Answer
+    ensures { λ r. ⌜ Call (answered accepted (now (series .entry)) (n ∷ []) (length (now (out .entry))) []) (smaLine n (line (now (series .entry))))
+        (now (out .entry)) r (now (out .exit)) ⌝ }
+{
+    let due = calls::answer_window(series, n, out.len());
+    if let Answer::Cells(count) = due {
+        if count > 0 {
+            write_sma(series, n, out);
+        }
+    }
+    due
+}
+
+// The exponential mean with the weight 2 / (n + 1), from the mean of the first n prices on: TA-Lib's EMA.
+pub fn ema(series: &[f64], n: usize, out: &mut [f64]) -> Answer
+    ensures { λ r. ⌜ Call (answered accepted (now (series .entry)) (n ∷ []) (length (now (out .entry))) []) (emaLine n (line (now (series .entry))))
+        (now (out .entry)) r (now (out .exit)) ⌝ }
+{
+    let due = calls::answer_window(series, n, out.len());
+    if let Answer::Cells(count) = due {
+        if count > 0 {
+            write_ema(series, n, out);
+        }
+    }
+    due
+}
+
+// The exponential mean with the weight alpha, from the first price on.
+pub fn exponential_smoothing(series: &[f64], alpha: f64, out: &mut [f64]) -> Answer
+    ensures { λ r. ⌜ Call (exponentialAnswer (now (series .entry)) alpha (length (now (out .entry)))) (exponentialLine alpha (line (now (series .entry))))
+        (now (out .entry)) r (now (out .exit)) ⌝ }
+{
+    let due = calls::check(series, out.len());
+    if let Answer::Refused(_) = due {
+        return due;
+    }
+    if calls::is_finite(alpha) {
+        if series.len() > 0 {
+            write_smooth(series, alpha, 0, series[0], out);
+        }
+        Answer::Cells(series.len())
+    } else {
+        Answer::Refused(Refusal::ParameterNotFinite)
+    }
+}

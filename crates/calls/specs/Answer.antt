@@ -1,13 +1,21 @@
 -- What a call answers: document 01's numbers, and its table of refusals read from the top. Assumes nothing.
 use mathlib.Core.Bool.{Bool, true, false, _||_}
-use mathlib.Core.List.{List, [], _∷_}
+use mathlib.Core.List.{List, [], _∷_, map}
 use Prim.Native.Nat.{ℕ, _*_}
 use lib.Dec.{leb, eqb}
 use lib.ListN.{length}
 use lib.Ieee.{Float}
 use Rattle.calls.specs.declared.Refusal.{Refusal}
 use Rattle.calls.specs.declared.Refusal.the-variants.{
-  SeriesTooLong, LengthsDiffer, OutputTooShort, WorkTooShort, ValueNotAccepted, ParameterNotFinite, WindowTooLong, SeriesTooShort, WindowsOutOfOrder,
+  SeriesTooLong,
+  LengthsDiffer,
+  OutputTooShort,
+  WorkTooShort,
+  ValueNotAccepted,
+  ParameterNotFinite,
+  WindowTooLong,
+  SeriesTooShort,
+  WindowsOutOfOrder,
 }
 use Rattle.calls.specs.declared.Answer.{Answer}
 use Rattle.calls.specs.declared.Answer.the-variants.{Cells, Refused}
@@ -57,21 +65,26 @@ abbrev pub emptyIf : Bool → Answer → Answer
 emptyIf true next = Cells 0
 emptyIf false next = next
 
--- L, the series length: that of the first
-abbrev pub bars : List (List Float) → ℕ
-bars [] = 0
-bars (s ∷ rest) = length s
+-- the length of the first series, which is L
+abbrev pub first : List ℕ → ℕ
+first [] = 0
+first (l ∷ rest) = l
 
--- The refusals of slices and values, 1 to 5: of the series, the lengths of the outputs and of the work slice (a list of none or one),
--- where `ok` says which values are accepted. The count is L.
+-- Refusals 1 to 4, of lengths: those of the series, of the outputs, and of the work slice, where there is one. The count is L.
+unfoldable pub slices : List ℕ → List ℕ → List ℕ → Answer
+slices series outputs work =
+    unless (all (λ l. leb l 65536) series) SeriesTooLong
+    (unless (all (λ l. eqb l (first series)) series) LengthsDiffer
+    (unless (all (λ room. leb (first series) room) outputs) OutputTooShort
+    (unless (all (λ room. leb (8 * first series) room) work) WorkTooShort
+    (Cells (first series)))))
+
+-- Refusals 1 to 5: `ok` says which values are accepted.
 unfoldable pub checked : (Float → Bool) → List (List Float) → List ℕ → List ℕ → Answer
+unfolding slices
 checked ok series outputs work =
-    unless (all (λ s. leb (length s) 65536) series) SeriesTooLong
-    (unless (all (λ s. eqb (length s) (bars series)) series) LengthsDiffer
-    (unless (all (λ room. leb (bars series) room) outputs) OutputTooShort
-    (unless (all (λ room. leb (8 * bars series) room) work) WorkTooShort
-    (unless (all (all ok) series) ValueNotAccepted
-    (Cells (bars series))))))
+    let lengths = map length series in
+    andThen (slices lengths outputs work) (unless (all (all ok) series) ValueNotAccepted (Cells (first lengths)))
 
 -- whether a zero is among them
 abbrev pub anyZero : List ℕ → Bool

@@ -4,5 +4,7 @@ pub mod Rows
 pub mod Line
 pub mod Recur
 pub mod Accepted
+pub mod Ticks
 pub mod Answer
+pub mod Room
 pub mod Call

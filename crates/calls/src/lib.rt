@@ -1,5 +1,15 @@
-// What a call is given and what it answers.
+// What a call is given and what it answers: accepted values, the refusals in document 01's order, and the clearing of slices.
 ghost use mathlib.Core.Path.{_≡_};
+ghost use mathlib.Core.List.{[], _∷_};
+ghost use Prim.Native.Nat.{_*_, _≤_, min};
+ghost use lib.Dec.{leb};
+ghost use lib.ListN.{length};
+ghost use Rattle.calls.specs.Accepted.{accepted, tick, finite, all};
+ghost use Rattle.calls.specs.Answer.{number, refusalOf, countOf, unless, andThen, slices, checked, windowed, answered};
+ghost use Rattle.calls.specs.Line.{plusZero, Led};
+ghost use Rattle.calls.specs.Written.{Writing};
+ghost use Rattle.calls.specs.declared.Answer.the-variants.{Cells};
+ghost use Rattle.calls.specs.declared.Refusal.the-variants.{WorkTooShort, ValueNotAccepted};
 
 pub enum Refusal {
     SeriesTooLong,
@@ -16,4 +26,309 @@ pub enum Refusal {
 pub enum Answer {
     Cells(usize),
     Refused(Refusal),
+}
+
+// Document 01's number of a refusal.
+pub fn number_of(reason: Refusal) -> u64
+    ensures { λ r. ⌜ r ≡ number reason ⌝ }
+{
+    match reason {
+        Refusal::SeriesTooLong => 1,
+        Refusal::LengthsDiffer => 2,
+        Refusal::OutputTooShort => 3,
+        Refusal::WorkTooShort => 4,
+        Refusal::ValueNotAccepted => 5,
+        Refusal::ParameterNotFinite => 6,
+        Refusal::WindowTooLong => 7,
+        Refusal::SeriesTooShort => 8,
+        Refusal::WindowsOutOfOrder => 9,
+    }
+}
+
+// The number of an answer's refusal, 0 where there is none.
+pub fn refusal_of(answer: Answer) -> u64
+    ensures { λ r. ⌜ r ≡ refusalOf answer ⌝ }
+{
+    match answer {
+        Answer::Cells(_) => 0,
+        Answer::Refused(reason) => number_of(reason),
+    }
+}
+
+// How many cells of each output were written.
+pub fn count_of(answer: Answer) -> usize
+    ensures { λ r. ⌜ r ≡ countOf answer ⌝ }
+{
+    match answer {
+        Answer::Cells(count) => count,
+        Answer::Refused(_) => 0,
+    }
+}
+
+// Whether a series may hold x.
+pub fn is_accepted(x: f64) -> bool
+    ensures { λ r. ⌜ r ≡ accepted x ⌝ }
+{
+    if x >= -1073741824.0 {
+        if x <= 1073741824.0 {
+            return f64::to_bits(x) != 0x8000_0000_0000_0000;
+        }
+    }
+    false
+}
+
+// Whether x is a whole tick.
+pub fn is_tick(x: f64) -> bool
+    ensures { λ r. ⌜ r ≡ tick x ⌝ }
+{
+    let size = rounding::magnitude(x);
+    if size <= 16777216.0 {
+        let whole = std::num::truncating_f64_to_u64(size);
+        if (whole as f64) == size {
+            if x == 0.0 {
+                return rounding::sign(x) > 0.0;
+            }
+            return true;
+        }
+    }
+    false
+}
+
+// Whether x may be a parameter.
+pub fn is_finite(x: f64) -> bool
+    ensures { λ r. ⌜ r ≡ finite x ⌝ }
+{
+    let infinity = 1.0 / 0.0;
+    if x < infinity { -infinity < x } else { false }
+}
+
+// Whether a series may hold every number of s.
+pub fn all_accepted(s: &[f64]) -> bool
+    ensures { λ r. ⌜ r ≡ all accepted (now (s .entry)) ⌝ }
+{
+    let mut i = 0;
+    while i < s.len() {
+        if is_accepted(s[i]) {
+            i += 1;
+        } else {
+            return false;
+        }
+    }
+    true
+}
+
+// Whether every number of s is a whole tick.
+pub fn all_ticks(s: &[f64]) -> bool
+    ensures { λ r. ⌜ r ≡ all tick (now (s .entry)) ⌝ }
+{
+    let mut i = 0;
+    while i < s.len() {
+        if is_tick(s[i]) {
+            i += 1;
+        } else {
+            return false;
+        }
+    }
+    true
+}
+
+// The first refusal by the lengths of a series and its output; else the series' length.
+fn check_lengths(bars: usize, out: usize) -> Answer
+    ensures { λ r. ⌜ r ≡ slices (bars ∷ []) (out ∷ []) [] ⌝ }
+{
+    if bars > 65536 {
+        return Answer::Refused(Refusal::SeriesTooLong);
+    }
+    if out < bars {
+        return Answer::Refused(Refusal::OutputTooShort);
+    }
+    Answer::Cells(bars)
+}
+
+// The refusal of a work slice that is too short for a series.
+fn check_work(bars: usize, work: usize) -> Answer
+    ensures { λ r. ⌜ r ≡ unless (leb (8 * bars) work) WorkTooShort (Cells bars) ⌝ }
+{
+    if bars > work / 8 {
+        Answer::Refused(Refusal::WorkTooShort)
+    } else {
+        Answer::Cells(bars)
+    }
+}
+
+// The first refusal by the lengths of three series and an output; else the length.
+fn check_lengths_of_three(bars: usize, second: usize, third: usize, out: usize) -> Answer
+    ensures { λ r. ⌜ r ≡ slices (bars ∷ second ∷ third ∷ []) (out ∷ []) [] ⌝ }
+{
+    if bars > 65536 {
+        return Answer::Refused(Refusal::SeriesTooLong);
+    }
+    if second > 65536 {
+        return Answer::Refused(Refusal::SeriesTooLong);
+    }
+    if third > 65536 {
+        return Answer::Refused(Refusal::SeriesTooLong);
+    }
+    if second != bars {
+        return Answer::Refused(Refusal::LengthsDiffer);
+    }
+    if third != bars {
+        return Answer::Refused(Refusal::LengthsDiffer);
+    }
+    if out < bars {
+        return Answer::Refused(Refusal::OutputTooShort);
+    }
+    Answer::Cells(bars)
+}
+
+// A refusal stands, and after a count comes what is next.
+fn and_then(due: Answer, next: Answer) -> Answer
+    ensures { λ r. ⌜ r ≡ andThen due next ⌝ }
+{
+    if let Answer::Refused(_) = due {
+        return due;
+    }
+    next
+}
+
+// The refusal of a value that is not accepted, unless there was one before; the values are looked at only then.
+fn check_values(due: Answer, series: &[f64]) -> Answer
+    ensures { λ r. ⌜ r ≡ andThen due (unless (all accepted (now (series .entry))) ValueNotAccepted (Cells (length (now (series .entry))))) ⌝ }
+{
+    if let Answer::Refused(_) = due {
+        return due;
+    }
+    if all_accepted(series) {
+        Answer::Cells(series.len())
+    } else {
+        Answer::Refused(Refusal::ValueNotAccepted)
+    }
+}
+
+// The same for whole ticks.
+fn check_tick_values(due: Answer, series: &[f64]) -> Answer
+    ensures { λ r. ⌜ r ≡ andThen due (unless (all tick (now (series .entry))) ValueNotAccepted (Cells (length (now (series .entry))))) ⌝ }
+{
+    if let Answer::Refused(_) = due {
+        return due;
+    }
+    if all_ticks(series) {
+        Answer::Cells(series.len())
+    } else {
+        Answer::Refused(Refusal::ValueNotAccepted)
+    }
+}
+
+// The first refusal of a call with one series, its output and no work slice, before its parameters; else the series' length.
+pub fn check(series: &[f64], out: usize) -> Answer
+    ensures { λ r. ⌜ r ≡ checked accepted (now (series .entry) ∷ []) (out ∷ []) [] ⌝ }
+{
+    let due = check_lengths(series.len(), out);
+    check_values(due, series)
+}
+
+// The same with a work slice.
+pub fn check_with_work(series: &[f64], out: usize, work: usize) -> Answer
+    ensures { λ r. ⌜ r ≡ checked accepted (now (series .entry) ∷ []) (out ∷ []) (work ∷ []) ⌝ }
+{
+    let bars = series.len();
+    let lengths = check_lengths(bars, out);
+    let room = check_work(bars, work);
+    let due = and_then(lengths, room);
+    check_values(due, series)
+}
+
+// The same for whole ticks and no work slice.
+pub fn check_ticks(series: &[f64], out: usize) -> Answer
+    ensures { λ r. ⌜ r ≡ checked tick (now (series .entry) ∷ []) (out ∷ []) [] ⌝ }
+{
+    let due = check_lengths(series.len(), out);
+    check_tick_values(due, series)
+}
+
+// The same with three series and no work slice.
+pub fn check_three(first: &[f64], second: &[f64], third: &[f64], out: usize) -> Answer
+    ensures { λ r. ⌜ r ≡ checked accepted (now (first .entry) ∷ now (second .entry) ∷ now (third .entry) ∷ []) (out ∷ []) [] ⌝ }
+{
+    let lengths = check_lengths_of_three(first.len(), second.len(), third.len(), out);
+    let one = check_values(lengths, third);
+    let two = check_values(one, second);
+    check_values(two, first)
+}
+
+// What one window makes of an answer of `bars` cells.
+fn check_window(bars: usize, n: usize) -> Answer
+    ensures { λ r. ⌜ r ≡ windowed bars (n ∷ []) (Cells bars) ⌝ }
+{
+    if n > 4096 {
+        return Answer::Refused(Refusal::WindowTooLong);
+    }
+    if n == 0 {
+        return Answer::Cells(0);
+    }
+    Answer::Cells(bars)
+}
+
+// The answer of a call with one series, one window, its output and no work slice.
+pub fn answer_window(series: &[f64], n: usize, out: usize) -> Answer
+    ensures { λ r. ⌜ r ≡ answered accepted (now (series .entry)) (n ∷ []) out [] ⌝ }
+{
+    let due = check(series, out);
+    let next = check_window(series.len(), n);
+    and_then(due, next)
+}
+
+// The same with a work slice.
+pub fn answer_window_with_work(series: &[f64], n: usize, out: usize, work: usize) -> Answer
+    ensures { λ r. ⌜ r ≡ answered accepted (now (series .entry)) (n ∷ []) out (work ∷ []) ⌝ }
+{
+    let due = check_with_work(series, out, work);
+    let next = check_window(series.len(), n);
+    and_then(due, next)
+}
+
+// The answer of a call with one series of whole ticks, one window, its output and no work slice.
+pub fn answer_tick_window(series: &[f64], n: usize, out: usize) -> Answer
+    ensures { λ r. ⌜ r ≡ answered tick (now (series .entry)) (n ∷ []) out [] ⌝ }
+{
+    let due = check_ticks(series, out);
+    let next = check_window(series.len(), n);
+    and_then(due, next)
+}
+
+// Writes x to the first n cells.
+pub fn fill(cells: &mut [f64], n: usize, x: f64)
+    requires { ⌜ n ≤ length (now cells) ⌝ }
+    ensures { λ _. ⌜ Writing n (λ i. x) (now (cells .entry)) (now (cells .exit)) ⌝ }
+{
+    let mut i = 0;
+    while i < n {
+        cells[i] = x;
+        i += 1;
+    }
+}
+
+// Writes +0.0 to the first n cells.
+pub fn clear(cells: &mut [f64], n: usize)
+    requires { ⌜ n ≤ length (now cells) ⌝ }
+    ensures { λ _. ⌜ Writing n (λ i. plusZero) (now (cells .entry)) (now (cells .exit)) ⌝ }
+{
+    fill(cells, n, 0.0);
+}
+
+// The smaller of two counts.
+fn smaller(a: usize, b: usize) -> usize
+    ensures { λ r. ⌜ r ≡ min a b ⌝ }
+{
+    if a < b { a } else { b }
+}
+
+// Writes x to the bars before bar b, and gives the bar after them: b, or the end where the bars end before it.
+pub fn fill_lead(cells: &mut [f64], b: usize, bars: usize, x: f64) -> usize
+    requires { ⌜ bars ≤ length (now cells) ⌝ }
+    ensures { λ r. ⌜ Led b bars x r (now (cells .entry)) (now (cells .exit)) ⌝ }
+{
+    let first = smaller(b, bars);
+    fill(cells, first, x);
+    first
 }

@@ -1,11 +1,11 @@
 -- The leaves at small numbers and at the edges, computed from their definitions. Assumes nothing.
-use mathlib.Core.Bool.{Bool, true, false}
+use mathlib.Core.Bool.{true, false}
 use mathlib.Core.List.{List, [], _∷_, map}
 use mathlib.Core.Path.{_≡_, refl}
 use Prim.Native.Nat.{_+_, _-_, _^_}
 use lib.IntN.{pos, negsuc}
 use lib.Ieee.{Float, nan, inf, fin, round}
-use Rattle.rounding.specs.Leaves.{one, plusOne, minusOne, magnitudeOf, signOf, roundToWhole}
+use Rattle.rounding.specs.Leaves.{plusOne, minusOne, magnitudeOf, signOf, roundToWhole}
 
 -- no number, both infinities, both zeros, the smallest number above 0 and its negative
 edges : List Float

@@ -3,3 +3,4 @@ pub mod Leaves
 pub mod Signs
 pub mod ToWhole
 pub mod Cases
+pub mod Root

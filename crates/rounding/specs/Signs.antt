@@ -1,12 +1,17 @@
 -- Laws of signs: where a program reads one, and what the sign of a difference is. Assumes nothing.
-use mathlib.Core.Bool.{Bool, true, false, not, _&&_, cond, true≢false}
+use mathlib.Core.Bool.{Bool, true, false, cond, true≢false}
 use mathlib.Core.Path.{_≡_, refl, sym, ap, _∙_}
-use Prim.Native.Nat.{ℕ, zero, suc, _+_, _-_, _*_, _/_, _%_, _^_}
-use borrow.Author.Tests.{eq-eqb}
+use Prim.Native.Nat.{ℕ, zero, suc, _+_, _-_, _*_, _/_, _%_, _^_, _<_}
+use native.Mathlib.Nat.{le-of-lt, lt-of-lt-of-le, le-add-right, mul-pos, mod-lt, mod-eq-of-lt, mod-mod-of-dvd, dvd-mul-right}
+use native.Mathlib.Omega.{arith}
+use borrow.Author.Tests.{eq-eqb, ltb-true, lt-ltb, le-ltb, lt-leb}
 use lib.Dec.{T, leb, eqb, ltb}
-use lib.IntN.{ℤ, pos}
-use lib.Ieee.{Float, nan, inf, fin, Format, binary64, up, down, neg, odd, units, round, sum, add, sub, lt, le, eq, ne, fits, isNan, ones, ofFields, ofBits, toBits}
-use lib.Ieee.Bits.{ofBits-toBits}
+use lib.Pow.{pow-pos}
+use lib.IntN.{pos}
+use lib.Ieee.{Float, nan, inf, fin, binary64, up, down, odd, units, round, sum, sub, lt, eq, ne, fits, isNan, nanBits, ofFields, ofBits, toBits}
+use lib.Ieee.Bits.{ofBits-toBits, nanBits-is}
+use lib.Ieee.Fits.{round-is, down-pos}
+use lib.Ieee.Scale.{finite}
 use Rattle.rounding.specs.Leaves.{one, plusOne, minusOne, negative, magnitudeOf, signOf}
 
 -- only a NaN differs from itself
@@ -17,12 +22,6 @@ differs-nan (inf true) = refl
 differs-nan (inf false) = refl
 differs-nan (fin true m e) = simp (eq-eqb (m * up e * down e) (m * up e * down e) refl)
 differs-nan (fin false m e) = simp (eq-eqb (m * up e * down e) (m * up e * down e) refl)
-
-pub nan-not-negative : (x : Float) → ne x x ≡ true → false ≡ negative x
-unfolding isNan negative
-nan-not-negative nan d = refl
-nan-not-negative (inf s) d = absurd (true≢false (sym d ∙ differs-nan (inf s)))
-nan-not-negative (fin s m e) d = absurd (true≢false (sym d ∙ differs-nan (fin s m e)))
 
 -- ---- the sign in a bit pattern
 
@@ -52,15 +51,52 @@ highest-bit x f n =
     let same : ofBits binary64 b ≡ x = ofBits-toBits binary64 x f in
     sym (fields-negative (leb (2 ^ 63) b) (b % 2 ^ 63 / 2 ^ 52) (b % 2 ^ 52) (ap isNan same ∙ n)) ∙ ap negative same
 
--- ---- what a branch on the sign leaves
+-- ---- a pattern without its highest bit
 
-pub magnitude-is : (x : Float) → magnitudeOf x ≡ cond (negative x) (neg x) x
-unfolding magnitudeOf negative neg
-magnitude-is nan = refl
-magnitude-is (inf true) = refl
-magnitude-is (inf false) = refl
-magnitude-is (fin true m e) = refl
-magnitude-is (fin false m e) = refl
+odd-magnitude : (d : ℕ) (s : Bool) (q k l : ℕ) → magnitudeOf (odd d s q k l) ≡ odd d false q k l
+unfolding odd magnitudeOf
+odd-magnitude d s zero k l = refl
+odd-magnitude d s (suc q) k l = refl
+
+fields-magnitude : (s : Bool) (x t : ℕ) → magnitudeOf (ofFields binary64 s x t) ≡ ofFields binary64 false x t
+unfolding ofFields magnitudeOf
+fields-magnitude s zero t = odd-magnitude 53 s t 0 1074
+fields-magnitude s (suc x) t = go (eqb (suc x) 2047) (eqb t 0)
+  where
+    v : Bool → Float
+    v s = odd 53 s (2 ^ 52 + t) x 1074
+
+    go : (a b : Bool) → magnitudeOf (cond a (cond b (inf s) nan) (v s)) ≡ cond a (cond b (inf false) nan) (v false)
+    go true true = refl
+    go true false = refl
+    go false b = odd-magnitude 53 s (2 ^ 52 + t) x 1074
+
+-- it is the magnitude's
+pub lower-bits : (x : Float) → T (fits binary64 x) → ofBits binary64 (toBits binary64 x % 2 ^ 63) ≡ magnitudeOf x
+unfolding ofBits
+lower-bits x f =
+    let b = toBits binary64 x in
+    let r = b % 2 ^ 63 in
+    let less : r < 2 ^ 63 = mod-lt b (pow-pos 63) in
+    rw (lt-leb (2 ^ 63) r less, mod-eq-of-lt less, mod-mod-of-dvd (2 ^ 52) b (dvd-mul-right (2 ^ 52) 2048))
+    (sym (fields-magnitude (leb (2 ^ 63) b) (r / 2 ^ 52) (b % 2 ^ 52)) ∙ ap magnitudeOf (ofBits-toBits binary64 x f))
+
+magnitude-nan : (x : Float) → isNan (magnitudeOf x) ≡ isNan x
+unfolding isNan magnitudeOf
+magnitude-nan nan = refl
+magnitude-nan (inf s) = refl
+magnitude-nan (fin s m e) = refl
+
+pub lower-bits-nan : (x : Float) → T (fits binary64 x) → nanBits binary64 (toBits binary64 x % 2 ^ 63) ≡ isNan x
+lower-bits-nan x f = nanBits-is binary64 (toBits binary64 x % 2 ^ 63) ∙ ap isNan (lower-bits x f) ∙ magnitude-nan x
+
+-- ---- what a branch leaves
+
+pub magnitude-of-nan : (x : Float) → isNan x ≡ true → magnitudeOf x ≡ x
+unfolding magnitudeOf isNan
+magnitude-of-nan nan n = refl
+magnitude-of-nan (inf s) n = absurd (true≢false (sym n))
+magnitude-of-nan (fin s m e) n = absurd (true≢false (sym n))
 
 -- the sign of a number
 pub sign-is : (x : Float) → isNan x ≡ false → signOf x ≡ one (negative x)
@@ -69,8 +105,65 @@ sign-is nan n = absurd (true≢false n)
 sign-is (inf s) n = refl
 sign-is (fin s m e) n = refl
 
-pub sign-nan : (x : Float) → isNan x ≡ true → signOf x ≡ x
+pub sign-of-nan : (x : Float) → isNan x ≡ true → signOf x ≡ x
 unfolding signOf isNan
-sign-nan nan n = refl
-sign-nan (inf s) n = absurd (true≢false (sym n))
-sign-nan (fin s m e) n = absurd (true≢false (sym n))
+sign-of-nan nan n = refl
+sign-of-nan (inf s) n = absurd (true≢false (sym n))
+sign-of-nan (fin s m e) n = absurd (true≢false (sym n))
+
+-- ---- the sign of a difference
+
+odd-sign : (s : Bool) (q k : ℕ) → signOf (odd 54 s q k 1074) ≡ one s
+unfolding odd signOf
+odd-sign s zero k = refl
+odd-sign s (suc q) k = refl
+
+units-sign : (s : Bool) (q k : ℕ) → signOf (units binary64 s q k) ≡ one s
+unfolding units signOf
+units-sign s q k = go (ltb (q * 2 ^ k) (2 ^ 2098))
+  where
+    go : (t : Bool) → signOf (cond t (odd 54 s q k 1074) (inf s)) ≡ one s
+    go true = odd-sign s q k
+    go false = refl
+
+-- what is rounded keeps its sign
+pub sign-round : (s : Bool) (a b : ℕ) → signOf (round binary64 s a b) ≡ one s
+sign-round s a b = ap signOf (round-is binary64 s a b) ∙ units-sign s _ _
+
+-- a / c - b / c, and b / c - a / c
+sign-less : (a b c : ℕ) → signOf (sum binary64 false a true b c) ≡ cond (ltb a b) minusOne plusOne
+unfolding sum
+sign-less a b c = go (ltb a b)
+  where
+    go : (t : Bool) → signOf (cond t (round binary64 true (b - a) c) (round binary64 false (a - b) c)) ≡ cond t minusOne plusOne
+    go true = sign-round true (b - a) c
+    go false = sign-round false (a - b) c
+
+sign-more : (a b c : ℕ) → signOf (sum binary64 true a false b c) ≡ cond (ltb b a) minusOne plusOne
+unfolding sum
+sign-more a b c = go (ltb a b) (ltb b a) (λ l. le-ltb b a (le-of-lt (ltb-true a b l)))
+  where
+    go : (t u : Bool) → (t ≡ true → u ≡ false) → signOf (cond t (round binary64 false (b - a) c) (round binary64 u (a - b) c)) ≡ cond u minusOne plusOne
+    go true u h = rw (h refl) (sign-round false (b - a) c)
+    go false true h = sign-round true (a - b) c
+    go false false h = sign-round false (a - b) c
+
+-- The sign of x - y, for numbers x and y: -1 where x is below y, else +1. Only -0.0 less +0.0 is left out, which has the sign -1.
+pub sign-difference : (x y : Float) → T (finite x) → T (finite y) → (negative x ≡ true → lt x (fin false 0 (pos 0)) ≡ true)
+    → signOf (sub binary64 x y) ≡ cond (lt x y) minusOne plusOne
+unfolding sub lt negative
+sign-difference nan y p q h = absurd p
+sign-difference (inf s) y p q h = absurd p
+sign-difference (fin s m e) nan p q h = absurd q
+sign-difference (fin s m e) (inf t) p q h = absurd q
+sign-difference (fin false m e) (fin false n d) p q h = sign-less (m * up e * down d) (n * up d * down e) (down e * down d)
+sign-difference (fin false m e) (fin true n d) p q h = sign-round false (m * up e * down d + n * up d * down e) (down e * down d)
+sign-difference (fin true m e) (fin false n d) p q h =
+    let a = m * up e * down d in
+    let b = n * up d * down e in
+    let above : 0 < m * up e = cleared (m * up e) (down e) (ltb-true 0 (m * up e * 1 + 0 * 1 * down e) (h refl)) in
+    rw (lt-ltb 0 (a + b) (lt-of-lt-of-le (mul-pos above (down-pos d)) (le-add-right a b))) (sign-round true (a + b) (down e * down d))
+  where
+    cleared : (n d : ℕ) → 0 < n * 1 + 0 * 1 * d → 0 < n
+    cleared n d l = omega arith
+sign-difference (fin true m e) (fin true n d) p q h = sign-more (m * up e * down d) (n * up d * down e) (down e * down d)

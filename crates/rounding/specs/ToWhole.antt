@@ -1,20 +1,21 @@
 -- Why `round_to_whole` is right: doubling is exact below 2 ^ 52, the whole part of twice a number says where its half goes, and from 2 ^ 52 on every number is whole.
 -- Assumes nothing.
-use mathlib.Core.Bool.{Bool, true, false, not, _&&_, cond, true≢false}
-use mathlib.Core.Path.{_≡_, refl, sym, ap, _∙_, subst}
+use mathlib.Core.Bool.{Bool, true, false, _&&_, true≢false}
+use mathlib.Core.Path.{_≡_, refl, sym, ap, _∙_}
 use Prim.Native.Nat.{ℕ, zero, suc, _+_, _-_, _*_, _/_, _%_, _^_, _≤_, _<_, min}
 use native.Mathlib.Nat.{zero-lt-suc, mul-one, one-mul, zero-mul, mul-comm, mul-assoc, mul-right-comm, mul-pos, lt-of-lt-of-le, lt-of-le-of-lt, le-of-eq, lt-of-not-le, le-of-suc-le-suc, lt-irrefl, lt-of-mul-lt-mul-right, mul-lt-mul-of-pos-right, div-lt-iff-lt-mul, add-div-right, pow-succ', div-div-eq-div-mul}
 use native.Mathlib.Omega.{arith}
 use borrow.Author.Tests.{ltb-true, ltb-false}
-use lib.Dec.{T, leb, ltb, eqb, leb→le, ltb→lt, lt→ltb, le→leb, eqb→eq, lit≤, lit<}
+use lib.Dec.{T, leb, ltb, eqb, leb→le, ltb→lt, lt→ltb, eqb→eq, lit≤, lit<}
 use lib.IntN.{ℤ, pos, negsuc}
 use lib.Pow.{pow-add, pow-pos, pow-lt, pow-mono, shl-lt}
-use lib.Ieee.{Float, nan, inf, fin, Format, binary64, up, down, neg, odd, units, round, mul, lt, fits, ofInt, toUnsigned, inFloat}
+use lib.Ieee.{Float, nan, inf, fin, binary64, up, down, odd, round, mul, lt, fits, toUnsigned}
 use lib.Ieee.Exact.{HasValue, round-exact}
-use lib.Ieee.Fits.{and-l, and-r, down-pos, round-fits, round-is}
-use lib.Ieee.Back.{whole-unique}
+use lib.Ieee.Fits.{and-l, and-r, down-pos, round-fits}
+use lib.Ieee.Back.{round-whole, whole-unique}
+use lib.Ieee.Scale.{round-same}
 use lib.Ieee.Nearest.{div-same}
-use Rattle.rounding.specs.Leaves.{negative, magnitudeOf, halfUp, roundToWhole}
+use Rattle.rounding.specs.Leaves.{one, magnitudeOf, signOf, roundToWhole}
 
 -- ---- what an f64 is written with
 
@@ -42,7 +43,7 @@ written s (suc m) e t =
     record {
       digits = ltb→lt (suc m) (2 ^ 53) (and-r odd small b);
       places = leb→le (down e) (2 ^ 1074) (and-r (odd && small) near a);
-      size = ltb→lt (suc m * up e) (2 ^ 1024 * down e) (and-r (odd && small && near) below t)
+      size = ltb→lt (suc m * up e) (2 ^ 1024 * down e) (and-r (odd && small && near) below t);
     }
 
 -- ---- below 2 ^ 52: twice the number, its whole part, and one more halved
@@ -97,7 +98,7 @@ cut (fin false m e) a c p v h =
     record {
       above = lt→ltb 0 (1 * d + n * 1) (omega arith);
       below = lt→ltb (n * 1) (1 * 2 ^ 64 * d) (omega arith);
-      part = sym (uncapped (n / d) less) ∙ same
+      part = sym (uncapped (n / d) less) ∙ same;
     }
   where
     uncapped : (k : ℕ) → k < 2 ^ 53 → k ≡ min k (2 ^ 64 - 1)
@@ -107,22 +108,17 @@ cut (fin false m e) a c p v h =
 half-of-more : (n d : ℕ) → 0 < d → (n * 2 / (d * 1) + 1) / 2 ≡ (2 * n + d) / (2 * d)
 half-of-more n d p = rw (mul-one, ← add-div-right (n * 2) p, div-div-eq-div-mul, mul-comm n 2, mul-comm d 2)
 
-odd-neg : (d : ℕ) (s : Bool) (q k l : ℕ) → neg (odd d s q k l) ≡ odd d (not s) q k l
-unfolding neg odd
-odd-neg d s zero k l = refl
-odd-neg d s (suc q) k l = refl
+same-fraction : (s : Bool) (m : ℕ) (e : ℤ) (q : ℕ) → m * up e * 1 ≡ q * down e → round binary64 s (m * up e * 1) (down e * 1) ≡ round binary64 s q 1
+same-fraction s m e q v = round-same binary64 s (m * up e * 1) (down e * 1) q 1 (rw mul-one (down-pos e)) (zero-lt-suc 0) (rw (mul-one, v, mul-one))
 
-units-neg : (s : Bool) (q k : ℕ) → neg (units binary64 s q k) ≡ units binary64 (not s) q k
-unfolding neg units
-units-neg s q k = go (ltb (q * 2 ^ k) (2 ^ 2098))
-  where
-    go : (t : Bool) → neg (cond t (odd 54 s q k 1074) (inf s)) ≡ cond t (odd 54 (not s) q k 1074) (inf (not s))
-    go true = odd-neg 54 s q k 1074
-    go false = refl
-
--- rounding knows no sign
-pub neg-round : (s : Bool) (a b : ℕ) → neg (round binary64 s a b) ≡ round binary64 (not s) a b
-neg-round s a b = ap neg (round-is binary64 s a b) ∙ units-neg s _ _ ∙ sym (round-is binary64 (not s) a b)
+-- a whole number with a sign
+times-one : (y : Float) (s : Bool) (q : ℕ) → HasValue y false q 1 → mul binary64 y (one s) ≡ round binary64 s q 1
+unfolding mul
+times-one nan s q v = absurd v
+times-one (inf t) s q v = absurd v
+times-one (fin true m e) s q v = absurd (true≢false (v .0))
+times-one (fin false m e) true q v = same-fraction true m e q (v .1)
+times-one (fin false m e) false q v = same-fraction false m e q (v .1)
 
 -- ---- what the steps of `round_to_whole` ask and give
 
@@ -135,10 +131,10 @@ pub record Halves (x : Float) : Type 0 where
   pub above : T (lt (fin true 1 (pos 0)) (doubled x))
   pub below : T (lt (doubled x) (fin false 1 (pos 64)))
   pub small : toUnsigned 64 (doubled x) < 2 ^ 53
-  pub whole : round binary64 (negative x) ((toUnsigned 64 (doubled x) + 1) / 2) 1 ≡ roundToWhole x
+  pub whole : mul binary64 (round binary64 false ((toUnsigned 64 (doubled x) + 1) / 2) 1) (signOf x) ≡ roundToWhole x
 
 pub halves : (x : Float) → T (fits binary64 x) → lt (magnitudeOf x) (fin false 1 (pos 52)) ≡ true → Halves x
-unfolding lt magnitudeOf negative roundToWhole
+unfolding lt magnitudeOf signOf roundToWhole
 halves nan f l = absurd (true≢false (sym l))
 halves (inf s) f l = absurd (true≢false (sym l))
 halves (fin s m e) f l =
@@ -148,13 +144,22 @@ halves (fin s m e) f l =
     let less : n < 2 ^ 52 * d = below-limit n d (ltb-true (n * 1) (1 * 2 ^ 52 * d) l) in
     let most : n * 2 < 2 ^ 53 * (d * 1) = twice-limit n d less in
     let c = cut (mul binary64 (fin false m e) two) (n * 2) (d * 1) pos-d (twice m e (written s m e f) less) most in
+    let h = n * 2 / (d * 1) in
+    let small : h < 2 ^ 53 = div-lt-iff-lt-mul pos-d .1 most in
+    let q = (h + 1) / 2 in
     record {
       above = c .above;
       below = c .below;
-      small = rw (c .part) (div-lt-iff-lt-mul pos-d .1 most);
-      whole = rw (c .part, half-of-more n d (down-pos e))
+      small = rw (c .part) small;
+      whole =
+          rw (c .part)
+          (times-one (round binary64 false q 1) s q (round-whole binary64 false q (half-limit h small))
+          ∙ ap (λ (k : ℕ). round binary64 s k 1) (half-of-more n d (down-pos e)));
     }
   where
+    half-limit : (h : ℕ) → h < 2 ^ 53 → (h + 1) / 2 ≤ 2 ^ 53
+    half-limit h l = omega arith
+
     below-limit : (n d : ℕ) → n * 1 < 1 * 2 ^ 52 * d → n < 2 ^ 52 * d
     below-limit n d h = omega arith
 
@@ -180,6 +185,6 @@ whole-already (fin s m (pos k)) f l =
   where
     halved : (n : ℕ) → n ≡ (2 * n + 1) / 2
     halved n = omega arith
-whole-already (fin s m (negsuc k)) f l = 
+whole-already (fin s m (negsuc k)) f l =
     absurd (no-fraction m (2 ^ k) (written s m (negsuc k) f .digits) (pow-pos k)
     (rw (pow-succ' 2 k) at (ltb-false (m * 1 * 1) (1 * 2 ^ 52 * 2 ^ suc k) l)))

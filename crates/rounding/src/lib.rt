@@ -1,7 +1,10 @@
 // The leaves: numbers taken apart and rounded, each equal to one definition for every f64.
+pub mod root;
+
+pub use root::square_root;
 ghost use mathlib.Core.Path.{_≡_};
 ghost use lib.Ieee.{isNan};
-ghost use Rattle.rounding.specs.Leaves.{negative, magnitudeOf, signOf};
+ghost use Rattle.rounding.specs.Leaves.{magnitudeOf, signOf, roundToWhole};
 
 // Whether x is no number.
 pub fn is_nan(x: f64) -> bool
@@ -10,22 +13,15 @@ pub fn is_nan(x: f64) -> bool
     x != x
 }
 
-// Whether x is -0.0 or below.
-fn is_negative(x: f64) -> bool
-    ensures { λ r. ⌜ r ≡ negative x ⌝ }
-{
-    if x != x {
-        false
-    } else {
-        f64::to_bits(x) >= 0x8000_0000_0000_0000
-    }
-}
-
 // x without its sign.
 pub fn magnitude(x: f64) -> f64
     ensures { λ r. ⌜ r ≡ magnitudeOf x ⌝ }
 {
-    if is_negative(x) { -x } else { x }
+    if is_nan(x) {
+        x
+    } else {
+        f64::from_bits(f64::to_bits(x) % 0x8000_0000_0000_0000)
+    }
 }
 
 // 1.0 with the sign of x, and NaN for NaN.
@@ -34,9 +30,23 @@ pub fn sign(x: f64) -> f64
 {
     if is_nan(x) {
         x
-    } else if is_negative(x) {
+    } else if f64::to_bits(x) >= 0x8000_0000_0000_0000 {
         -1.0
     } else {
         1.0
+    }
+}
+
+// The whole number nearest x, a half away from zero. From 2^52 on every number is whole.
+pub fn round_to_whole(x: f64) -> f64
+    ensures { λ r. ⌜ r ≡ roundToWhole x ⌝ }
+{
+    let size = magnitude(x);
+    if size < 4503599627370496.0 {
+        let halves = std::num::truncating_f64_to_u64(size * 2.0);
+        let whole = ((halves + 1) / 2) as f64;
+        whole * sign(x)
+    } else {
+        x
     }
 }

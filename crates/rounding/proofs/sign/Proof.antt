@@ -1,25 +1,32 @@
--- `sign` meets its contract: 1 with the sign of a number. Assumes nothing.
-use mathlib.Core.Path.{_≡_, sym, _∙_}
-use mathlib.Core.Bool.{Bool, true, false}
+-- `sign` meets its contract: 1 with the sign of a number, which is its highest bit. Assumes nothing.
+use mathlib.Core.Path.{_≡_, sym, subst, _∙_}
+use mathlib.Core.Bool.{Bool, true, false, not}
+use Prim.Native.Nat.{_^_}
 use borrow.Author.Needs.{needs}
-use lib.Ieee.{ofBits, neg}
+use borrow.Author.Tests.{le-leb, lt-leb}
+use lib.Dec.{T, leb}
+use lib.Ieee.{binary64, isNan, ofBits, toBits, neg}
 use Rattle.rounding.specs.Leaves.{one, signOf}
-use Rattle.rounding.specs.Signs.{sign-is, sign-nan}
+use Rattle.rounding.specs.Signs.{highest-bit, sign-is, sign-of-nan}
 use Rattle.rounding.proofs.sign.Statement.{statement}
 use Rattle.rounding.proofs.sign.Tie as tie
 
-signed : (c : tie.After-is-negative) (s : Bool) → c .is-negative .result ≡ s → signOf (c .before .before .before .args .x) ≡ one s
+number : (c : tie.Else1) → isNan (c .before .before .args .x) ≡ false
+number c = sym (c .before .is-nan .ensures) ∙ c .if1 .left
+
+-- the test of the highest bit said s
+signed : (c : tie.Else1) (s : Bool) → leb (2 ^ 63) (toBits binary64 (c .before .before .args .x)) ≡ s → one s ≡ signOf (c .before .before .args .x)
 signed c s e =
-    let at-nan = c .before .before in
-    rw (sign-is _ (sym (at-nan .is-nan .ensures) ∙ c .before .if1 .left), ← c .is-negative .ensures, e)
+    let at-start = c .before .before in
+    rw (sign-is _ (number c), ← highest-bit _ (subst T (sym (at-start .good .0 .1)) tt) (number c), e)
 
 pub sign-spec : {M : Type 1} → statement M
 sign-spec =
     tie.close
     (tie.spec
     (λ c κs. search needs)  -- is-nan-requires
-    (λ c κs. search needs)  -- is-negative-requires
-    (λ c. sym (sign-nan _ (sym (c .before .is-nan .ensures) ∙ c .if1 .taken)))  -- returns
-    (λ c. unfold ofBits neg in sym (signed (c .before) true (c .if2 .taken)))  -- returns-2
-    (λ c. unfold ofBits in sym (signed (c .before) false (c .if2 .left)))  -- returns-3
+    (λ c. subst (λ (t : Bool). T (not t)) (sym (number c)) tt)  -- float-to-bits-if2
+    (λ c. sym (sign-of-nan _ (sym (c .before .is-nan .ensures) ∙ c .if1 .taken)))  -- returns
+    (λ c. unfold ofBits neg in signed (c .before) true (le-leb _ _ (c .if2 .taken)))  -- returns-2
+    (λ c. unfold ofBits in signed (c .before) false (lt-leb _ _ (c .if2 .left)))  -- returns-3
     )

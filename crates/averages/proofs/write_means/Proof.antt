@@ -1,0 +1,36 @@
+-- `write_means` meets its contract: each call writes on from where the one before it stopped. Assumes nothing.
+use native.Mathlib.Omega.{arith}
+use lib.Ieee.{ofBits}
+use Rattle.calls.specs.Line.{lead-stands}
+use Rattle.calls.specs.Written.{stands, then-written}
+use Rattle.averages.specs.Window.{mean}
+use borrow.Author.Needs.{needs}
+use Rattle.averages.proofs.write_means.Statement.{statement}
+use Rattle.averages.proofs.write_means.Tie as tie
+
+means-by-eight-requires : tie.Need-means-by-eight-requires
+unfolding mean ofBits
+means-by-eight-requires c κs = search (needs, lead-stands)
+
+means-by-one-requires : tie.Need-means-by-one-requires
+means-by-one-requires c κs = search (needs, stands (c .before .before .before .means-by-eight .ensures .means))
+
+returns : tie.Need-returns
+returns c =
+    let one = c .before .before in
+    let eight = one .before .before .before .before in
+    let lead = eight .before .before .before .before in
+    let so-far = then-written (lead .fill-lead .ensures .lead) (eight .means-by-eight .ensures .means) (omega arith) in
+    then-written so-far (one .means-by-one .ensures) (omega arith)
+
+pub write-means-spec : {M : Type 1} → statement M
+write-means-spec =
+    tie.close
+    (tie.spec
+    (λ c. search needs)  -- sub-fill-lead
+    (λ c κs. search needs)  -- fill-lead-requires
+    means-by-eight-requires
+    means-by-one-requires
+    (λ c. search needs)  -- same-length
+    returns
+    )

@@ -1,0 +1,189 @@
+-- The table of refusals in the forms that the checks meet it, and what is known of a call that it let pass. Assumes nothing.
+use mathlib.Core.Path.{_≡_, refl, sym, _∙_}
+use mathlib.Core.Bool.{Bool, true, false, _&&_, _||_}
+use mathlib.Core.List.{List, [], _∷_, map}
+use Prim.Native.Nat.{ℕ, zero, suc, _*_, _<_, _≤_}
+use native.Mathlib.Omega.{arith}
+use borrow.Author.Tests.{leb-true, eq-eqb, eqb-false}
+use lib.Dec.{leb, eqb}
+use lib.ListN.{length}
+use lib.Ieee.{Float}
+use Rattle.calls.specs.declared.Refusal.{Refusal}
+use Rattle.calls.specs.declared.Refusal.the-variants.{SeriesTooLong, LengthsDiffer, OutputTooShort, WorkTooShort, ValueNotAccepted, WindowTooLong}
+use Rattle.calls.specs.declared.Answer.{Answer}
+use Rattle.calls.specs.declared.Answer.the-variants.{Cells, Refused}
+use Rattle.calls.specs.Accepted.{all}
+use Rattle.calls.specs.Answer.{countOf, unless, andThen, emptyIf, slices, checked, anyZero, windowed, answered}
+
+-- ---- the table for one series
+
+and-true : (t : Bool) → t && true ≡ t
+and-true true = refl
+and-true false = refl
+
+or-false : (t : Bool) → t || false ≡ t
+or-false true = refl
+or-false false = refl
+
+unless-and : (t u : Bool) (q : Refusal) (next : Answer) → unless (t && u) q next ≡ unless t q (unless u q next)
+unless-and true u q next = refl
+unless-and false u q next = refl
+
+parted : (t u : Bool) (p q : Refusal) (l : ℕ) (next : Answer)
+    → unless t p (unless u q next) ≡ andThen (unless t p (unless u q (Cells l))) next
+parted true true p q l next = refl
+parted true false p q l next = refl
+parted false u p q l next = refl
+
+in-turn : (a : Answer) (p q r : Bool) (k l m : ℕ)
+    → andThen a (unless (p && (q && r)) ValueNotAccepted (Cells k))
+    ≡ andThen (andThen (andThen a (unless r ValueNotAccepted (Cells m))) (unless q ValueNotAccepted (Cells l))) (unless p ValueNotAccepted (Cells k))
+in-turn (Refused x) p q r k l m = refl
+in-turn (Cells j) true true true k l m = refl
+in-turn (Cells j) true true false k l m = refl
+in-turn (Cells j) true false true k l m = refl
+in-turn (Cells j) true false false k l m = refl
+in-turn (Cells j) false true true k l m = refl
+in-turn (Cells j) false true false k l m = refl
+in-turn (Cells j) false false true k l m = refl
+in-turn (Cells j) false false false k l m = refl
+
+pub slices-one : (l out : ℕ) (work : List ℕ)
+    → slices (l ∷ []) (out ∷ []) work
+    ≡ unless (leb l 65536) SeriesTooLong
+    (unless (leb l out) OutputTooShort (unless (all (λ room. leb (8 * l) room) work) WorkTooShort (Cells l)))
+unfolding slices
+slices-one l out work = rw (and-true (leb l 65536), and-true (eqb l l), eq-eqb l l refl, and-true (leb l out))
+
+-- three series: each length, then each of the later two against the first
+pub slices-three : (a b c out : ℕ)
+    → slices (a ∷ b ∷ c ∷ []) (out ∷ []) []
+    ≡ unless (leb a 65536) SeriesTooLong (unless (leb b 65536) SeriesTooLong (unless (leb c 65536) SeriesTooLong
+    (unless (eqb b a) LengthsDiffer (unless (eqb c a) LengthsDiffer (unless (leb a out) OutputTooShort (Cells a))))))
+unfolding slices
+slices-three a b c out =
+    rw (
+      and-true (leb c 65536),
+      unless-and (leb a 65536),
+      unless-and (leb b 65536),
+      eq-eqb a a refl,
+      and-true (eqb c a),
+      unless-and (eqb b a),
+      and-true (leb a out),
+    )
+
+-- the work slice comes after the other lengths
+pub slices-work : (l out work : ℕ)
+    → slices (l ∷ []) (out ∷ []) (work ∷ []) ≡ andThen (slices (l ∷ []) (out ∷ []) []) (unless (leb (8 * l) work) WorkTooShort (Cells l))
+slices-work l out work =
+    rw (slices-one l out (work ∷ []), slices-one l out [], and-true (leb (8 * l) work)) (parted (leb l 65536) (leb l out) _ _ l _)
+
+pub checked-one : (ok : Float → Bool) (s : List Float) (outputs work : List ℕ)
+    → checked ok (s ∷ []) outputs work
+    ≡ andThen (slices (length s ∷ []) outputs work) (unless (all ok s) ValueNotAccepted (Cells (length s)))
+unfolding checked
+checked-one ok s outputs work = rw (and-true (all ok s))
+
+-- three series' values, in any order, since they give one refusal
+pub checked-three : (ok : Float → Bool) (s t u : List Float) (outputs work : List ℕ)
+    → checked ok (s ∷ t ∷ u ∷ []) outputs work
+    ≡ andThen (andThen (andThen (slices (length s ∷ length t ∷ length u ∷ []) outputs work)
+    (unless (all ok u) ValueNotAccepted (Cells (length u))))
+    (unless (all ok t) ValueNotAccepted (Cells (length t))))
+    (unless (all ok s) ValueNotAccepted (Cells (length s)))
+unfolding checked
+checked-three ok s t u outputs work =
+    rw (and-true (all ok u))
+    (in-turn (slices (length s ∷ length t ∷ length u ∷ []) outputs work) (all ok s) (all ok t) (all ok u) _ _ _)
+
+pub windowed-one : (l n : ℕ) (next : Answer) → windowed l (n ∷ []) next ≡ unless (leb n 4096) WindowTooLong (emptyIf (eqb l 0 || eqb n 0) next)
+unfolding windowed
+windowed-one l n next = rw (and-true (leb n 4096), or-false (eqb n 0))
+
+-- ---- what is known where a count was answered
+
+-- each of the lengths is at least k
+abbrev pub AtLeast : ℕ → List ℕ → Type 0
+AtLeast k [] = Unit {0}
+AtLeast k (room ∷ rooms) = (k ≤ room) × AtLeast k rooms
+
+pub record Room (ok : Float → Bool) (s : List Float) (out : ℕ) (work : List ℕ) : Type 0 where
+  pub short : length s ≤ 65536
+  pub out-long : length s ≤ out
+  pub work-long : AtLeast (8 * length s) work
+  pub values : all ok s ≡ true
+
+-- a window of cells, and cells to be written: all of them
+pub record Open (l n k : ℕ) : Type 0 where
+  pub some : 0 < n
+  pub narrow : n ≤ 4096
+  pub whole : k ≡ l
+
+unless-cells : (t : Bool) (q : Refusal) (next : Answer) (k : ℕ) → unless t q next ≡ Cells k → (t ≡ true) × (next ≡ Cells k)
+unless-cells true q next k e = (refl, e)
+unless-cells false q next k e = let z : _≡_ {A = ℕ} 0 1 = cc in absurd (omega arith)
+
+andThen-cells : (a next : Answer) (k : ℕ) → andThen a next ≡ Cells k → (a ≡ Cells (countOf a)) × (next ≡ Cells k)
+andThen-cells (Cells j) next k e = (refl, e)
+andThen-cells (Refused q) next k e = let z : _≡_ {A = ℕ} 0 1 = cc in absurd (omega arith)
+
+emptyIf-cells : (t : Bool) (next : Answer) (k : ℕ) → emptyIf t next ≡ Cells k → 0 < k → (t ≡ false) × (next ≡ Cells k)
+emptyIf-cells false next k e h = (refl, e)
+emptyIf-cells true next k e h = let z : 0 ≡ k = cc in absurd (omega arith)
+
+same-count : (j k : ℕ) → Cells j ≡ Cells k → j ≡ k
+same-count j k e = cc
+
+positive : (n : ℕ) → (n ≡ 0 → ⊥) → 0 < n
+positive zero h = absurd (h refl)
+positive (suc n) h = omega arith
+
+nonzero : (n : ℕ) → eqb n 0 ≡ false → 0 < n
+nonzero n e = let h = eqb-false n 0 e in positive n h
+
+and-parts : (t u : Bool) → t && u ≡ true → (t ≡ true) × (u ≡ true)
+and-parts true u e = (refl, e)
+and-parts false u e = let z : _≡_ {A = ℕ} 0 1 = cc in absurd (omega arith)
+
+or-parts : (t u : Bool) → t || u ≡ false → (t ≡ false) × (u ≡ false)
+or-parts false u e = (refl, e)
+or-parts true u e = let z : _≡_ {A = ℕ} 0 1 = cc in absurd (omega arith)
+
+at-least : (k : ℕ) (rooms : List ℕ) → all (λ room. leb k room) rooms ≡ true → AtLeast k rooms
+at-least k [] e = tt
+at-least k (room ∷ rooms) e =
+    let parts = and-parts (leb k room) (all (λ room. leb k room) rooms) e in
+    (leb-true k room (parts .0), at-least k rooms (parts .1))
+
+pub checked-room : (ok : Float → Bool) (s : List Float) (out : ℕ) (work : List ℕ) (k : ℕ) → checked ok (s ∷ []) (out ∷ []) work ≡ Cells k
+    → Room ok s out work
+checked-room ok s out work k e =
+    let a = andThen-cells _ _ k (sym (checked-one ok s (out ∷ []) work) ∙ e) in
+    let b = unless-cells _ _ _ _ (sym (slices-one (length s) out work) ∙ a .0) in
+    let c = unless-cells _ _ _ _ (b .1) in
+    let d = unless-cells _ _ _ _ (c .1) in
+    record {
+      short = leb-true _ _ (b .0);
+      out-long = leb-true _ _ (c .0);
+      work-long = at-least (8 * length s) work (d .0);
+      values = unless-cells (all ok s) _ _ k (a .1) .0;
+    }
+
+-- a call with windows that was answered
+pub room : (ok : Float → Bool) (s : List Float) (windows : List ℕ) (out : ℕ) (work : List ℕ) (k : ℕ) → answered ok s windows out work ≡ Cells k
+    → Room ok s out work
+unfolding answered
+room ok s windows out work k e = checked-room ok s out work _ (andThen-cells _ _ k e .0)
+
+-- and its window, where there are cells to be written
+pub opened : (ok : Float → Bool) (s : List Float) (n out : ℕ) (work : List ℕ) (k : ℕ) → answered ok s (n ∷ []) out work ≡ Cells k → 0 < k
+    → Open (length s) n k
+unfolding answered
+opened ok s n out work k e h =
+    let l = length s in
+    let all-of-it = Cells l in
+    let t = andThen-cells (checked ok (s ∷ []) (out ∷ []) work) (windowed l (n ∷ []) all-of-it) k e in
+    let a = unless-cells (leb n 4096) _ _ k (sym (windowed-one l n all-of-it) ∙ t .1) in
+    let b = emptyIf-cells (eqb l 0 || eqb n 0) all-of-it k (a .1) h in
+    let c = or-parts (eqb l 0) (eqb n 0) (b .0) in
+    record { some = nonzero n (c .1); narrow = leb-true _ _ (a .0); whole = sym (same-count _ _ (b .1)) }

@@ -1,0 +1,130 @@
+-- A recorded word is 16 hexadecimal digits, the highest first, and a blank or a line feed after them. Assumes nothing.
+use mathlib.Core.Bool.{Bool, true, false, _&&_, _||_, cond}
+use mathlib.Core.List.{List, [], _∷_, _++_}
+use mathlib.Core.Logic.{_⊎_, inl, inr}
+use mathlib.Core.Path.{_≡_, refl}
+use Prim.Native.Nat.{ℕ, zero, suc, _+_, _-_, _*_, _^_, _≤_, _<_}
+use native.Mathlib.Nat.{lt-of-lt-of-le, not-suc-le-zero, le-of-suc-le-suc, eq-or-lt-of-le}
+use native.Mathlib.Numerals.{add-one}
+use native.Mathlib.Omega.{arith}
+use borrow.Author.Tests.{lt-ltb, le-ltb, le-leb, lt-leb}
+use lib.Dec.{leb, ltb, eqb, lit<}
+use lib.Pow.{pow-add, pow-mono}
+use lib.ListN.{length, getD, take, replicate}
+use Rattle.records.specs.declared.Word.{Word}
+use Rattle.records.specs.declared.Word.the-variants.{Bits, Missing}
+
+-- the digit that a byte is in ASCII, `0` to `9` and then `a` to `f`; 16 for any other byte
+unfoldable pub digitOf : ℕ → ℕ
+digitOf c = cond (leb 48 c && leb c 57) (c - 48) (cond (leb 97 c && leb c 102) (c - 87) 16)
+
+abbrev pub isEnd : ℕ → Bool
+isEnd c = eqb c 32 || eqb c 10
+
+-- the digit at index i
+abbrev pub digitAt : List ℕ → ℕ → ℕ
+digitAt s i = digitOf (getD s i 0)
+
+-- the number that the k digits from `at` on are
+unfoldable pub numberAt : List ℕ → ℕ → ℕ → ℕ
+numberAt s at zero = 0
+numberAt s at (suc k) = 16 * numberAt s at k + digitAt s (at + k)
+
+-- whether the k bytes from `at` on are digits
+unfoldable pub digitsAt : List ℕ → ℕ → ℕ → Bool
+digitsAt s at zero = true
+digitsAt s at (suc k) = digitsAt s at k && ltb (digitAt s (at + k)) 16
+
+-- the number that the 16 bytes from `at` on are
+unfoldable pub numberIn : List ℕ → ℕ → Word
+numberIn s at = cond (digitsAt s at 16) (Bits (numberAt s at 16)) Missing
+
+-- the word that stands at an index, or that none does
+unfoldable pub wordAt : List ℕ → ℕ → Word
+wordAt s at = cond (leb (at + 17) (length s) && isEnd (getD s (at + 16) 0)) (numberIn s at) Missing
+
+-- 14 zeros and `af`, with a line feed after them; and the same with a capital letter
+word-cases : (wordAt (replicate 14 48 ++ (97 ∷ 102 ∷ 10 ∷ [])) 0 ≡ Bits 175) × (wordAt (replicate 14 48 ++ (65 ∷ 102 ∷ 10 ∷ [])) 0 ≡ Missing)
+unfolding wordAt numberIn digitsAt numberAt digitOf
+word-cases = (refl, refl)
+
+-- ---- reading digit by digit
+
+-- the first k bytes are digits, and x is their number
+pub record Reading (s : List ℕ) (at k x : ℕ) : Type 0 where
+  pub ok : digitsAt s at k ≡ true
+  pub is : x ≡ numberAt s at k
+  pub small : x < 2 ^ (4 * k)
+
+pub none-read : {s : List ℕ} {at : ℕ} → Reading s at 0 0
+unfolding digitsAt numberAt
+none-read = record { ok = refl; is = refl; small = lit< tt }
+
+next-small : (x k d : ℕ) → x < 2 ^ (4 * k) → d < 16 → 16 * x + d < 2 ^ (4 * (k + 1))
+next-small x k d h l =
+    let four : 4 * (k + 1) ≡ 4 * k + 4 = omega arith in
+    rw (four, pow-add) (omega arith)
+
+-- a number of fewer than 16 digits has room for one more
+pub room : {s : List ℕ} {at k x : ℕ} → Reading s at k x → k < 16 → x < 2 ^ 60
+room {k = k} r h =
+    let most : 4 * k ≤ 60 = omega arith in
+    lt-of-lt-of-le (r .small) (pow-mono most)
+
+-- one more digit
+pub one-read : {s : List ℕ} {at k x d : ℕ} → Reading s at k x → d ≡ digitAt s (at + k) → d < 16 → Reading s at (k + 1) (16 * x + d)
+unfolding digitsAt numberAt
+one-read {s} {at} {k} {x} {d} r e l = record {
+  ok = rw (add-one, r .ok, ← e) (lt-ltb d 16 l);
+  is = rw (add-one, r .is, e);
+  small = next-small x k d (r .small) l;
+}
+
+-- a byte that is no digit
+no-digit : (s : List ℕ) (at i k : ℕ) → i < k → 15 < digitAt s (at + i) → digitsAt s at k ≡ false
+unfolding digitsAt
+no-digit s at i zero h l = absurd (not-suc-le-zero h)
+no-digit s at i (suc k) h l = go (no-digit s at i k) (eq-or-lt-of-le (le-of-suc-le-suc h))
+  where
+    and-no : (b : Bool) → b && false ≡ false
+    and-no true = refl
+    and-no false = refl
+
+    go : (i < k → 15 < digitAt s (at + i) → digitsAt s at k ≡ false) → (i ≡ k) ⊎ (i < k) → digitsAt s at k && ltb (digitAt s (at + k)) 16 ≡ false
+    go before (inl e) = rw (← e, le-ltb (digitAt s (at + i)) 16 l) (and-no (digitsAt s at i))
+    go before (inr g) = rw (before g l)
+
+-- all 16 are read
+pub all-read : {s : List ℕ} {at k x : ℕ} → Reading s at k x → k ≡ 16 → Bits x ≡ numberIn s at
+unfolding numberIn
+all-read r e = let t = rw e at r in rw (t .ok, t .is)
+
+-- one of the 16 is no digit
+pub not-read : (s : List ℕ) (at i : ℕ) → i < 16 → 15 < digitAt s (at + i) → Missing ≡ numberIn s at
+unfolding numberIn
+not-read s at i h l = rw (no-digit s at i 16 h l)
+
+-- ---- the three answers of `word_at`
+
+module _ (s : List ℕ) (at : ℕ) where
+  pub text-ends : length s < at + 17 → Missing ≡ wordAt s at
+  unfolding wordAt
+  text-ends h = rw (lt-leb (at + 17) (length s) h)
+
+  pub no-end : at + 17 ≤ length s → isEnd (getD s (at + 16) 0) ≡ false → Missing ≡ wordAt s at
+  unfolding wordAt
+  no-end h e = rw (le-leb (at + 17) (length s) h, e)
+
+  pub has-end : at + 17 ≤ length s → isEnd (getD s (at + 16) 0) ≡ true → numberIn s at ≡ wordAt s at
+  unfolding wordAt
+  has-end h e = rw (le-leb (at + 17) (length s) h, e)
+
+-- the word that was read stands before the place where the next one is looked for, in the part of the block that was filled
+pub record Stepped (block : List ℕ) (at end : ℕ) (w : Word) : Type 0 where
+  pub filled : end ≤ length block
+  pub word : w ≡ wordAt (take end block) (at - 17)
+
+pub stepped : {block : List ℕ} {end : ℕ} {w : Word} (at : ℕ) → end ≤ length block → w ≡ wordAt (take end block) at → Stepped block (at + 17) end w
+stepped at h e =
+    let back : at + 17 - 17 ≡ at = omega arith in
+    record { filled = h; word = rw back e }

@@ -1,0 +1,20 @@
+-- `guess` meets its contract: no bits on the way are a NaN's. That the guess is nearly always right is not proved; only speed rests on it. Assumes nothing.
+use native.Mathlib.Omega.{arith}
+use borrow.Author.Needs.{needs}
+use Rattle.rounding.proofs.root.Patterns.{no-nan}
+use Rattle.rounding.proofs.root.guess.Statement.{statement}
+use Rattle.rounding.proofs.root.guess.Tie as tie
+
+pub guess-spec : {M : Type 1} → statement M
+guess-spec =
+    tie.close
+    (tie.spec
+    (λ c. search needs)  -- add-bits
+    (λ c. search needs)  -- mul-bits
+    (λ c. search needs)  -- add-bits-2
+    (λ c. no-nan _ (omega arith))  -- float-from-bits-x
+    (λ c. search needs)  -- sub-y
+    (λ c. no-nan _ (omega arith))  -- float-from-bits-y
+    (λ c κs. search needs)  -- digits-of-requires
+    (λ c. search needs)  -- returns
+    )

@@ -1,0 +1,47 @@
+-- The square root of a float: the value of the format that is nearest to the true root, found with whole numbers alone.
+-- IEEE 754-2019, 5.4.1 (squareRoot), with roundTiesToEven. Assumes nothing.
+pub mod Examples
+pub mod Meaning
+pub mod Squares
+pub mod Steps
+pub mod Neighbours
+pub mod Units
+use Prim.Native.Nat.{ℕ, zero, suc, _+_, _-_, _*_, _/_, _^_, compare}
+use mathlib.Core.Bool.{true, false, cond}
+use lib.Dec.{leb}
+use lib.Ieee.{Float, nan, inf, fin, Format, prec, low, up, down, size, nearest, units}
+
+-- The whole root of an n below 2 ^ d, rounded down. It is twice the root of n / 4, or one more where the square of that is at most n.
+unfoldable pub rootBelow : ℕ → ℕ → ℕ
+rootBelow zero n = 0
+rootBelow (suc d) n = let r = 2 * rootBelow d (n / 4) in cond (leb ((r + 1) * (r + 1)) n) (r + 1) r
+
+unfoldable pub root : ℕ → ℕ
+unfolding rootBelow size
+root n = rootBelow (size n) n
+
+-- The value of the format f that is nearest to √n smallest values of f. Of the root's whole part the format keeps the `prec` leading digits
+-- and drops k, so the root lies from q * 2 ^ k up to (q + 1) * 2 ^ k: it goes to the nearer one, by how 4 * n compares with the square of
+-- their sum, and at a tie to the even one.
+unfoldable pub nearestRoot : Format → ℕ → Float
+unfolding root size units
+nearestRoot f n =
+    let k = size (root n) - prec f in
+    let q = root n / 2 ^ k in
+    let sum = (2 * q + 1) * 2 ^ k in
+    units f false (nearest q (compare (4 * n) (sum * sum))) k
+
+-- how many smallest values of f make a finite number that f holds, whatever its sign
+abbrev pub inUnits : Format → Float → ℕ
+inUnits f nan = 0
+inUnits f (inf s) = 0
+inUnits f (fin s m e) = m * up e * 2 ^ low f / down e
+
+-- A zero is its own root, and so is the infinity above zero. A NaN and what is below zero have none.
+unfoldable pub sqrtOf : Format → Float → Float
+unfolding nearestRoot
+sqrtOf f nan = nan
+sqrtOf f (inf s) = cond s nan (inf false)
+sqrtOf f (fin s zero e) = fin s zero e
+sqrtOf f (fin true (suc m) e) = nan
+sqrtOf f (fin false (suc m) e) = nearestRoot f (inUnits f (fin false (suc m) e) * 2 ^ low f)
