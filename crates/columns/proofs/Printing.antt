@@ -53,23 +53,23 @@ module _ {from to n : ℕ} {old : List ℕ} where
         long = w .long;
       }
 
--- one byte more
-pub add-byte : {at : ℕ} {more : List ℕ} {r : ℕ} {old now : List ℕ} (b : ℕ) → Adds at more r old now → r < length old
-    → Adds at (more ++ (b ∷ [])) (r + 1) old (set now r b)
-add-byte {at} {more} {r} {old} {now} b w h =
+-- a byte more, and the text ends at q
+pub add-byte : {at : ℕ} {more : List ℕ} {r : ℕ} {old now : List ℕ} (b i q : ℕ) → Adds at more r old now
+    → (i ≡ r) × (r < length old) × (q ≡ r + 1) → Adds at (more ++ (b ∷ [])) q old (set now i b)
+add-byte {at} {more} {r} {old} {now} b i q w (p, h, e) =
     record {
       end = rw length-snoc (omega (arith, w .end));
-      text = rw (add-one, take-suc-set now r b (omega (arith, w .long)), w .text, append-assoc);
-      long = length-set now r b ∙ w .long;
+      text = rw (e, p, add-one, take-suc-set now r b (omega (arith, w .long)), w .text, append-assoc);
+      long = length-set now i b ∙ w .long;
     }
 
 -- one text after another
-pub add-more : {at : ℕ} {more next : List ℕ} {r q : ℕ} {old mid now : List ℕ} → Adds at more r old mid → Adds r next q mid now
+pub add-more : {at : ℕ} {more next : List ℕ} {r r′ q : ℕ} {old mid now : List ℕ} → Adds at more r old mid → Adds r′ next q mid now → r′ ≡ r
     → Adds at (more ++ next) q old now
-add-more {at} {more} {next} {r} {q} {old} {mid} {now} v w =
+add-more {at} {more} {next} {r} {r′} {q} {old} {mid} {now} v w e =
     record {
       end = rw length-append (omega (arith, v .end, w .end));
-      text = w .text ∙ rw (v .text, append-assoc);
+      text = w .text ∙ rw (e, v .text, append-assoc);
       long = w .long ∙ v .long;
     }
 
@@ -77,3 +77,7 @@ add-more {at} {more} {next} {r} {q} {old} {mid} {now} v w =
 pub field-is : (w n k : ℕ) → w ≡ k + 1 → printField w n ≡ leading k (n / 10) ++ ((48 + n % 10) ∷ [])
 unfolding printField
 field-is w n k e = rw (e, add-one)
+
+-- nothing is printed yet
+pub add-none : {at : ℕ} {old : List ℕ} → Adds at [] at old old
+add-none = record { end = omega arith; text = sym (append-nil _); long = refl }

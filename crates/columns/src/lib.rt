@@ -132,13 +132,12 @@ fn print_leading(text: &mut [u8], from: usize, to: usize, n: u64)
     }
 }
 
-// Prints n right-justified in `width` columns, and gives the column after them.
-pub fn print_field(text: &mut [u8], at: usize, width: usize, n: u64) -> usize
+// Prints n right-justified in `width` columns from `at` on.
+pub fn print_field(text: &mut [u8], at: usize, width: usize, n: u64)
     requires { ⌜ (0 < width) × (at + width ≤ length (now text)) ⌝ }
-    ensures { λ r. ⌜ Adds at (printField width n) r (now (text .entry)) (now (text .exit)) ⌝ }
+    ensures { λ _. ⌜ Adds at (printField width n) (at + width) (now (text .entry)) (now (text .exit)) ⌝ }
 {
     let last = at + width - 1;
     print_leading(text, at, last, n / 10);
     text[last] = b'0' + (n % 10) as u8;
-    last + 1
 }
