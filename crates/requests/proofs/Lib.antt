@@ -2,3 +2,4 @@ pub mod Places
 pub mod Lines
 pub mod Strict
 pub mod Positions
+pub mod Prices

@@ -12,6 +12,7 @@ use lib.Dec.{eqb}
 use lib.ListN.{length, take, drop, getD, take-append-drop, length-take}
 use lib.Seq.{take-all, take-suc, take-take, length-take-le, getD-take, take-append-le}
 use Rattle.requests.specs.Header.{columned}
+use Rattle.requests.specs.Place.{finally}
 use Rattle.requests.specs.Sheet.{lengthen, lines, State, stopped, Step, broken, step, ending, outcome}
 
 -- no line feed
@@ -67,10 +68,6 @@ first-line b [] = alone b (eqb b 10) refl
 first-line b (c ∷ rest) = before b (eqb b 10) refl (first-line c rest)
 
 -- ---- what a state prints from there on
-
--- a step, and what comes after it
-abbrev pub finally : Step → List (List ℕ) → List ℕ
-finally t rest = t .prints ++ outcome (t .state) rest
 
 pub outcome-stopped : (k : ℕ) (rest : List (List ℕ)) → outcome (stopped k) rest ≡ ending (stopped k)
 unfolding outcome

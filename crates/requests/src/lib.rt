@@ -3,13 +3,14 @@ use calls::Answer;
 use columns::Field;
 use columns::Price;
 ghost use mathlib.Core.Path.{_≡_};
-ghost use Prim.Native.Nat.{_+_, _*_, _≤_};
+ghost use Prim.Native.Nat.{_+_, _*_, _<_, _≤_, min};
 ghost use lib.ListN.{length};
 ghost use lib.Seq.{slice};
 ghost use mathlib.Core.List.{[], _∷_};
 ghost use Rattle.calls.specs.Line.{line};
 ghost use Rattle.columns.specs.Print.{Adds};
 ghost use Rattle.requests.specs.Header.{requestOf, readHeader, readPriceLine};
+ghost use Rattle.requests.specs.Place.{Ran};
 ghost use Rattle.requests.specs.Answer.{headLine, positionLine, positionLines, lastLine, oneMore, refusedAfter};
 
 // What a request's first line asks.
@@ -91,6 +92,33 @@ fn read_price_line(block: &[u8], at: usize) -> Price
     } else {
         Price::Unpriced
     }
+}
+
+// Where a request stands: before its first line; with so many of its prices; or where a line broke its columns.
+pub enum Stage {
+    Waiting,
+    Collecting(Request, usize),
+    Stopped,
+}
+
+// What is carried from block to block.
+pub struct Sheet {
+    pub stage: Stage,
+    pub counts: Counts,
+}
+
+// A sheet, the next byte of the block, and the bytes printed so far.
+pub struct Place {
+    pub sheet: Sheet,
+    pub at: usize,
+    pub filled: usize,
+}
+
+// Prices that were read: the byte after them, how many there are, and whether no line was broken.
+pub struct Run {
+    pub at: usize,
+    pub got: usize,
+    pub whole: bool,
 }
 
 // The refused requests so far.
@@ -180,4 +208,37 @@ fn print_last(text: &mut [u8], at: usize, refused: u64)
 {
     columns::print_field(text, at, 12, refused);
     text[at + 12] = b'\n';
+}
+
+fn smaller(a: usize, b: usize) -> usize
+    ensures { λ r. ⌜ r ≡ min a b ⌝ }
+{
+    if a < b { a } else { b }
+}
+
+// Reads prices from `at` on until the request has all or too few bytes are left.
+fn read_prices(block: &[u8], at: usize, request: Request, got: usize, series: &mut [f64]) -> Run
+    requires { ⌜ (at + 13 ≤ length (now block)) × (got < request .bars) × (request .bars ≤ length (now series)) ⌝ }
+    ensures { λ r. ⌜ Ran (now (block .entry)) at request got (now (series .entry)) r (now (series .exit)) ⌝ }
+{
+    let end = got + smaller(request.bars - got, (block.len() - at) / 13);
+    let mut place = at;
+    let mut i = got;
+    while i < end {
+        let Price::Ticks(price) = read_price_line(block, place) else {
+            return Run {
+                at: place,
+                got: i,
+                whole: false,
+            };
+        };
+        series[i] = price;
+        i += 1;
+        place += 13;
+    }
+    Run {
+        at: place,
+        got: i,
+        whole: true,
+    }
 }
