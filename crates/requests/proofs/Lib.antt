@@ -3,3 +3,5 @@ pub mod Lines
 pub mod Strict
 pub mod Positions
 pub mod Prices
+pub mod Keeping
+pub mod Ends

@@ -5,6 +5,7 @@ use mathlib.Core.Bool.{Bool, true, cond}
 use mathlib.Core.List.{List, [], _++_}
 use Prim.Native.Nat.{ℕ, _+_, _-_, _*_, _<_, _≤_}
 use lib.ListN.{length, take, drop}
+use lib.Seq.{slice}
 use lib.Ieee.{Float}
 use Rattle.columns.specs.Print.{Adds}
 use Rattle.requests.specs.declared.Request.{Request}
@@ -60,3 +61,13 @@ pub record Ran (block : List ℕ) (at : ℕ) (r : Request) (got : ℕ) (old : Li
   pub most : run .got ≤ r .bars
   pub within : run .at ≤ length block
   pub long : length now ≡ length old
+
+-- The text is all that is still to be printed where the input ends, after bytes that are too few for a line.
+pub record Finished (sheet : Sheet) (kept : ℕ) (text : List ℕ) : Type 0 where
+  pub is : (series : List Float) (rest : List ℕ) → length rest ≡ kept
+      → text ≡ outcome (stateOf (sheet .stage) (sheet .counts .refused) series) (lines rest)
+
+-- The first r bytes are now those from `from` to `to`.
+pub record Kept (from to : ℕ) (old : List ℕ) (r : ℕ) (now : List ℕ) : Type 0 where
+  pub count : r ≡ to - from
+  pub bytes : take r now ≡ slice from to old

@@ -4,13 +4,15 @@ use columns::Field;
 use columns::Price;
 ghost use mathlib.Core.Path.{_≡_};
 ghost use Prim.Native.Nat.{_+_, _*_, _<_, _≤_, min};
-ghost use lib.ListN.{length};
+ghost use lib.ListN.{length, take};
 ghost use lib.Seq.{slice};
-ghost use mathlib.Core.List.{[], _∷_};
+ghost use mathlib.Core.List.{List, [], _∷_, _++_};
+ghost use lib.Ieee.{Float};
 ghost use Rattle.calls.specs.Line.{line};
 ghost use Rattle.columns.specs.Print.{Adds};
 ghost use Rattle.requests.specs.Header.{requestOf, readHeader, readPriceLine};
-ghost use Rattle.requests.specs.Place.{Ran};
+ghost use Rattle.requests.specs.Place.{Stepped, Ran, due, Finished, Kept};
+ghost use Rattle.requests.specs.Sheet.{broken};
 ghost use Rattle.requests.specs.Answer.{headLine, positionLine, positionLines, lastLine, oneMore, refusedAfter};
 
 // What a request's first line asks.
@@ -241,4 +243,79 @@ fn read_prices(block: &[u8], at: usize, request: Request, got: usize, series: &m
         got: i,
         whole: true,
     }
+}
+
+// A broken line is answered, and nothing more is read.
+fn stop(counts: Counts, at: usize, text: &mut [u8], filled: usize) -> Place
+    requires { ⌜ filled + 19 ≤ length (now text) ⌝ }
+    ensures { λ r. ⌜ ((series : List Float) → Stepped (broken (counts .refused)) series at filled r (now (text .entry)) (now (text .exit))) × (r .sheet .stage ≡ Stage.Stopped) ⌝ }
+{
+    print_head(text, filled, 0, 0, 10, 0);
+    Place {
+        sheet: Sheet {
+            stage: Stage::Stopped,
+            counts: counts.one_more(),
+        },
+        at: at,
+        filled: filled + 19,
+    }
+}
+
+// Before the first request.
+pub fn begin() -> Sheet
+    ensures { λ r. ⌜ (r .stage ≡ Stage.Waiting) × (r .counts .refused ≡ 0) ⌝ }
+{
+    Sheet {
+        stage: Stage::Waiting,
+        counts: Counts { refused: 0 },
+    }
+}
+
+// Prints that a request broke off, and the last line.
+fn print_cut(text: &mut [u8], counts: Counts) -> usize
+    requires { ⌜ 32 ≤ length (now text) ⌝ }
+    ensures { λ r. ⌜ take r (now (text .exit)) ≡ broken (counts .refused) .prints ++ lastLine (oneMore (counts .refused)) ⌝ }
+{
+    print_head(text, 0, 0, 0, 10, 0);
+    let all = counts.one_more();
+    print_last(text, 19, all.refused);
+    32
+}
+
+// Prints what is left to print where the input has ended, with `kept` bytes that are too few for a line, and gives how many bytes.
+pub fn finish(sheet: Sheet, kept: usize, text: &mut [u8]) -> usize
+    requires { ⌜ (kept < due (sheet .stage)) × (32 ≤ length (now text)) ⌝ }
+    ensures { λ r. ⌜ Finished sheet kept (take r (now (text .exit))) ⌝ }
+{
+    let stage = sheet.stage;
+    let counts = sheet.counts;
+    match stage {
+        Stage::Waiting => {
+            if kept == 0 {
+                print_last(text, 0, counts.refused);
+                13
+            } else {
+                print_cut(text, counts)
+            }
+        }
+        Stage::Collecting(_, _) => print_cut(text, counts),
+        Stage::Stopped => {
+            print_last(text, 0, counts.refused);
+            13
+        }
+    }
+}
+
+// Moves the bytes from `from` to `to` to the front of the block, and gives how many they are.
+pub fn keep(block: &mut [u8], from: usize, to: usize) -> usize
+    requires { ⌜ (from ≤ to) × (to ≤ length (now block)) ⌝ }
+    ensures { λ r. ⌜ Kept from to (now (block .entry)) r (now (block .exit)) ⌝ }
+{
+    let kept = to - from;
+    let mut i = 0;
+    while i < kept {
+        block[i] = block[from + i];
+        i += 1;
+    }
+    kept
 }
