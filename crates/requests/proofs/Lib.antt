@@ -5,3 +5,4 @@ pub mod Positions
 pub mod Prices
 pub mod Keeping
 pub mod Ends
+pub mod Answers

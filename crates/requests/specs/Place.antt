@@ -52,6 +52,36 @@ pub record Stepped (t : Step) (series : List Float) (at filled : ℕ) (r : Place
   pub text : Adds filled (t .prints) (r .filled) old now
   pub place : r .at ≡ at
 
+-- the buffers that the program lends: for a block and 2,579 bytes more of text
+pub record Lent (block : List ℕ) (series out work : List Float) (text : List ℕ) : Type 0 where
+  pub series-long : length series ≡ 512
+  pub out-long : length out ≡ 512
+  pub work-long : length work ≡ 4096
+  pub text-long : length block + 2579 ≤ length text
+
+-- What holds between two lines: the place is in the block, and what is owed has room.
+pub record Well (block : List ℕ) (p : Place) : Type 0 where
+  pub sound : Sound (p .sheet .stage)
+  pub within : p .at ≤ length block
+  pub room : p .filled + owed (p .sheet .stage) ≤ p .at + 2579
+
+-- all that is printed in the end: the text so far, and what comes of the rest of the block and of what follows it
+abbrev pub total : List ℕ → Place → List Float → List ℕ → List ℕ → List ℕ
+total block p series text more =
+    take (p .filled) text ++ outcome (stateOf (p .sheet .stage) (p .sheet .counts .refused) series) (lines (drop (p .at) block ++ more))
+
+-- From p to q nothing is lost: all that is printed in the end is the same, whatever follows the block.
+pub record Onward (block : List ℕ) (p : Place) (series : List Float) (text : List ℕ) (q : Place) (series′ : List Float) (text′ : List ℕ) : Type 0 where
+  pub same : (more : List ℕ) → total block p series text more ≡ total block q series′ text′ more
+  pub well : Well block q
+  pub forth : p .at < q .at
+
+-- A block was read up to where too few bytes for a line are left.
+pub record Fed (sheet : Sheet) (block : List ℕ) (series : List Float) (q : Place) (series′ : List Float) (text : List ℕ) : Type 0 where
+  pub same : (more : List ℕ) → outcome (stateOf (sheet .stage) (sheet .counts .refused) series) (lines (block ++ more)) ≡ total block q series′ text more
+  pub well : Well block q
+  pub few : length block - q .at < due (q .sheet .stage)
+
 -- The lines from `at` on are read as prices of the request, of which there were `got`, up to where the run ends; or one of them is broken.
 pub record Ran (block : List ℕ) (at : ℕ) (r : Request) (got : ℕ) (old : List Float) (run : Run) (now : List Float) : Type 0 where
   pub same : (k : ℕ) (more : List ℕ) → outcome (collecting k r (take got old)) (lines (drop at block ++ more))

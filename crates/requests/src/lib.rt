@@ -8,12 +8,14 @@ ghost use lib.ListN.{length, take};
 ghost use lib.Seq.{slice};
 ghost use mathlib.Core.List.{List, [], _∷_, _++_};
 ghost use lib.Ieee.{Float};
+ghost use Rattle.calls.specs.Answer.{countOf};
+ghost use Rattle.calls.specs.Call.{Call};
 ghost use Rattle.calls.specs.Line.{line};
 ghost use Rattle.columns.specs.Print.{Adds};
 ghost use Rattle.requests.specs.Header.{requestOf, readHeader, readPriceLine};
-ghost use Rattle.requests.specs.Place.{Stepped, Ran, due, Finished, Kept};
-ghost use Rattle.requests.specs.Sheet.{broken};
-ghost use Rattle.requests.specs.Answer.{headLine, positionLine, positionLines, lastLine, oneMore, refusedAfter};
+ghost use Rattle.requests.specs.Place.{Stepped, Ran, Lent, Well, Onward, Fed, Sound, owed, due, Finished, Kept};
+ghost use Rattle.requests.specs.Sheet.{broken, settled, gathered};
+ghost use Rattle.requests.specs.Answer.{ruleAnswer, ruleLine, headLine, positionLine, positionLines, answerText, lastLine, oneMore, refusedAfter};
 
 // What a request's first line asks.
 pub struct Request {
@@ -258,6 +260,45 @@ fn stop(counts: Counts, at: usize, text: &mut [u8], filled: usize) -> Place
         },
         at: at,
         filled: filled + 19,
+    }
+}
+
+// Answers the request by its rule, on the first prices of the series; the positions are in `out`.
+fn answer(request: Request, series: &[f64], out: &mut [f64], work: &mut [f64]) -> Answer
+    requires { ⌜ (request .bars ≤ length (now series)) × (length (now out) ≡ 512) × (length (now work) ≡ 4096) ⌝ }
+    ensures { λ r. ⌜ Call (ruleAnswer request (take (request .bars) (now (series .entry)))) (ruleLine request (take (request .bars) (now (series .entry))))
+        (now (out .entry)) r (now (out .exit)) ⌝ }
+{
+    Answer::Cells(0)
+}
+
+// Prints an answer from `at` on, with the positions in `cells`, and gives the place after it.
+fn print_answer(text: &mut [u8], at: usize, request: Request, given: Answer, cells: &[f64]) -> usize
+    requires { ⌜ (countOf given ≤ length (now cells)) × (at + 19 + 5 * countOf given ≤ length (now text)) ⌝ }
+    ensures { λ r. ⌜ (Adds at (answerText request given (line (now (cells .entry)))) r (now (text .entry)) (now (text .exit))) × (r ≡ at + 19 + 5 * countOf given) ⌝ }
+{
+    let count = calls::count_of(given);
+    print_head(text, at, request.desk, request.rule, calls::refusal_of(given), count as u64);
+    print_positions(text, at + 19, cells, count);
+    at + 19 + 5 * count
+}
+
+// Answers a request whose prices are all there, and prints the answer.
+fn settle(request: Request, counts: Counts, at: usize, series: &[f64], out: &mut [f64], work: &mut [f64], text: &mut [u8], filled: usize) -> Place
+    requires { ⌜ (request .bars ≤ 512) × (length (now series) ≡ 512) × (length (now out) ≡ 512) × (length (now work) ≡ 4096)
+        × (filled + 19 + 5 * request .bars ≤ length (now text)) ⌝ }
+    ensures { λ r. ⌜ (Stepped (settled (counts .refused) request (take (request .bars) (now (series .entry)))) (now (series .entry)) at filled r
+        (now (text .entry)) (now (text .exit))) × (r .sheet .stage ≡ Stage.Waiting) × (r .filled ≤ filled + 19 + 5 * request .bars) ⌝ }
+{
+    let given = answer(request, series, out, work);
+    let end = print_answer(text, filled, request, given, out);
+    Place {
+        sheet: Sheet {
+            stage: Stage::Waiting,
+            counts: counts.after(given),
+        },
+        at: at,
+        filled: end,
     }
 }
 
