@@ -6,3 +6,4 @@ pub mod Prices
 pub mod Keeping
 pub mod Ends
 pub mod Answers
+pub mod Steps

@@ -9,9 +9,10 @@ use native.Mathlib.Numerals.{add-one}
 use native.Mathlib.Omega.{arith}
 use borrow.Author.Tests.{eqb-true, eq-eqb, ne-eqb}
 use lib.Dec.{eqb}
-use lib.ListN.{length, take, drop, getD, take-append-drop, length-take}
-use lib.Seq.{take-all, take-suc, take-take, length-take-le, getD-take, take-append-le}
+use lib.ListN.{length, take, drop, getD, take-append-drop, length-take, length-drop}
+use lib.Seq.{slice, drop-drop, take-all, take-suc, take-take, length-take-le, getD-take, take-append-le}
 use Rattle.requests.specs.Header.{columned}
+use Rattle.requests.proofs.Places.{take-drop}
 use Rattle.requests.specs.Place.{finally}
 use Rattle.requests.specs.Sheet.{lengthen, lines, State, stopped, Step, broken, step, ending, outcome}
 
@@ -148,6 +149,13 @@ module _ {A : Type 0} {s : State} {w k : ℕ} {read : List ℕ → A} {then : A 
       go false e =
           let f = first-line b (bytes ++ more) in
           rw (reader .strict (take (w + 1) rest) e, reader .breaks) (unclean f (lines (drop (w + 1) rest ++ more)) (unclean-first rest more f h e))
+
+  -- the same of the bytes from a place of a block on
+  pub line-at : (block more : List ℕ) (at : ℕ) → at + (w + 1) ≤ length block → outcome s (lines (drop at block ++ more))
+      ≡ finally (then (read (slice at (at + (w + 1)) block))) (lines (drop (at + (w + 1)) block ++ more))
+  line-at block more at h =
+      let room : w + 1 ≤ length (drop at block) = rw length-drop (omega arith) in
+      next-line (drop at block) more room ∙ rw (take-drop at (w + 1) block, drop-drop (w + 1) at block)
 
   -- bytes that are too few for a line break it
   pub short-line : (b : ℕ) (bytes : List ℕ) (rest : List (List ℕ)) → length (b ∷ bytes) ≤ w → outcome s (lines (b ∷ bytes)) ≡ finally (broken k) rest

@@ -3,7 +3,7 @@ use calls::Answer;
 use columns::Field;
 use columns::Price;
 ghost use mathlib.Core.Path.{_≡_};
-ghost use Prim.Native.Nat.{_+_, _*_, _<_, _≤_, min};
+ghost use Prim.Native.Nat.{_+_, _-_, _*_, _<_, _≤_, min};
 ghost use lib.ListN.{length, take};
 ghost use lib.Seq.{slice};
 ghost use mathlib.Core.List.{List, [], _∷_, _++_};
@@ -250,7 +250,7 @@ fn read_prices(block: &[u8], at: usize, request: Request, got: usize, series: &m
 // A broken line is answered, and nothing more is read.
 fn stop(counts: Counts, at: usize, text: &mut [u8], filled: usize) -> Place
     requires { ⌜ filled + 19 ≤ length (now text) ⌝ }
-    ensures { λ r. ⌜ ((series : List Float) → Stepped (broken (counts .refused)) series at filled r (now (text .entry)) (now (text .exit))) × (r .sheet .stage ≡ Stage.Stopped) ⌝ }
+    ensures { λ r. ⌜ ((series : List Float) → Stepped (broken (counts .refused)) series at filled r (now (text .entry)) (now (text .exit))) × (r .sheet .stage ≡ Stage.Stopped) × (r .filled ≡ filled + 19) ⌝ }
 {
     print_head(text, filled, 0, 0, 10, 0);
     Place {
@@ -299,6 +299,80 @@ fn settle(request: Request, counts: Counts, at: usize, series: &[f64], out: &mut
         },
         at: at,
         filled: end,
+    }
+}
+
+// A request with so many of its prices: it waits for the others, or is answered where they are all there.
+fn gather(request: Request, got: usize, counts: Counts, at: usize, series: &[f64], out: &mut [f64], work: &mut [f64], text: &mut [u8], filled: usize) -> Place
+    requires { ⌜ (got ≤ request .bars) × (request .bars ≤ 512) × (length (now series) ≡ 512) × (length (now out) ≡ 512) × (length (now work) ≡ 4096)
+        × (filled + 19 + 5 * got ≤ length (now text)) ⌝ }
+    ensures { λ r. ⌜ (Stepped (gathered (counts .refused) request (take got (now (series .entry)))) (now (series .entry)) at filled r
+        (now (text .entry)) (now (text .exit))) × Sound (r .sheet .stage) × (r .filled + owed (r .sheet .stage) ≤ filled + 19 + 5 * got) ⌝ }
+{
+    if got == request.bars {
+        settle(request, counts, at, series, out, work, text, filled)
+    } else {
+        Place {
+            sheet: Sheet {
+                stage: Stage::Collecting(request, got),
+                counts: counts,
+            },
+            at: at,
+            filled: filled,
+        }
+    }
+}
+
+// Reads the first line of a request.
+fn take_header(place: Place, block: &[u8], series: &[f64], out: &mut [f64], work: &mut [f64], text: &mut [u8]) -> Place
+    requires { ⌜ (place .sheet .stage ≡ Stage.Waiting) × (place .at + 27 ≤ length (now block)) × Well (now block) place
+        × Lent (now block) (now series) (now out) (now work) (now text) ⌝ }
+    ensures { λ r. ⌜ Onward (now (block .entry)) place (now (series .entry)) (now (text .entry)) r (now (series .entry)) (now (text .exit)) ⌝ }
+{
+    let sheet = place.sheet;
+    let counts = sheet.counts;
+    let at = place.at;
+    let filled = place.filled;
+    let Header::Asked(request) = read_header(block, at) else {
+        return stop(counts, block.len(), text, filled);
+    };
+    gather(request, 0, counts, at + 27, series, out, work, text, filled)
+}
+
+// Reads prices of the request.
+fn take_prices(place: Place, request: Request, got: usize, block: &[u8], series: &mut [f64], out: &mut [f64], work: &mut [f64], text: &mut [u8]) -> Place
+    requires { ⌜ (place .sheet .stage ≡ Stage.Collecting request got) × (place .at + 13 ≤ length (now block)) × Well (now block) place
+        × Lent (now block) (now series) (now out) (now work) (now text) ⌝ }
+    ensures { λ r. ⌜ Onward (now (block .entry)) place (now (series .entry)) (now (text .entry)) r (now (series .exit)) (now (text .exit)) ⌝ }
+{
+    let sheet = place.sheet;
+    let counts = sheet.counts;
+    let at = place.at;
+    let filled = place.filled;
+    let run = read_prices(block, at, request, got, series);
+    if run.whole {
+        gather(request, run.got, counts, run.at, series, out, work, text, filled)
+    } else {
+        stop(counts, block.len(), text, filled)
+    }
+}
+
+// Reads on: the first line of a request, or prices.
+fn advance(place: Place, block: &[u8], series: &mut [f64], out: &mut [f64], work: &mut [f64], text: &mut [u8]) -> Place
+    requires { ⌜ (due (place .sheet .stage) ≤ length (now block) - place .at) × Well (now block) place
+        × Lent (now block) (now series) (now out) (now work) (now text) ⌝ }
+    ensures { λ r. ⌜ Onward (now (block .entry)) place (now (series .entry)) (now (text .entry)) r (now (series .exit)) (now (text .exit)) ⌝ }
+{
+    let sheet = place.sheet;
+    let stage = sheet.stage;
+    match stage {
+        Stage::Waiting => take_header(place, block, series, out, work, text),
+        Stage::Collecting(request, got) => take_prices(place, request, got, block, series, out, work, text),
+        Stage::Stopped => Place {
+            sheet: sheet,
+            at: block.len(),
+            filled: place.filled,
+        },
     }
 }
 
