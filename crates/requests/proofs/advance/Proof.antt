@@ -2,6 +2,7 @@ use mathlib.Core.Path.{_≡_, refl, sym, ap, _∙_, subst}
 use Prim.Native.Nat.{ℕ, _+_, _-_, _*_, _≤_, _<_}
 use native.Mathlib.Omega.{arith}
 use lib.ListN.{length, length-set}
+use Rattle.requests.proofs.Lines.{outcome-stopped}
 use borrow.Author.Needs.{needs}
 use Rattle.requests.proofs.advance.Statement.{statement}
 use Rattle.requests.proofs.advance.Tie as tie
@@ -16,7 +17,11 @@ enum-told c = search needs
 
 -- src/lib.rt:369:27
 take-header-requires : tie.Need-take-header-requires
-take-header-requires c κs = search needs
+take-header-requires c κs =
+    let told = c .before .before .before .before in
+    let start = told .before .before .before .before .before .before .before .before in
+    let enough = rw (told .enum-told .given .1) at (start .pre .0) in
+    (told .enum-told .given .1, omega arith, start .pre .1, start .pre .2)
 
 -- src/lib.rt:370:27
 enum-known-stage : tie.Need-enum-known-stage
@@ -24,7 +29,11 @@ enum-known-stage c = search needs
 
 -- src/lib.rt:370:44
 take-prices-requires : tie.Need-take-prices-requires
-take-prices-requires c κs = search needs
+take-prices-requires c κs =
+    let told = c .before .before .before .before .before in
+    let start = told .before .before .before .before .before .before .before .before in
+    let enough = rw (told .stage .given .1) at (start .pre .0) in
+    (told .stage .given .1, omega arith, start .pre .1, start .pre .2)
 
 -- src/lib.rt:373:17
 enum-told-2 : tie.Need-enum-told-2
@@ -72,7 +81,16 @@ returns-2 c = search needs
 
 -- src/lib.rt:361:1
 returns-3 : tie.Need-returns-3
-returns-3 c = search needs
+returns-3 c =
+    let start = c .before .before .before .before .before .before .before .before in
+    let told = c .enum-told2 .given .1 in
+    let enough = rw told at (start .pre .0) in
+    let room = rw told at (start .pre .1 .room) in
+    record {
+      same = λ more. rw (told, outcome-stopped, outcome-stopped);
+      well = record { sound = rw told tt; within = omega arith; room = rw told (omega (arith, start .pre .1 .within)) };
+      forth = omega arith;
+    }
 
 pub advance-spec : {M : Type 1} → statement M
 advance-spec =
