@@ -48,7 +48,7 @@ windowed-most l windows next h =
 answered-most : (ok : Float → Bool) (s : List Float) (windows : List ℕ) (output : ℕ) (work : List ℕ)
     → AtMost (length s) (answered ok s windows output work)
 unfolding answered checked windowed
-answered-most ok s windows output work = 
+answered-most ok s windows output work =
     andThen-most (checked ok (s ∷ []) (output ∷ []) work) _ (windowed-most (length s) windows (Cells (length s)) (all-most (length s)))
 
 double-most : (s : List Float) (n m output : ℕ) → AtMost (length s) (doubleAnswer s n m output)

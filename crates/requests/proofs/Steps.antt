@@ -14,16 +14,18 @@ use Rattle.columns.specs.declared.Field.the-variants.{Value, Broken}
 use Rattle.columns.specs.Read.{readField}
 use Rattle.requests.specs.declared.Place.{Place}
 use Rattle.requests.specs.declared.Request.{Request}
+use Rattle.requests.specs.declared.Stage.{Stage}
+use Rattle.requests.specs.declared.Stage.the-variants.{Waiting, Collecting, Stopped}
 use Rattle.requests.specs.declared.Header.{Header}
 use Rattle.requests.specs.declared.Header.the-variants.{Asked, Malformed}
 use Rattle.requests.specs.Header.{columned, given, accepted, requestOf, readHeader}
 use Rattle.requests.specs.Sheet.{Step, lines, outcome}
-use Rattle.requests.specs.Place.{stateOf, finally, Stepped, Well, Onward}
+use Rattle.requests.specs.Place.{stateOf, owed, Sound, finally, Stepped, Lent, Well, total, Onward}
 
 -- Where the lines from p on come to the step t and the lines from `at` on, making that step goes onward.
 pub onward : {block : List ℕ} {p q : Place} {series series′ : List Float} {text text′ : List ℕ} {t : Step} {at : ℕ}
     → ((more : List ℕ) → outcome (stateOf (p .sheet .stage) (p .sheet .counts .refused) series) (lines (drop (p .at) block ++ more))
-      ≡ finally t (lines (drop at block ++ more)))
+    ≡ finally t (lines (drop at block ++ more)))
     → Stepped t series′ at (p .filled) q text text′ → Well block q → p .at < q .at → Onward block p series text q series′ text′
 onward {p = p} {text = text} {t = t} lead made well forth =
     record {
@@ -62,3 +64,19 @@ pub header-small : (line : List ℕ) (r : Request) → readHeader line ≡ Asked
 unfolding readHeader
 header-small line =
     cond-small (columned 26 line) (λ e. request-small (readField (slice 0 4 line)) (readField (slice 4 8 line)) (readField (slice 8 14 line)) (readField (slice 14 20 line)) (readField (slice 20 26 line))) no-request .few
+
+-- ---- a block, line after line
+
+-- What the loop that reads a block keeps.
+pub record Feeding (block : List ℕ) (p : Place) (series : List Float) (text : List ℕ) (q : Place) (series′ out′ work′ : List Float) (text′ : List ℕ) :
+    Type 0 where
+  pub same : (more : List ℕ) → total block p series text more ≡ total block q series′ text′ more
+  pub well : Well block q
+  pub lent : Lent block series′ out′ work′ text′
+  pub long : length text′ ≡ length text
+
+-- what a request owes has room in the text of a block of its own
+pub owed-few : (stage : Stage) → Sound stage → owed stage ≤ 2579
+owed-few Waiting s = omega arith
+owed-few (Collecting r got) s = omega arith
+owed-few Stopped s = omega arith

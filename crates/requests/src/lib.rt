@@ -278,13 +278,29 @@ fn print_answer(text: &mut [u8], at: usize, request: Request, given: Answer, cel
     ensures { λ r. ⌜ (Adds at (answerText request given (line (now (cells .entry)))) r (now (text .entry)) (now (text .exit))) × (r ≡ at + 19 + 5 * countOf given) ⌝ }
 {
     let count = calls::count_of(given);
-    print_head(text, at, request.desk, request.rule, calls::refusal_of(given), count as u64);
+    print_head(
+        text,
+        at,
+        request.desk,
+        request.rule,
+        calls::refusal_of(given),
+        count as u64,
+    );
     print_positions(text, at + 19, cells, count);
     at + 19 + 5 * count
 }
 
 // Answers a request whose prices are all there, and prints the answer.
-fn settle(request: Request, counts: Counts, at: usize, series: &[f64], out: &mut [f64], work: &mut [f64], text: &mut [u8], filled: usize) -> Place
+fn settle(
+    request: Request,
+    counts: Counts,
+    at: usize,
+    series: &[f64],
+    out: &mut [f64],
+    work: &mut [f64],
+    text: &mut [u8],
+    filled: usize,
+) -> Place
     requires { ⌜ (request .bars ≤ 512) × (length (now series) ≡ 512) × (length (now out) ≡ 512) × (length (now work) ≡ 4096)
         × (filled + 19 + 5 * request .bars ≤ length (now text)) ⌝ }
     ensures { λ r. ⌜ (Stepped (settled (counts .refused) request (take (request .bars) (now (series .entry)))) (now (series .entry)) at filled r
@@ -303,7 +319,17 @@ fn settle(request: Request, counts: Counts, at: usize, series: &[f64], out: &mut
 }
 
 // A request with so many of its prices: it waits for the others, or is answered where they are all there.
-fn gather(request: Request, got: usize, counts: Counts, at: usize, series: &[f64], out: &mut [f64], work: &mut [f64], text: &mut [u8], filled: usize) -> Place
+fn gather(
+    request: Request,
+    got: usize,
+    counts: Counts,
+    at: usize,
+    series: &[f64],
+    out: &mut [f64],
+    work: &mut [f64],
+    text: &mut [u8],
+    filled: usize,
+) -> Place
     requires { ⌜ (got ≤ request .bars) × (request .bars ≤ 512) × (length (now series) ≡ 512) × (length (now out) ≡ 512) × (length (now work) ≡ 4096)
         × (filled + 19 + 5 * got ≤ length (now text)) ⌝ }
     ensures { λ r. ⌜ (Stepped (gathered (counts .refused) request (take got (now (series .entry)))) (now (series .entry)) at filled r
@@ -324,7 +350,14 @@ fn gather(request: Request, got: usize, counts: Counts, at: usize, series: &[f64
 }
 
 // Reads the first line of a request.
-fn take_header(place: Place, block: &[u8], series: &[f64], out: &mut [f64], work: &mut [f64], text: &mut [u8]) -> Place
+fn take_header(
+    place: Place,
+    block: &[u8],
+    series: &[f64],
+    out: &mut [f64],
+    work: &mut [f64],
+    text: &mut [u8],
+) -> Place
     requires { ⌜ (place .sheet .stage ≡ Stage.Waiting) × (place .at + 27 ≤ length (now block)) × Well (now block) place
         × Lent (now block) (now series) (now out) (now work) (now text) ⌝ }
     ensures { λ r. ⌜ Onward (now (block .entry)) place (now (series .entry)) (now (text .entry)) r (now (series .entry)) (now (text .exit)) ⌝ }
@@ -340,7 +373,16 @@ fn take_header(place: Place, block: &[u8], series: &[f64], out: &mut [f64], work
 }
 
 // Reads prices of the request.
-fn take_prices(place: Place, request: Request, got: usize, block: &[u8], series: &mut [f64], out: &mut [f64], work: &mut [f64], text: &mut [u8]) -> Place
+fn take_prices(
+    place: Place,
+    request: Request,
+    got: usize,
+    block: &[u8],
+    series: &mut [f64],
+    out: &mut [f64],
+    work: &mut [f64],
+    text: &mut [u8],
+) -> Place
     requires { ⌜ (place .sheet .stage ≡ Stage.Collecting request got) × (place .at + 13 ≤ length (now block)) × Well (now block) place
         × Lent (now block) (now series) (now out) (now work) (now text) ⌝ }
     ensures { λ r. ⌜ Onward (now (block .entry)) place (now (series .entry)) (now (text .entry)) r (now (series .exit)) (now (text .exit)) ⌝ }
@@ -351,14 +393,31 @@ fn take_prices(place: Place, request: Request, got: usize, block: &[u8], series:
     let filled = place.filled;
     let run = read_prices(block, at, request, got, series);
     if run.whole {
-        gather(request, run.got, counts, run.at, series, out, work, text, filled)
+        gather(
+            request,
+            run.got,
+            counts,
+            run.at,
+            series,
+            out,
+            work,
+            text,
+            filled,
+        )
     } else {
         stop(counts, block.len(), text, filled)
     }
 }
 
 // Reads on: the first line of a request, or prices.
-fn advance(place: Place, block: &[u8], series: &mut [f64], out: &mut [f64], work: &mut [f64], text: &mut [u8]) -> Place
+fn advance(
+    place: Place,
+    block: &[u8],
+    series: &mut [f64],
+    out: &mut [f64],
+    work: &mut [f64],
+    text: &mut [u8],
+) -> Place
     requires { ⌜ (due (place .sheet .stage) ≤ length (now block) - place .at) × Well (now block) place
         × Lent (now block) (now series) (now out) (now work) (now text) ⌝ }
     ensures { λ r. ⌜ Onward (now (block .entry)) place (now (series .entry)) (now (text .entry)) r (now (series .exit)) (now (text .exit)) ⌝ }
@@ -367,13 +426,58 @@ fn advance(place: Place, block: &[u8], series: &mut [f64], out: &mut [f64], work
     let stage = sheet.stage;
     match stage {
         Stage::Waiting => take_header(place, block, series, out, work, text),
-        Stage::Collecting(request, got) => take_prices(place, request, got, block, series, out, work, text),
+        Stage::Collecting(request, got) => take_prices(
+            place,
+            request,
+            got,
+            block,
+            series,
+            out,
+            work,
+            text,
+        ),
         Stage::Stopped => Place {
             sheet: sheet,
             at: block.len(),
             filled: place.filled,
         },
     }
+}
+
+// How many bytes the next line has.
+fn wanted(place: Place) -> usize
+    ensures { λ r. ⌜ r ≡ due (place .sheet .stage) ⌝ }
+{
+    let sheet = place.sheet;
+    let stage = sheet.stage;
+    match stage {
+        Stage::Waiting => 27,
+        Stage::Collecting(_, _) => 13,
+        Stage::Stopped => 1,
+    }
+}
+
+// Reads a block as far as its bytes make whole lines, and prints the answers from the start of the text on.
+pub fn feed(
+    sheet: Sheet,
+    block: &[u8],
+    series: &mut [f64],
+    out: &mut [f64],
+    work: &mut [f64],
+    text: &mut [u8],
+) -> Place
+    requires { ⌜ Sound (sheet .stage) × Lent (now block) (now series) (now out) (now work) (now text) ⌝ }
+    ensures { λ r. ⌜ Fed sheet (now (block .entry)) (now (series .entry)) r (now (series .exit)) (now (text .exit)) ⌝ }
+{
+    let mut place = Place {
+        sheet: sheet,
+        at: 0,
+        filled: 0,
+    };
+    while wanted(place) <= block.len() - place.at {
+        place = advance(place, block, series, out, work, text);
+    }
+    place
 }
 
 // Before the first request.

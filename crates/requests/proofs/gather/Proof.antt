@@ -42,8 +42,7 @@ returns c =
 returns-2 : tie.Need-returns-2
 returns-2 c =
     let a = c .before .before .before .before .before .before .args in
-    let more : a .got ≡ a .request .bars → ⊥ = c .if1 .left in
-    (
+    let more : a .got ≡ a .request .bars → ⊥ = c .if1 .left in (
       rw (waits (a .counts .refused) (a .request) (now (a .series)) (a .got) (omega arith) more) (record { state = refl; text = add-none; place = refl }),
       (omega arith, omega arith),
       omega arith,

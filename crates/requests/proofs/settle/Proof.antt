@@ -56,8 +56,7 @@ returns c =
     let call = given .answer .ensures in
     let most = few given in
     let a = given .before .before .before .before .before .before .before .args in
-    let f = ruleLine (a .request) (take (a .request .bars) (now (a .series))) in
-    (
+    let f = ruleLine (a .request) (take (a .request .bars) (now (a .series))) in (
       record {
         state = rw (c .after .ensures, call .answer);
         text = rw (← call .answer, ← text-same (a .request) (given .answer .result) f (now (a .out)) (omega arith), ← call .cells) (print .print-answer .ensures .0);

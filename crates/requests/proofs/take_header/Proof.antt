@@ -58,10 +58,12 @@ returns c =
     let told = stop .before .before in
     let start = told .before .before .before .before .before .before .before .before .before .before in
     let room = rw (start .pre .0) at (start .pre .2 .room) in
+    let block = now (start .args .block) in
+    let k = start .args .place .sheet .counts .refused in
     let (made, stage, filled) = stop .stop .ensures in
     let at-end = made [] .place in
     onward
-    (λ more. read (told .before .before) more ∙ rw (told .enum-told .given .1) (finally-broken _ _ (lines (drop (length (now (start .args .block))) (now (start .args .block)) ++ more))))
+    (λ more. read (told .before .before) more ∙ rw (told .enum-told .given .1) (finally-broken k (lines (drop (start .args .place .at + 27) block ++ more)) (lines (drop (length block) block ++ more))))
     (made _)
     (record { sound = rw stage tt; within = omega arith; room = rw stage (omega arith) })
     (omega arith)

@@ -91,11 +91,12 @@ returns-2 c =
     let run = test .before .before .before in
     let start = run .before .before .before .before .before .before .before .before .before in
     let block = now (start .args .block) in
+    let k = start .args .place .sheet .counts .refused in
     let room = rw (start .pre .0) at (start .pre .2 .room) in
     let (made, stage, filled) = stop .stop .ensures in
     let at-end = made [] .place in
     onward
-    (λ more. rw (start .pre .0, run .read-prices .ensures .same (start .args .place .sheet .counts .refused) more, test .if1 .left) (finally-broken _ _ (lines (drop (length block) block ++ more))))
+    (λ more. rw (start .pre .0, run .read-prices .ensures .same k more, test .if1 .left) (finally-broken k (lines (drop (run .read-prices .result .at) block ++ more)) (lines (drop (length block) block ++ more))))
     (made _)
     (record { sound = rw stage tt; within = omega arith; room = rw stage (omega arith) })
     (omega arith)
