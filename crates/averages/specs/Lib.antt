@@ -2,4 +2,9 @@
 pub mod Window
 pub mod Averages
 pub mod Eight
+pub mod Whole
+pub mod Ticks
 pub mod Stages
+pub mod Cases
+pub mod Exact
+pub mod Errors

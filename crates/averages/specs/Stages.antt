@@ -1,4 +1,4 @@
--- What the functions under `sma`, `ema` and `exponential_smoothing` ask of each other. Assumes nothing.
+-- What the functions under the averages ask of each other. Assumes nothing.
 use mathlib.Core.Path.{_≡_, sym, _∙_}
 use mathlib.Core.Bool.{Bool}
 use mathlib.Core.List.{List, [], _∷_}
@@ -8,6 +8,7 @@ use lib.ListN.{length, set}
 use lib.Ieee.{Float, nan}
 use Rattle.calls.specs.declared.Answer.{Answer}
 use Rattle.calls.specs.declared.Answer.the-variants.{Cells}
+use Rattle.calls.specs.Accepted.{tick}
 use Rattle.calls.specs.Answer.{answered}
 use Rattle.calls.specs.Room.{room, opened}
 use Rattle.calls.specs.Call.{Call, counted}
@@ -15,6 +16,7 @@ use Rattle.calls.specs.Line.{line, Led, lead-stands}
 use Rattle.calls.specs.Written.{Writing, none-written, step, ends, then-written}
 use Rattle.averages.specs.Window.{windowSum, over, Running, first-running}
 use Rattle.averages.specs.Eight.{WindowRoom}
+use Rattle.averages.specs.Ticks.{Ticks, TickRoom}
 use Rattle.averages.specs.Averages.{addDifference, smaLine, sma-cell, smoothLine}
 
 -- the first n cells of `sma` stand in `now`, which has room for the rest, and `sum` is that of the first n bars
@@ -70,3 +72,10 @@ module _ (ok : Float → Bool) (s : List Float) (n out : ℕ) {r : Answer} {k : 
   -- no cells
   pub none-called : {A : Type 0} {f : ℕ → A} {old : List A} → k ≤ 0 → Call (answered ok s (n ∷ []) out []) f old (Cells k) old
   none-called h = counted (sym q ∙ e) (ends none-written (omega arith))
+
+-- the same for whole ticks
+pub tick-room : (s : List Float) (n out : ℕ) {r : Answer} {k : ℕ} → r ≡ answered tick s (n ∷ []) out [] → r ≡ Cells k → 0 < k → TickRoom s n out
+tick-room s n out {k = k} e q h =
+    let w = window-room tick s n out e q h in
+    let ticks : Ticks s = record { each = room tick s (n ∷ []) out [] k (sym e ∙ q) .values } in
+    record { some = w .some; short = w .short; room = w .room; ticks = ticks }

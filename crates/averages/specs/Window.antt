@@ -78,6 +78,10 @@ module _ {slide : Float → Float → Float → Float} {f : Line} where
       let bar : n + (i - n) ≡ i = omega arith in
       record { is = rw (r .is, one, bar) }
 
+  -- the bar, written in another way
+  pub same-bar : {n i j : ℕ} {x : Float} → Running slide n f i x → i ≡ j → Running slide n f j x
+  same-bar r e = rw (← e) r
+
 -- a window's length is a float
 pub count-is-float : (n : ℕ) → n ≤ 4097 → T (inFloat binary64 (pos n))
 unfolding inFloat

@@ -1,19 +1,21 @@
-// Averages: each window summed afresh, one bar and eight bars side by side.
+// Averages: window sums and means, and the series functions made of them.
 use calls::Answer;
 use calls::Refusal;
 ghost use mathlib.Core.Path.{_≡_};
 ghost use mathlib.Core.List.{[], _∷_};
-ghost use Prim.Native.Nat.{_-_};
+ghost use Prim.Native.Nat.{_+_, _-_, _*_, _/_, _<_, _≤_};
 ghost use lib.ListN.{length};
+ghost use lib.IntN.{pos, natAbs};
 ghost use lib.Ieee.{nan};
-ghost use Rattle.calls.specs.Accepted.{accepted};
+ghost use Rattle.calls.specs.Accepted.{accepted, tick};
 ghost use Rattle.calls.specs.Answer.{answered};
 ghost use Rattle.calls.specs.Call.{Call};
-ghost use Rattle.calls.specs.Line.{line, Led};
+ghost use Rattle.calls.specs.Line.{line, fromBar, Led};
 ghost use Rattle.calls.specs.Written.{Writing};
 ghost use Rattle.averages.specs.Window.{windowSum, mean};
 ghost use Rattle.averages.specs.Eight.{Windows, WindowRoom, Eight, Begun, Reached};
-ghost use Rattle.averages.specs.Averages.{smaLine, blend, emaLine, exponentialLine, exponentialAnswer};
+ghost use Rattle.averages.specs.Averages.{smaLine, blend, emaLine, exponentialLine, exponentialAnswer, toTick, tickMeanLine};
+ghost use Rattle.averages.specs.Ticks.{TickRoom, Passed, TickRunning};
 ghost use Rattle.averages.specs.Stages.{Sliding, Leading, Seeded, Smooth};
 
 // A number for each of eight bars side by side.
@@ -151,7 +153,7 @@ pub fn write_means(series: &[f64], n: usize, means: &mut [f64])
     means_by_one(series, n, reached, means);
 }
 
-// Writes the running means from bar n on: the new price less the old one is added to the sum in one step.
+// Writes the running means from bar n on, two bars a turn: the new price less the old one is added to the sum in one step.
 fn slide_means(series: &[f64], n: usize, first: f64, out: &mut [f64])
     requires { ⌜ Sliding (now series) n first (now out) ⌝ }
     ensures { λ _. ⌜ Writing (length (now (series .entry))) (smaLine n (line (now (series .entry)))) (now (out .entry)) (now (out .exit)) ⌝ }
@@ -159,10 +161,15 @@ fn slide_means(series: &[f64], n: usize, first: f64, out: &mut [f64])
     let count = n as f64;
     let mut sum = first;
     let mut i = n;
-    while i < series.len() {
-        sum = sum + (series[i] - series[i - n]);
-        out[i] = sum / count;
-        i += 1;
+    while i + 2 <= series.len() {
+        let half = sum + (series[i] - series[i - n]);
+        sum = half + (series[i + 1] - series[i + 1 - n]);
+        out[i] = half / count;
+        out[i + 1] = sum / count;
+        i += 2;
+    }
+    if i < series.len() {
+        out[i] = (sum + (series[i] - series[i - n])) / count;
     }
 }
 
@@ -275,4 +282,78 @@ pub fn exponential_smoothing(series: &[f64], alpha: f64, out: &mut [f64]) -> Ans
     } else {
         Answer::Refused(Refusal::ParameterNotFinite)
     }
+}
+
+// size / n to a whole tick, a half up.
+fn half_up(size: usize, n: usize) -> usize
+    requires { ⌜ (0 < n) × (n ≤ 4096) × (size ≤ 68719476736) ⌝ }
+    ensures { λ r. ⌜ r ≡ (2 * size + n) / (2 * n) ⌝ }
+{
+    (2 * size + n) / (2 * n)
+}
+
+// z without its sign.
+fn size_of(z: i64) -> usize
+    requires { ⌜ natAbs z ≤ 68719476736 ⌝ }
+    ensures { λ r. ⌜ r ≡ natAbs z ⌝ }
+{
+    if z < 0 { (0 - z) as usize } else { z as usize }
+}
+
+// sum / n to a whole tick, a half away from zero.
+fn to_tick(sum: i64, n: usize) -> i64
+    requires { ⌜ (0 < n) × (n ≤ 4096) × (natAbs sum ≤ 68719476736) ⌝ }
+    ensures { λ r. ⌜ r ≡ toTick sum n ⌝ }
+{
+    let size = half_up(size_of(sum), n) as i64;
+    if sum < 0 { 0 - size } else { size }
+}
+
+// The sum of the last n ticks with bar i in it: the new tick is added, and the one that leaves the window is subtracted.
+fn next_sum(series: &[f64], n: usize, i: usize, sum: i64) -> i64
+    requires { ⌜ Passed (now series) n i sum ⌝ }
+    ensures { λ r. ⌜ TickRunning n (now (series .entry)) (i + 1) r ⌝ }
+{
+    let more = sum + (series[i] as i64);
+    if i < n {
+        more
+    } else {
+        more - (series[i - n] as i64)
+    }
+}
+
+// The cell of bar i, from the sum of its ticks.
+fn tick_cell(sum: i64, n: usize, i: usize) -> i64
+    requires { ⌜ (0 < n) × (n ≤ 4096) × (natAbs sum ≤ 68719476736) ⌝ }
+    ensures { λ r. ⌜ r ≡ fromBar (n - 1) (pos 0) (λ j. toTick sum n) i ⌝ }
+{
+    if i < n - 1 { 0 } else { to_tick(sum, n) }
+}
+
+// Writes the cells of `tick_mean`.
+fn write_tick_means(series: &[f64], n: usize, out: &mut [i64])
+    requires { ⌜ TickRoom (now series) n (length (now out)) ⌝ }
+    ensures { λ _. ⌜ Writing (length (now (series .entry))) (tickMeanLine n (line (now (series .entry)))) (now (out .entry)) (now (out .exit)) ⌝ }
+{
+    let mut sum = 0;
+    let mut i = 0;
+    while i < series.len() {
+        sum = next_sum(series, n, i, sum);
+        out[i] = tick_cell(sum, n, i);
+        i += 1;
+    }
+}
+
+// The mean of the last n whole ticks, to a whole tick.
+pub fn tick_mean(series: &[f64], n: usize, out: &mut [i64]) -> Answer
+    ensures { λ r. ⌜ Call (answered tick (now (series .entry)) (n ∷ []) (length (now (out .entry))) []) (tickMeanLine n (line (now (series .entry))))
+        (now (out .entry)) r (now (out .exit)) ⌝ }
+{
+    let due = calls::answer_tick_window(series, n, out.len());
+    if let Answer::Cells(count) = due {
+        if count > 0 {
+            write_tick_means(series, n, out);
+        }
+    }
+    due
 }

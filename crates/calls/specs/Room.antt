@@ -4,7 +4,7 @@ use mathlib.Core.Bool.{Bool, true, false, _&&_, _||_}
 use mathlib.Core.List.{List, [], _∷_, map}
 use Prim.Native.Nat.{ℕ, zero, suc, _*_, _<_, _≤_}
 use native.Mathlib.Omega.{arith}
-use borrow.Author.Tests.{leb-true, eq-eqb, eqb-false}
+use borrow.Author.Tests.{leb-true, eqb-true, eq-eqb, eqb-false}
 use lib.Dec.{leb, eqb}
 use lib.ListN.{length}
 use lib.Ieee.{Float}
@@ -119,33 +119,33 @@ pub record Open (l n k : ℕ) : Type 0 where
   pub narrow : n ≤ 4096
   pub whole : k ≡ l
 
-unless-cells : (t : Bool) (q : Refusal) (next : Answer) (k : ℕ) → unless t q next ≡ Cells k → (t ≡ true) × (next ≡ Cells k)
+pub unless-cells : (t : Bool) (q : Refusal) (next : Answer) (k : ℕ) → unless t q next ≡ Cells k → (t ≡ true) × (next ≡ Cells k)
 unless-cells true q next k e = (refl, e)
 unless-cells false q next k e = let z : _≡_ {A = ℕ} 0 1 = cc in absurd (omega arith)
 
-andThen-cells : (a next : Answer) (k : ℕ) → andThen a next ≡ Cells k → (a ≡ Cells (countOf a)) × (next ≡ Cells k)
+pub andThen-cells : (a next : Answer) (k : ℕ) → andThen a next ≡ Cells k → (a ≡ Cells (countOf a)) × (next ≡ Cells k)
 andThen-cells (Cells j) next k e = (refl, e)
 andThen-cells (Refused q) next k e = let z : _≡_ {A = ℕ} 0 1 = cc in absurd (omega arith)
 
-emptyIf-cells : (t : Bool) (next : Answer) (k : ℕ) → emptyIf t next ≡ Cells k → 0 < k → (t ≡ false) × (next ≡ Cells k)
+pub emptyIf-cells : (t : Bool) (next : Answer) (k : ℕ) → emptyIf t next ≡ Cells k → 0 < k → (t ≡ false) × (next ≡ Cells k)
 emptyIf-cells false next k e h = (refl, e)
 emptyIf-cells true next k e h = let z : 0 ≡ k = cc in absurd (omega arith)
 
-same-count : (j k : ℕ) → Cells j ≡ Cells k → j ≡ k
+pub same-count : (j k : ℕ) → Cells j ≡ Cells k → j ≡ k
 same-count j k e = cc
 
 positive : (n : ℕ) → (n ≡ 0 → ⊥) → 0 < n
 positive zero h = absurd (h refl)
 positive (suc n) h = omega arith
 
-nonzero : (n : ℕ) → eqb n 0 ≡ false → 0 < n
+pub nonzero : (n : ℕ) → eqb n 0 ≡ false → 0 < n
 nonzero n e = let h = eqb-false n 0 e in positive n h
 
-and-parts : (t u : Bool) → t && u ≡ true → (t ≡ true) × (u ≡ true)
+pub and-parts : (t u : Bool) → t && u ≡ true → (t ≡ true) × (u ≡ true)
 and-parts true u e = (refl, e)
 and-parts false u e = let z : _≡_ {A = ℕ} 0 1 = cc in absurd (omega arith)
 
-or-parts : (t u : Bool) → t || u ≡ false → (t ≡ false) × (u ≡ false)
+pub or-parts : (t u : Bool) → t || u ≡ false → (t ≡ false) × (u ≡ false)
 or-parts false u e = (refl, e)
 or-parts true u e = let z : _≡_ {A = ℕ} 0 1 = cc in absurd (omega arith)
 
@@ -187,3 +187,29 @@ opened ok s n out work k e h =
     let b = emptyIf-cells (eqb l 0 || eqb n 0) all-of-it k (a .1) h in
     let c = or-parts (eqb l 0) (eqb n 0) (b .0) in
     record { some = nonzero n (c .1); narrow = leb-true _ _ (a .0); whole = sym (same-count _ _ (b .1)) }
+
+-- three series of one length, and an output that has room for it
+pub record Three (s t u : List Float) (out : ℕ) : Type 0 where
+  pub second : length t ≡ length s
+  pub third : length u ≡ length s
+  pub out-long : length s ≤ out
+
+-- that is so of three series that were checked, and the count is that length
+pub checked-three-room : (ok : Float → Bool) (s t u : List Float) (out k : ℕ) → checked ok (s ∷ t ∷ u ∷ []) (out ∷ []) [] ≡ Cells k
+    → Three s t u out × (Cells (length s) ≡ Cells k)
+checked-three-room ok s t u out k e =
+    let lengths = slices (length s ∷ length t ∷ length u ∷ []) (out ∷ []) [] in
+    let last = andThen lengths (unless (all ok u) ValueNotAccepted (Cells (length u))) in
+    let later = andThen last (unless (all ok t) ValueNotAccepted (Cells (length t))) in
+    let one = andThen-cells later _ k (sym (checked-three ok s t u (out ∷ []) []) ∙ e) in
+    let two = andThen-cells last _ _ (one .0) in
+    let three = andThen-cells lengths _ _ (two .0) in
+    let a = unless-cells (leb (length s) 65536) _ _ _ (sym (slices-three (length s) (length t) (length u) out) ∙ three .0) in
+    let b = unless-cells (leb (length t) 65536) _ _ _ (a .1) in
+    let c = unless-cells (leb (length u) 65536) _ _ _ (b .1) in
+    let second = unless-cells (eqb (length t) (length s)) _ _ _ (c .1) in
+    let third = unless-cells (eqb (length u) (length s)) _ _ _ (second .1) in
+    let room = unless-cells (leb (length s) out) _ _ _ (third .1) in (
+      record { second = eqb-true _ _ (second .0); third = eqb-true _ _ (third .0); out-long = leb-true _ _ (room .0) },
+      unless-cells (all ok s) _ _ k (one .1) .1,
+    )

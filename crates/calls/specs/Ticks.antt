@@ -6,9 +6,10 @@ use native.Mathlib.Nat.{mul-one, zero-mul, mul-right-comm, div-add-mod', eq-of-m
 use native.Mathlib.Omega.{arith}
 use borrow.Author.Tests.{le-leb, lt-ltb, ltb-true, eqb-true, eqb-false, eq-eqb, ne-eqb}
 use lib.Dec.{T, leb, ltb, eqb, eqb·suc-zero, le→leb}
-use lib.IntN.{ℤ, pos, negsuc}
+use lib.IntN.{ℤ, pos, negsuc, negℤ, natAbs}
 use lib.Pow.{pow-pos}
-use lib.Ieee.{Float, nan, inf, fin, binary64, up, down, lt, eq, le, ofInt, toUnsigned, whole, inFloat}
+use lib.Ieee.{Float, nan, inf, fin, binary64, up, down, lt, eq, le, ofInt, toUnsigned, toSigned, whole, inSigned, inFloat}
+use lib.Ieee.Casts.{toSigned-cut}
 use lib.Ieee.Exact.{HasValue}
 use lib.Ieee.Back.{round-whole}
 use lib.Ieee.Fits.{down-pos}
@@ -179,3 +180,33 @@ tried (fin s m e) w =
 pub too-far : (x : Float) → le (magnitudeOf x) (fin false 1 (pos 24)) ≡ false → tick x ≡ false
 unfolding tick
 too-far x e = rw (← size-within x, e)
+
+-- ---- what is known of a whole tick
+
+-- it is an i64, of magnitude at most 2 ^ 24
+pub record Ticked (x : Float) : Type 0 where
+  pub castable : T (inSigned binary64 63 x)
+  pub near : natAbs (toSigned 63 x) ≤ 2 ^ 24
+
+size-signed : (s : Bool) (q : ℕ) → natAbs (cond s (negℤ (pos q)) (pos q)) ≡ q
+size-signed true zero = refl
+size-signed true (suc q) = refl
+size-signed false q = refl
+
+below-either : (s : Bool) (q : ℕ) → q ≤ 2 ^ 24 → cond s (leb q (2 ^ 63)) (ltb q (2 ^ 63)) ≡ true
+below-either true q h = le-leb q (2 ^ 63) (omega arith)
+below-either false q h = lt-ltb q (2 ^ 63) (omega arith)
+
+both : (t u : Bool) → t && u ≡ true → (t ≡ true) × (u ≡ true)
+both true u e = (refl, e)
+both false u e = let z : _≡_ {A = ℕ} 0 1 = cc in absurd (omega arith)
+
+pub ticked : (x : Float) → tick x ≡ true → Ticked x
+unfolding tick inSigned whole magnitudeOf
+ticked nan e = let broken = both (within 24 nan) false e .1 in let z : _≡_ {A = ℕ} 0 1 = cc in absurd (omega arith)
+ticked (inf s) e = let broken = both (within 24 (inf s)) false e .1 in let z : _≡_ {A = ℕ} 0 1 = cc in absurd (omega arith)
+ticked (fin s m e) t =
+    let parts = both (within 24 (fin s m e)) _ t in
+    let h = near s m e (size-within (fin s m e) ∙ parts .0) in
+    let castable : T (inSigned binary64 63 (fin s m e)) = rw (parts .1, below-either s (cut m e) h) tt in
+    record { castable = castable; near = rw (toSigned-cut binary64 63 s m e castable, size-signed s (cut m e)) h }

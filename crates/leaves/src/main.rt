@@ -13,17 +13,15 @@ struct Tally {
     magnitude: u64,
     sign: u64,
     whole: u64,
+    root: u64,
 }
 
 // 0 where x is the f64 of a pattern, else 1.
 fn miss(x: f64, bits: u64) -> u64
     ensures { λ r. ⌜ (r ≡ 0 → x ≡ ofBits binary64 bits) × (x ≡ ofBits binary64 bits → r ≡ 0) ⌝ }
 {
-    if records::floats::is_float_of(x, bits) {
-        0
-    } else {
-        1
-    }
+    let same = records::floats::is_float_of(x, bits);
+    if same { 0 } else { 1 }
 }
 
 // An answer as it is recorded.
@@ -50,12 +48,14 @@ fn with_line(words: &[u64], tally: Tally) -> Tally
     let magnitude = miss(rounding::magnitude(x), words[2]);
     let sign = miss(rounding::sign(x), words[3]);
     let whole = miss(rounding::round_to_whole(x), words[4]);
+    let root = miss(rounding::square_root(x), words[5]);
     Tally {
         compared: std::num::wrapping_add_u64(tally.compared, 1),
         is_nan: std::num::wrapping_add_u64(tally.is_nan, is_nan),
         magnitude: std::num::wrapping_add_u64(tally.magnitude, magnitude),
         sign: std::num::wrapping_add_u64(tally.sign, sign),
         whole: std::num::wrapping_add_u64(tally.whole, whole),
+        root: std::num::wrapping_add_u64(tally.root, root),
     }
 }
 
@@ -68,6 +68,7 @@ fn compare_all(block: &mut [u8], words: &mut [u64]) -> Tally {
         magnitude: 0,
         sign: 0,
         whole: 0,
+        root: 0,
     };
     let mut place = records::stream::start();
     let mut turns = u64::MAX;
@@ -100,4 +101,5 @@ fn main() {
     print_line(b"magnitude: ", tally.compared, tally.magnitude);
     print_line(b"sign: ", tally.compared, tally.sign);
     print_line(b"round_to_whole: ", tally.compared, tally.whole);
+    print_line(b"square_root: ", tally.compared, tally.root);
 }

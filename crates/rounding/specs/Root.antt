@@ -2,16 +2,16 @@
 -- IEEE 754-2019, 5.4.1 (squareRoot), with roundTiesToEven. Assumes nothing.
 pub mod Examples
 pub mod Meaning
+pub mod Neighbours
 pub mod Squares
 pub mod Steps
-pub mod Neighbours
 pub mod Units
 use Prim.Native.Nat.{ℕ, zero, suc, _+_, _-_, _*_, _/_, _^_, compare}
 use mathlib.Core.Bool.{true, false, cond}
 use lib.Dec.{leb}
 use lib.Ieee.{Float, nan, inf, fin, Format, prec, low, up, down, size, nearest, units}
 
--- The whole root of an n below 2 ^ d, rounded down. It is twice the root of n / 4, or one more where the square of that is at most n.
+-- The root of an n below 2 ^ d, rounded down to a whole number: twice the root of n / 4, or one more where the square of that is at most n.
 unfoldable pub rootBelow : ℕ → ℕ → ℕ
 rootBelow zero n = 0
 rootBelow (suc d) n = let r = 2 * rootBelow d (n / 4) in cond (leb ((r + 1) * (r + 1)) n) (r + 1) r
@@ -20,9 +20,9 @@ unfoldable pub root : ℕ → ℕ
 unfolding rootBelow size
 root n = rootBelow (size n) n
 
--- The value of the format f that is nearest to √n smallest values of f. Of the root's whole part the format keeps the `prec` leading digits
--- and drops k, so the root lies from q * 2 ^ k up to (q + 1) * 2 ^ k: it goes to the nearer one, by how 4 * n compares with the square of
--- their sum, and at a tie to the even one.
+-- The value of the format f that is nearest to √n, in units of f's smallest value. Of the root's whole part the format keeps the `prec` leading
+-- digits and drops k, so that √n lies from q * 2 ^ k up to (q + 1) * 2 ^ k. It goes to the nearer one: half their sum is the middle between them,
+-- so √n lies below or above the middle as 4 * n lies below or above the square of the sum. At a tie it goes to the even one.
 unfoldable pub nearestRoot : Format → ℕ → Float
 unfolding root size units
 nearestRoot f n =
@@ -31,12 +31,13 @@ nearestRoot f n =
     let sum = (2 * q + 1) * 2 ^ k in
     units f false (nearest q (compare (4 * n) (sum * sum))) k
 
--- how many smallest values of f make a finite number that f holds, whatever its sign
+-- a finite number of the format f in units of f's smallest value, whatever its sign
 abbrev pub inUnits : Format → Float → ℕ
 inUnits f nan = 0
 inUnits f (inf s) = 0
 inUnits f (fin s m e) = m * up e * 2 ^ low f / down e
 
+-- The root of a number in units, in units: √x is √(x * 2 ^ low f) where x is in units, since a unit is 2 ^ -low f.
 -- A zero is its own root, and so is the infinity above zero. A NaN and what is below zero have none.
 unfoldable pub sqrtOf : Format → Float → Float
 unfolding nearestRoot

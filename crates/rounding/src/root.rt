@@ -8,7 +8,7 @@ ghost use Rattle.rounding.specs.Root.{nearestRoot, sqrtOf};
 ghost use Rattle.rounding.specs.Root.Squares.{Closest};
 ghost use Rattle.rounding.specs.Root.Steps.{Digits, Square, Rooted};
 
-// 2 ^ 52, the weight of the first of 53 digits
+// 2 ^ 52: the weight of the first of 53 digits.
 const FIRST: u64 = 0x10_0000_0000_0000;
 
 // (h * h + e) / 2 ^ 52, by the halves of h, so that no number has more than 64 bits.
@@ -51,21 +51,11 @@ fn searched(m: u64) -> u64
     lo + 1
 }
 
-// The digits of a float from 1 up to 2, as a number of 53 digits.
-fn digits_of(x: f64) -> u64
-    ensures { λ r. ⌜ Digits r ⌝ }
-{
-    if x > 0.0 {
-        return FIRST + f64::to_bits(x) % FIRST;
-    }
-    FIRST
-}
-
-// A guess at the number closest to √(p * 2 ^ twice * 2 ^ 52), nearly always right: that of p * 2 ^ twice / 2 ^ 52, from 1 up to 4, by floats.
-// The first guess at the inverse root comes from the bits, three steps double its digits each, and the last one has an exact error.
-fn guess(p: u64, twice: u64) -> u64
+// A guess at the root of p * 2 ^ twice / 2 ^ 52, which lies from 1 up to 4. The first guess at the inverse root comes from the bits, and three
+// steps double its digits. In the last step a is s cut to 26 digits, so that a * a is exact and x - s * s is known to its last digits.
+// The guess is nearly always right, and only the speed rests on that.
+fn guess(p: u64, twice: u64) -> f64
     requires { ⌜ (Digits p) × (twice ≤ 1) ⌝ }
-    ensures { λ r. ⌜ Digits r ⌝ }
 {
     let bits = p + (1022 + twice) * FIRST;
     let x = f64::from_bits(bits);
@@ -82,15 +72,21 @@ fn guess(p: u64, twice: u64) -> u64
     let s = s2 * r2;
     let h = h2 * r2;
     let a = (s + 201326592.0) - 201326592.0;
-    digits_of(s + ((x - a * a) - (s - a) * (s + a)) * h)
+    s + ((x - a * a) - (s - a) * (s + a)) * h
 }
 
-// The number closest to √(m * 2 ^ 52): q, if it is, and else what a search finds.
-fn closest(m: u64, q: u64) -> u64
-    requires { ⌜ (Square m) × (Digits q) ⌝ }
+// The number closest to √(m * 2 ^ 52): the digits of a guess, if they pass the test, and else what a search finds.
+fn closest(m: u64, guess: f64) -> u64
+    requires { ⌜ Square m ⌝ }
     ensures { λ r. ⌜ Rooted m r ⌝ }
 {
-    if is_closest(m, q) { q } else { searched(m) }
+    if guess > 0.0 {
+        let q = FIRST + f64::to_bits(guess) % FIRST;
+        if is_closest(m, q) {
+            return q;
+        }
+    }
+    searched(m)
 }
 
 // The root of p * 2 ^ (e + 53) squares of the smallest f64.
@@ -103,7 +99,7 @@ fn root_of(p: u64, e: u64) -> f64
     f64::from_bits((e + 1) / 2 * FIRST + q)
 }
 
-// The root of t smallest f64s: the digits of t are moved up to be 53.
+// The root of t smallest f64s. The digits of t are moved up, so that there are 53.
 fn root_of_subnormal(t: u64) -> f64
     requires { ⌜ (0 < t) × (t < 2 ^ 52) ⌝ }
     ensures { λ r. ⌜ r ≡ nearestRoot binary64 (t * 2 ^ 1074) ⌝ }

@@ -18,7 +18,7 @@ use Rattle.calls.specs.Line.{Line, plusZero, fromBar, Causal, causal-self, caus
 use Rattle.rounding.specs.Leaves.{signOf}
 use Rattle.averages.specs.Averages.{two}
 use Rattle.averages.specs.Window.{mean, causal-mean, over, runningSum, runningSum-same}
-use Rattle.rules.specs.Extreme.{larger, smaller, extreme, causal-extreme}
+use Rattle.extremes.specs.Extreme.{larger, smaller, extreme, causal-extreme}
 
 -- ---- single_sma_positions: one average
 

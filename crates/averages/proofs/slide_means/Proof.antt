@@ -1,10 +1,11 @@
--- `slide_means` meets its contract: each turn moves the sum on by one bar and writes its mean. Assumes nothing.
-use Prim.Native.Nat.{_-_, _≤_}
+-- `slide_means` meets its contract: each turn moves the sum on by two bars and writes their means; then at most one bar is left.
+-- Assumes nothing.
+use Prim.Native.Nat.{_+_, _-_, _≤_}
 use native.Mathlib.Omega.{arith}
-use lib.ListN.{length}
+use lib.ListN.{length, length-set}
 use Rattle.calls.specs.Line.{line}
-use Rattle.calls.specs.Written.{Writing, one-more, ends}
-use Rattle.averages.specs.Window.{Running, next-running, count-is-float}
+use Rattle.calls.specs.Written.{Writing, one-more, step, ends}
+use Rattle.averages.specs.Window.{Running, next-running, same-bar, count-is-float}
 use Rattle.averages.specs.Averages.{addDifference, smaLine, sma-cell}
 use borrow.Author.Needs.{needs}
 use Rattle.averages.proofs.slide_means.Statement.{statement}
@@ -19,9 +20,21 @@ abbrev μ-loop : tie.MeasureT-loop
 
 loop-again : tie.Need-loop-again Inv-loop μ-loop
 loop-again c =
-    let at = c .before .before .before .loop in
+    let at = c .before .before .before .before .before .loop in
+    let half = next-running (at .inv .3) (omega arith) in
+    let next = next-running half (omega arith) in
+    let one = one-more (at .inv .2) (sma-cell _ _ _ half (omega arith)) (omega arith) in (
+      omega arith,
+      omega arith,
+      step (at .i + 1) (at .i + 2) one (sma-cell _ _ _ next (omega arith)) (omega arith),
+      same-bar next (omega arith),
+    )
+
+returns : tie.Need-returns Inv-loop μ-loop
+returns c =
+    let at = c .before .before .before .before .loop in
     let next = next-running (at .inv .3) (omega arith) in
-    (omega arith, omega arith, one-more (at .inv .2) (sma-cell _ _ _ next (omega arith)) (omega arith), next)
+    ends (one-more (at .inv .2) (sma-cell _ _ _ next (omega arith)) (omega arith)) (omega arith)
 
 pub slide-means-spec : {M : Type 1} → statement M
 slide-means-spec =
@@ -31,16 +44,36 @@ slide-means-spec =
     μ-loop
     (λ c. count-is-float _ (omega arith))  -- int-to-float-count
     (λ c. search needs)  -- loop-holds
+    (λ c. search needs)  -- add-loop
+    (λ c. search needs)  -- mul-half
+    (λ c. search needs)  -- shared-slice-read-half
+    (λ c. search needs)  -- sub-half
+    (λ c. search needs)  -- mul-half-2
+    (λ c. search needs)  -- shared-slice-read-half-2
+    (λ c. search needs)  -- add-sum
     (λ c. search needs)  -- mul-sum
     (λ c. search needs)  -- shared-slice-read-sum
+    (λ c. search needs)  -- add-sum-2
     (λ c. search needs)  -- sub-sum
     (λ c. search needs)  -- mul-sum-2
     (λ c. search needs)  -- shared-slice-read-sum-2
     (λ c. search needs)  -- mul-out
     (λ c. search needs)  -- slice-write-out
+    (λ c. search needs)  -- add-out
+    (λ c. search needs)  -- mul-out-2
+    (λ c. simp length-set (omega arith))  -- slice-write-out-2
     (λ c. search needs)  -- add-i
     (λ c. search needs)  -- loop-less
     loop-again
+    (λ c. search needs)  -- mul-out-3
+    (λ c. search needs)  -- shared-slice-read-out
+    (λ c. search needs)  -- sub-out
+    (λ c. search needs)  -- mul-out-4
+    (λ c. search needs)  -- shared-slice-read-out-2
+    (λ c. search needs)  -- mul-out-5
+    (λ c. search needs)  -- slice-write-out-3
     (λ c. search needs)  -- same-length
-    (λ c. ends (c .before .loop .inv .2) (omega arith))  -- returns
+    returns
+    (λ c. search needs)  -- same-length-2
+    (λ c. ends (c .before .before .loop .inv .2) (omega arith))  -- returns-2
     )

@@ -1,5 +1,5 @@
 -- `is_nan` meets its contract: only a NaN differs from itself. Assumes nothing.
-use Rattle.rounding.specs.Signs.{differs-nan}
+use Rattle.rounding.proofs.Patterns.{differs-nan}
 use Rattle.rounding.proofs.is_nan.Statement.{statement}
 use Rattle.rounding.proofs.is_nan.Tie as tie
 

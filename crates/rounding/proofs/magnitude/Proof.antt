@@ -4,7 +4,7 @@ use mathlib.Core.Bool.{Bool, false, not}
 use borrow.Author.Needs.{needs}
 use lib.Dec.{T}
 use lib.Ieee.{binary64, fits, isNan}
-use Rattle.rounding.specs.Signs.{magnitude-of-nan, lower-bits, lower-bits-nan}
+use Rattle.rounding.proofs.Patterns.{magnitude-of-nan, lower-bits, lower-bits-nan}
 use Rattle.rounding.proofs.magnitude.Statement.{statement}
 use Rattle.rounding.proofs.magnitude.Tie as tie
 

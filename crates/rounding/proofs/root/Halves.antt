@@ -10,9 +10,9 @@ parts a b w e =
     let left : (a * w + b) * (a * w + b) ≡ a * w * (a * w) + b * (a * w) + (a * w * b + b * b) =
     mul-add (a * w + b) (a * w) b ∙ ap (λ (x : ℕ). x + (a * w + b) * b) (add-mul (a * w) b (a * w)) ∙ ap (λ (x : ℕ). a * w * (a * w) + b * (a * w) + x) (add-mul (a * w) b b) in
     let right : (a * a * w + 2 * a * b) * w ≡ a * a * w * w + 2 * a * b * w = add-mul (a * a * w) (2 * a * b) w in
-    let first : a * w * (a * w) ≡ a * a * w * w = simp (mul-assoc, mul-comm, mul-left-comm) in
+    let first : a * w * (a * w) ≡ a * a * w * w = simp (mul-assoc, mul-left-comm) in
     let cross : b * (a * w) ≡ a * w * b = mul-comm b (a * w) in
-    let twice : 2 * a * b * w ≡ 2 * (a * w * b) = simp (mul-assoc, mul-comm, mul-left-comm) in
+    let twice : 2 * a * b * w ≡ 2 * (a * w * b) = simp (mul-assoc, mul-comm) in
     omega arith
 
 pub by-halves : (h e : ℕ) → let a = h / 2 ^ 26 in let b = h % 2 ^ 26 in a * a + (2 * a * b + (b * b + e) / 2 ^ 26) / 2 ^ 26 ≡ (h * h + e) / 2 ^ 52

@@ -6,7 +6,7 @@ use native.Mathlib.Omega.{arith}
 use borrow.Author.Needs.{needs}
 use lib.Dec.{T, le→leb}
 use lib.Ieee.{ofBits, inFloat, ofInt, toUnsigned}
-use Rattle.rounding.specs.ToWhole.{doubled, Halves, halves, whole-already}
+use Rattle.rounding.proofs.ToWhole.{doubled, Halves, halves, whole-already}
 use Rattle.rounding.proofs.round_to_whole.Statement.{statement}
 use Rattle.rounding.proofs.round_to_whole.Tie as tie
 

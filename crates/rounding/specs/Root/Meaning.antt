@@ -1,5 +1,5 @@
--- `sqrtOf` is right: no other float of the format is as near to the true root. So a tie never comes up, and the whole numbers that are
--- compared say what document and reader mean by "nearest". Assumes nothing.
+-- `sqrtOf` is the correctly rounded root: the true root is nearer to it than to any other float of the format (`nearest-root`, at the end).
+-- So there is never a tie. Assumes nothing.
 use mathlib.Core.Path.{_≡_, refl, sym, ap, _∙_, subst}
 use mathlib.Core.Bool.{false}
 use mathlib.Core.Logic.{_⊎_, inl, inr}
@@ -22,13 +22,13 @@ use Rattle.rounding.specs.Root.Units.{value-units, units-fits, made-some
 
 -- ---- the statement
 
--- √n is nearer to r than to y: it lies on r's side of the middle, which is half of r + y, so that 4 * n lies on that side of (r + y)²
+-- √n is nearer to r than to y: it lies on r's side of the middle between them, (r + y) / 2, so 4 * n lies on that side of (r + y)²
 pub record Nearer (n r y : ℕ) : Type 0 where
-  pub from-below : r < y → 4 * n < (r + y) * (r + y)
-  pub from-above : y < r → (r + y) * (r + y) < 4 * n
+  pub below-middle : r < y → 4 * n < (r + y) * (r + y)
+  pub above-middle : y < r → (r + y) * (r + y) < 4 * n
 
--- r is a float of the format f, finite and above zero, and √x is nearer to it than to any other finite float y of f. All are taken in smallest
--- values of f, and x in their squares. (Of y only its size counts: a y below zero is farther off than its size is.)
+-- r is a float of the format f, finite and above zero, and √x is nearer to r than to any other finite float y of f. All are in units of f's
+-- smallest value, and x in their squares. Of y the size is taken: a y below zero is farther from the root than its size is.
 pub record NearestRoot (f : Format) (x r : Float) : Type 0 where
   pub held : T (fits f r)
   pub above-zero : T (positive r)
@@ -85,11 +85,11 @@ double r = mul-mul-mul-comm 2 r 2 r
 nearer-at : (f : Format) (n q k z m j : ℕ) → Between f n q k
     → Chosen q z (4 * n) (sumOf q k * sumOf q k) → m < 2 ^ prec f → Nearer n (z * 2 ^ k) (m * 2 ^ j)
 nearer-at f n q k z m j b (inl (e, h)) short = subst (λ (x : ℕ). Nearer n (x * 2 ^ k) (m * 2 ^ j)) (sym e) (record {
-  from-below = λ l.
+  below-middle = λ l.
       let next = none-between f q k m j (b .full) short l in
       let s = sums q k in
       lt-of-lt-of-le h (square-le (omega arith));
-  from-above = λ l.
+  above-middle = λ l.
       let r = q * 2 ^ k in
       let less : (r + m * 2 ^ j) * (r + m * 2 ^ j) < 2 * r * (2 * r) = square-lt (omega arith) in
       let d = double r in
@@ -97,13 +97,13 @@ nearer-at f n q k z m j b (inl (e, h)) short = subst (λ (x : ℕ). Nearer n (x 
       omega arith;
 })
 nearer-at f n q k z m j b (inr (e, h)) short = subst (λ (x : ℕ). Nearer n (x * 2 ^ k) (m * 2 ^ j)) (sym e) (record {
-  from-below = λ l.
+  below-middle = λ l.
       let r = (q + 1) * 2 ^ k in
       let more : 2 * r * (2 * r) < (r + m * 2 ^ j) * (r + m * 2 ^ j) = square-lt (omega arith) in
       let d = double r in
       let high = b .high in
       omega arith;
-  from-above = λ l.
+  above-middle = λ l.
       let y-le : m * 2 ^ j < suc (q * 2 ^ k) = lt-of-not-le (λ (g : q * 2 ^ k < m * 2 ^ j). not-le-of-lt l (none-between f q k m j (b .full) short g)) in
       let s = sums q k in
       lt-of-le-of-lt (square-le (omega arith)) h;

@@ -1,5 +1,8 @@
 -- `closest` meets its contract: a guess that passed the test is closest, and so is what the search finds. Assumes nothing.
+use native.Mathlib.Omega.{arith}
 use borrow.Author.Needs.{needs}
+use lib.Ieee.{ofBits}
+use Rattle.rounding.proofs.root.Patterns.{above-is-number}
 use Rattle.rounding.proofs.root.closest.Statement.{statement}
 use Rattle.rounding.proofs.root.closest.Tie as tie
 
@@ -7,8 +10,10 @@ pub closest-spec : {M : Type 1} → statement M
 closest-spec =
     tie.close
     (tie.spec
+    (λ c. unfold ofBits in above-is-number (c .before .args .guess) (c .if1 .taken))  -- float-to-bits-q
+    (λ c. search needs)  -- add-q
     (λ c κs. search needs)  -- is-closest-requires
+    (λ c. record { digits = omega arith; closest = c .before .is-closest .ensures (c .if2 .taken) })  -- returns
     (λ c κs. search needs)  -- searched-requires
-    (λ c. record { digits = c .before .before .pre .1; closest = c .before .is-closest .ensures (c .if1 .taken) })  -- returns
     (λ c. search needs)  -- returns-2
     )

@@ -1,4 +1,4 @@
--- `guess` meets its contract: no bits on the way are a NaN's. That the guess is nearly always right is not proved; only speed rests on it. Assumes nothing.
+-- `guess` meets its contract: no bits on the way are a NaN's. Assumes nothing.
 use native.Mathlib.Omega.{arith}
 use borrow.Author.Needs.{needs}
 use Rattle.rounding.proofs.root.Patterns.{no-nan}
@@ -15,6 +15,5 @@ guess-spec =
     (λ c. no-nan _ (omega arith))  -- float-from-bits-x
     (λ c. search needs)  -- sub-y
     (λ c. no-nan _ (omega arith))  -- float-from-bits-y
-    (λ c κs. search needs)  -- digits-of-requires
     (λ c. search needs)  -- returns
     )

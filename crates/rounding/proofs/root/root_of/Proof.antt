@@ -11,7 +11,7 @@ use Rattle.rounding.proofs.root.root_of.Tie as tie
 closest-requires : tie.Need-closest-requires
 closest-requires c κs =
     let a = c .before .args in
-    (evened (a .p) (a .e) (c .before .pre .0) .square, c .guess .ensures)
+    evened (a .p) (a .e) (c .before .pre .0) .square
 
 returns : tie.Need-returns
 returns c =

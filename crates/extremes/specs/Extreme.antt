@@ -1,6 +1,6 @@
 -- The highest and the lowest of the last n cells. Assumes nothing.
 use mathlib.Core.Path.{_≡_, refl}
-use mathlib.Core.Bool.{cond}
+use mathlib.Core.Bool.{Bool, true, false, cond}
 use Prim.Native.Nat.{ℕ, zero, suc, _+_, _-_, _<_, _≤_}
 use native.Mathlib.Omega.{arith}
 use lib.Ieee.{Float, lt}
@@ -12,6 +12,11 @@ larger x y = cond (lt x y) y x
 
 abbrev pub smaller : Float → Float → Float
 smaller x y = cond (lt y x) y x
+
+-- the larger where the highest is asked, the smaller where the lowest is
+abbrev pub pickOf : Bool → Float → Float → Float
+pickOf true = larger
+pickOf false = smaller
 
 -- the cells f a, f (a + 1), .., f (a + k), joined from left to right by `pick`
 unfoldable pub pickFrom : (Float → Float → Float) → Line → ℕ → ℕ → Float

@@ -1,0 +1,15 @@
+-- `tegbalowu_true_range` meets its contract: it is the library's `true_range`, in numbers. Assumes nothing.
+use borrow.Author.Needs.{needs}
+use Rattle.capi.specs.Numbers.{in-numbers}
+use Rattle.capi.proofs.tegbalowu_true_range.Statement.{statement}
+use Rattle.capi.proofs.tegbalowu_true_range.Tie as tie
+
+pub tegbalowu-true-range-spec : {M : Type 1} → statement M
+tegbalowu-true-range-spec =
+    tie.close
+    (tie.spec
+    (λ c κs. search needs)  -- true-range-requires
+    (λ c κs. search needs)  -- numbers-requires
+    (λ c. search needs)  -- same-length
+    (λ c. search (needs, in-numbers))  -- returns
+    )

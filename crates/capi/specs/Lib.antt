@@ -1,0 +1,2 @@
+-- What the C functions promise, in numbers.
+pub mod Numbers

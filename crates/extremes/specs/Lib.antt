@@ -1,0 +1,6 @@
+-- The highest and the lowest of the last n cells.
+pub mod Extreme
+pub mod Order
+pub mod Best
+pub mod Part
+pub mod Blocks

@@ -1,0 +1,90 @@
+-- Exact on whole ticks. A series here is a list of f64, each a whole number from -16,777,216 to 16,777,216 (`WholeTicks`). Every sum and
+-- product named below is one of whole numbers, never rounded; what is said from a bar on holds there and at every later bar below the
+-- count k of the call's answer. Assumes nothing.
+use mathlib.Core.Path.{_≡_, sym, _∙_}
+use mathlib.Core.Bool.{cond}
+use mathlib.Core.List.{List, [], _∷_}
+use Prim.Native.Nat.{ℕ, _+_, _-_, _*_, _<_, _≤_}
+use native.Mathlib.Omega.{arith}
+use lib.IntN.{ℤ, pos, _+ℤ_, _*ℤ_}
+use lib.Signed.{ltZ}
+use lib.ListN.{length, getD}
+use lib.Ieee.{Float, nan, binary64}
+use Rattle.rounding.specs.Leaves.{plusOne, minusOne}
+use Rattle.rounding.specs.Nearest.{NearestTo}
+use Rattle.rounding.specs.Quotient.{quotient, Whole, quotient-nearest, quotient-zero}
+use Rattle.calls.specs.declared.Answer.the-variants.{Cells}
+use Rattle.calls.specs.Line.{plusZero, line}
+use Rattle.calls.specs.Written.{getD-written}
+use Rattle.rules.specs.Opened.{double-opened}
+use Rattle.rules.specs.Rules.{doubleLine}
+use Rattle.averages.specs.Exact.{window-whole, sma-exact}
+use Rattle.averages.specs.Errors.{windowTotal}
+use Rattle.guarantees.specs.Calls.{SmaCall, DoubleCall, SingleCall, MidCall}
+use Rattle.guarantees.specs.Series.{WholeTicks, price, whole-ticks, bar}
+use Rattle.guarantees.specs.Double.{double-exact}
+use Rattle.guarantees.specs.Single.{single-exact}
+use Rattle.guarantees.specs.Middle.{highest, lowest, middle-exact}
+
+-- the sum of the last n prices at bar i: its window sum
+abbrev pub windowSumOf : ℕ → List Float → ℕ → ℤ
+windowSumOf n s = windowTotal n (price s)
+
+-- the sum of the last n window sums at bar i
+abbrev pub D : ℕ → List Float → ℕ → ℤ
+D n s = windowTotal n (windowSumOf n s)
+
+-- the highest and the lowest of the last n window sums at bar i
+abbrev pub H : ℕ → List Float → ℕ → ℤ
+H n s = highest n (windowSumOf n s)
+
+abbrev pub W : ℕ → List Float → ℕ → ℤ
+W n s = lowest n (windowSumOf n s)
+
+-- -1 where a is less than b, else +1
+abbrev pub sideOf : ℤ → ℤ → Float
+sideOf a b = cond (ltZ a b) minusOne plusOne
+
+-- x is the f64 nearest z / n, ties to even, and +0.0 where z is 0
+pub record IsMean (z : ℤ) (n : ℕ) (x : Float) : Type 0 where
+  pub nearest : NearestTo binary64 z n x
+  pub zero : z ≡ pos 0 → x ≡ plusZero
+
+zero-mean : (z : ℤ) (n : ℕ) → Whole binary64 z n → z ≡ pos 0 → quotient binary64 z n ≡ plusZero
+zero-mean z n w e = rw e (quotient-zero (rw e at w))
+
+module _ {s out₀ out₁ : List Float} (w : WholeTicks s) (n : ℕ) {k : ℕ} where
+  -- sma, for every window to 4,096: from bar n - 1 each cell is the mean of the last n prices.
+  pub sma-on-ticks : SmaCall n s out₀ (Cells k) out₁ → (i : ℕ) → n ≤ i + 1 → i < k → IsMean (windowSumOf n s i) n (getD out₁ i nan)
+  sma-on-ticks c i b h =
+      let r = bar n s out₀ [] k i (sym (c .answer)) (c .cells) h in
+      let t = whole-ticks w in
+      let v = window-whole t n (r .some) (r .narrow) (i + 1 - n) (omega (arith, r .inside)) in
+      rw (r .cell, sma-exact t n (r .some) (r .narrow) i b (r .inside))
+      (record { nearest = quotient-nearest v; zero = λ e. zero-mean (windowSumOf n s i) n v e })
+
+  -- Double, for every n < m to 4,096: from bar m - 1 the cell is +1 exactly when m times the last n prices' sum is at least n times the last m
+  -- prices' sum, else -1.
+  pub double-on-ticks : (m : ℕ) → DoubleCall n m s out₀ (Cells k) out₁ → (i : ℕ) → m ≤ i + 1 → i < k
+      → getD out₁ i nan ≡ sideOf (windowSumOf n s i *ℤ pos m) (windowSumOf m s i *ℤ pos n)
+  double-on-ticks m c i b h =
+      let o = double-opened s n m (length out₀) k (sym (c .answer)) (omega arith) in
+      rw (c .cells, getD-written k (doubleLine n m (line s)) out₀ i nan h (omega arith))
+      (double-exact (whole-ticks w) n m i (o .some) (o .order) (o .narrow) b (omega arith))
+
+  module _ {work₀ work₁ : List Float} where
+    -- One average, for windows to 1,022: from bar 2n - 2 the cell has the sign of n · n · price - D, where that difference and D are not 0.
+    pub single-on-ticks : SingleCall n s out₀ work₀ (Cells k) out₁ work₁ → n ≤ 1022 → (i : ℕ) → 2 * n ≤ i + 2 → i < k
+        → ¬ (D n s i ≡ pos 0) → ¬ (price s i *ℤ pos (n * n) ≡ D n s i) → getD out₁ i nan ≡ sideOf (price s i *ℤ pos (n * n)) (D n s i)
+    single-on-ticks c l i b h x y =
+        let r = bar n s out₀ (length work₀ ∷ []) k i (sym (c .answer)) (c .cells) h in
+        r .cell ∙ single-exact (whole-ticks w) n i (r .some) l b (r .inside) x y
+
+    -- Middle, for every window to 4,096, with H and W the highest and the lowest of the last n window sums and S the present one: from bar
+    -- 2n - 2 the cell has the sign of 2 · S - (H + W), where that difference, H and W are not 0.
+    pub mid-on-ticks : MidCall n s out₀ work₀ (Cells k) out₁ work₁ → (i : ℕ) → 2 * n ≤ i + 2 → i < k
+        → ¬ (H n s i ≡ pos 0) → ¬ (W n s i ≡ pos 0) → ¬ (windowSumOf n s i *ℤ pos 2 ≡ H n s i +ℤ W n s i)
+        → getD out₁ i nan ≡ sideOf (windowSumOf n s i *ℤ pos 2) (H n s i +ℤ W n s i)
+    mid-on-ticks c i b h x y z =
+        let r = bar n s out₀ (length work₀ ∷ []) k i (sym (c .answer)) (c .cells) h in
+        r .cell ∙ middle-exact (whole-ticks w) n (r .some) (r .narrow) i b (r .inside) x y z

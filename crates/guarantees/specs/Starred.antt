@@ -1,0 +1,92 @@
+-- Document 01's starred cases, as one table that the definitions compute. Assumes nothing.
+use mathlib.Core.Path.{_≡_, refl}
+use mathlib.Core.Bool.{true, false}
+use mathlib.Core.List.{List, [], _∷_, map}
+use Prim.Native.Nat.{ℕ, zero, suc, _*_}
+use lib.IntN.{ℤ, pos, negsuc}
+use lib.ListN.{length}
+use lib.Ieee.{Float, nan, fin, binary64, add, sub, mul, div, ofInt, toSigned, whole, lt, eq, le, toBits}
+use Rattle.rounding.specs.Leaves.{signOf}
+use Rattle.calls.specs.declared.Answer.{Answer}
+use Rattle.calls.specs.declared.Answer.the-variants.{Cells}
+use Rattle.calls.specs.Accepted.{accepted, tick}
+use Rattle.calls.specs.Answer.{slices, checked, windowed, answered, countOf}
+use Rattle.calls.specs.Line.{line, fromBar}
+use Rattle.calls.specs.Recur.{recur}
+use Rattle.averages.specs.Window.{sumFrom, windowSum, mean, runningSum}
+use Rattle.averages.specs.Averages.{smaLine, smoothLine, emaLine, tickSum, toTick, tickMeanLine}
+use Rattle.rules.specs.Rules.{singleLine, runningMean, doubleLine, doubleAnswer}
+
+-- a cell of an output: an f64 or a whole number
+pub data Cell : Type 0 where
+  number : Float → Cell
+  ticks : ℤ → Cell
+
+-- a function with its parameters
+pub data Function : Type 0 where
+  sma ema tickMean oneAverage : ℕ → Function
+  double : ℕ → ℕ → Function
+
+pub record Case : Type 0 where
+  pub function : Function
+  pub series : List ℕ
+  pub answer : Answer
+  pub cells : List Cell
+
+abbrev pub num : ℕ → Float
+num k = ofInt binary64 (pos k)
+
+abbrev pub minusOne : Float
+minusOne = ofInt binary64 (negsuc 0)
+
+abbrev pub threeHalves : Float
+threeHalves = fin false 3 (negsuc 0)
+
+abbrev pub table : List Case
+table =
+    record { function = sma 2; series = 1 ∷ 2 ∷ 4 ∷ []; answer = Cells 3; cells = number nan ∷ number threeHalves ∷ number (num 3) ∷ [] }
+    ∷ record {
+      function = double 1 2;
+      series = 10 ∷ 12 ∷ 12 ∷ 11 ∷ [];
+      answer = Cells 4;
+      cells = number (num 0) ∷ number (num 1) ∷ number (num 1) ∷ number minusOne ∷ [];
+    }
+    ∷ record { function = oneAverage 2; series = 1 ∷ 3 ∷ 5 ∷ []; answer = Cells 3; cells = number (num 0) ∷ number (num 0) ∷ number (num 1) ∷ [] }
+    ∷ record {
+      function = ema 3;
+      series = 2 ∷ 4 ∷ 6 ∷ 10 ∷ [];
+      answer = Cells 4;
+      cells = number nan ∷ number nan ∷ number (num 4) ∷ number (num 7) ∷ [];
+    }
+    ∷ record { function = tickMean 2; series = 2 ∷ 3 ∷ []; answer = Cells 2; cells = ticks (pos 0) ∷ ticks (pos 3) ∷ [] }
+    ∷ []
+
+-- the first k cells of a line
+abbrev pub firstCells : {A : Type 0} → ℕ → (ℕ → A) → List A
+firstCells zero f = []
+firstCells (suc k) f = f 0 ∷ firstCells k (λ i. f (suc i))
+
+-- what the definitions answer and write, where the slices are just long enough
+abbrev pub answerOf : Function → List Float → Answer
+answerOf (sma n) s = answered accepted s (n ∷ []) (length s) []
+answerOf (ema n) s = answered accepted s (n ∷ []) (length s) []
+answerOf (tickMean n) s = answered tick s (n ∷ []) (length s) []
+answerOf (oneAverage n) s = answered accepted s (n ∷ []) (length s) (8 * length s ∷ [])
+answerOf (double n m) s = doubleAnswer s n m (length s)
+
+abbrev pub cellsOf : Function → List Float → ℕ → List Cell
+cellsOf (sma n) s k = map number (firstCells k (smaLine n (line s)))
+cellsOf (ema n) s k = map number (firstCells k (emaLine n (line s)))
+cellsOf (tickMean n) s k = map ticks (firstCells k (tickMeanLine n (line s)))
+cellsOf (oneAverage n) s k = map number (firstCells k (singleLine n (line s)))
+cellsOf (double n m) s k = map number (firstCells k (doubleLine n m (line s)))
+
+abbrev pub found : Case → Case
+found c =
+    let s = map num (c .series) in
+    let a = answerOf (c .function) s in
+    record { function = c .function; series = c .series; answer = a; cells = cellsOf (c .function) s (countOf a) }
+
+pub starred : map found table ≡ table
+unfolding smaLine smoothLine tickSum toTick tickMeanLine singleLine runningMean doubleLine doubleAnswer mean windowSum sumFrom runningSum recur fromBar slices checked windowed answered accepted tick signOf add sub mul div ofInt toSigned whole lt eq le toBits
+starred = refl

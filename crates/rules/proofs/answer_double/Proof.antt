@@ -1,0 +1,20 @@
+-- `answer_double` meets its contract: a refusal of the check stands, and else the windows' answer does. Assumes nothing.
+use Rattle.rules.specs.Rules.{doubleAnswer}
+use borrow.Author.Needs.{needs}
+use Rattle.rules.proofs.answer_double.Statement.{statement}
+use Rattle.rules.proofs.answer_double.Tie as tie
+
+enum-told : tie.Need-enum-told
+enum-told c = search needs
+
+pub answer-double-spec : {M : Type 1} → statement M
+answer-double-spec =
+    tie.close
+    (tie.spec
+    (λ c κs. search needs)  -- check-requires
+    enum-told
+    (λ c. unfold doubleAnswer in rw (← c .before .before .check .ensures, c .enum-told .given .1))  -- returns
+    (λ c. search needs)  -- enum-told-2
+    (λ c κs. search needs)  -- check-windows-requires
+    (λ c. unfold doubleAnswer in rw (← c .before .before .before .check .ensures, c .before .enum-told2 .given .1, c .check-windows .ensures))  -- returns-2
+    )

@@ -1,0 +1,139 @@
+-- The smoother's numbers a1 and b1 of the periods 1 to 512, as the bits of their f64. They are recorded once, by running pure.rs's two formulas,
+-- a1 = (-1.414 * PI / period).exp() and b1 = 2.0 * a1 * (1.414 * 180.0 / period).to_radians().cos():
+-- rustc 1.95.0, -O, x86_64-unknown-linux-gnu, exp and cos of glibc 2.36 on a processor with FMA. Assumes nothing.
+use mathlib.Core.List.{List, [], _∷_}
+use Prim.Native.Nat.{ℕ}
+
+unfoldable pub a1Bits : List ℕ
+a1Bits =
+    0x3f881acdd3cc3d45 ∷ 0x3fbbc5f046262c1c ∷ 0x3fcd1dbbdc422c00 ∷ 0x3fd5148247bc334c ∷ 0x3fda52abfc830e66 ∷ 0x3fde86272cca2f9c ∷ 0x3fe0f6f5fe0a988d ∷ 0x3fe25d7ff3b00b70 ∷
+    0x3fe388b48c5c4761 ∷ 0x3fe485b8f3bb9df6 ∷ 0x3fe55e3acf32cd4c ∷ 0x3fe61973e2adfd64 ∷ 0x3fe6bcde4c4fd708 ∷ 0x3fe74cb0d50ee1dd ∷ 0x3fe7cc3548c34a17 ∷ 0x3fe83e052a71d341 ∷
+    0x3fe8a434fc03701c ∷ 0x3fe900738bfcd64a ∷ 0x3fe95420eb7d5380 ∷ 0x3fe9a05f7fc33190 ∷ 0x3fe9e620db8869da ∷ 0x3fea262f88a24516 ∷ 0x3fea613691c5d87e ∷ 0x3fea97c76022c530 ∷
+    0x3feaca5e57120fe3 ∷ 0x3feaf9667b2df1c9 ∷ 0x3feb253c5dbe6560 ∷ 0x3feb4e3076d1eadd ∷ 0x3feb74890dd244f0 ∷ 0x3feb9883c8b53daf ∷ 0x3febba56f43ed385 ∷ 0x3febda3293927fa3 ∷
+    0x3febf84142268027 ∷ 0x3fec14a8f0c609ec ∷ 0x3fec2f8b847a82bb ∷ 0x3fec49075ccb4c0e ∷ 0x3fec6137c5ac419a ∷ 0x3fec78355899175c ∷ 0x3fec8e164fb09bf1 ∷ 0x3feca2eecd1ba9ea ∷
+    0x3fecb6d118a01997 ∷ 0x3fecc9cdd4ea1f88 ∷ 0x3fecdbf42dd17f11 ∷ 0x3feced5200a83a33 ∷ 0x3fecfdf3ff732ae8 ∷ 0x3fed0de5cfc80eca ∷ 0x3fed1d3225ee57b0 ∷ 0x3fed2be2dcc73a1c ∷
+    0x3fed3a010aecec05 ∷ 0x3fed4795156801a1 ∷ 0x3fed54a6c04bab95 ∷ 0x3fed613d3d7dc4a5 ∷ 0x3fed6d5f39e5b1a8 ∷ 0x3fed7912e934be9f ∷ 0x3fed845e10739984 ∷ 0x3fed8f460f7a95cc ∷
+    0x3fed99cfe9755453 ∷ 0x3feda4004c8e1c76 ∷ 0x3fedaddb98d98576 ∷ 0x3fedb765e697e8e2 ∷ 0x3fedc0a30bdf6288 ∷ 0x3fedc996a1becedd ∷ 0x3fedd24408e836c4 ∷ 0x3feddaae6def5b40 ∷
+    0x3fede2d8cd279257 ∷ 0x3fedeac5f62ad7db ∷ 0x3fedf2788f12d171 ∷ 0x3fedf9f3176b870b ∷ 0x3fee0137eae6b2e7 ∷ 0x3fee084943d5c97b ∷ 0x3fee0f293d702f0b ∷ 0x3fee15d9d5ea7a64 ∷
+    0x3fee1c5cf0632017 ∷ 0x3fee22b456a86cbd ∷ 0x3fee28e1badb4dce ∷ 0x3fee2ee6b8f20d2b ∷ 0x3fee34c4d81dd289 ∷ 0x3fee3a7d8c15760d ∷ 0x3fee40123647ef63 ∷ 0x3fee458426f8739d ∷
+    0x3fee4ad49e462154 ∷ 0x3fee5004cd20ed17 ∷ 0x3fee5515d62d578c ∷ 0x3fee5a08ce985240 ∷ 0x3fee5edebedc976e ∷ 0x3fee6398a37a9bcc ∷ 0x3fee68376da426d7 ∷ 0x3fee6cbc03dc868d ∷
+    0x3fee7127428e3de2 ∷ 0x3fee7579fc96fa13 ∷ 0x3fee79b4fbca895c ∷ 0x3fee7dd9016d7de1 ∷ 0x3fee81e6c6a81938 ∷ 0x3fee85defcf2100f ∷ 0x3fee89c24e77a99d ∷ 0x3fee8d915e78b3d4 ∷
+    0x3fee914cc9a1bb9a ∷ 0x3fee94f5265fef60 ∷ 0x3fee988b05300a70 ∷ 0x3fee9c0ef0e89fd2 ∷ 0x3fee9f816f00150c ∷ 0x3feea2e2ffce96ba ∷ 0x3feea6341ecc4b83 ∷ 0x3feea97542cc04a5 ∷
+    0x3feeaca6de32a6ab ∷ 0x3feeafc95f2b80a0 ∷ 0x3feeb2dd2fd9c3ee ∷ 0x3feeb5e2b6874ba2 ∷ 0x3feeb8da55d0de4d ∷ 0x3feebbc46cd012cd ∷ 0x3feebea15742fd42 ∷ 0x3feec1716db1c706 ∷
+    0x3feec435059251fc ∷ 0x3feec6ec716a0547 ∷ 0x3feec99800eddf92 ∷ 0x3feecc380120e904 ∷ 0x3feececcbc711d4c ∷ 0x3feed1567ad2e49d ∷ 0x3feed3d581db30d3 ∷ 0x3feed64a14d852b8 ∷
+    0x3feed8b474e999fb ∷ 0x3feedb14e115d143 ∷ 0x3feedd6b9660a6b1 ∷ 0x3feedfb8cfdf1012 ∷ 0x3feee1fcc6cab90c ∷ 0x3feee437b29488be ∷ 0x3feee669c8f64b57 ∷ 0x3feee8933e038b88 ∷
+    0x3feeeab44439a6dd ∷ 0x3feeeccd0c8f2768 ∷ 0x3feeeeddc6826c9c ∷ 0x3feef0e6a027ac79 ∷ 0x3feef2e7c63655c5 ∷ 0x3feef4e16415db70 ∷ 0x3feef6d3a3e9f0e2 ∷ 0x3feef8beae9e3e60 ∷
+    0x3feefaa2abf19468 ∷ 0x3feefc7fc280a46e ∷ 0x3feefe5617d0450d ∷ 0x3fef0025d057476e ∷ 0x3fef01ef0f87e344 ∷ 0x3fef03b1f7d8be81 ∷ 0x3fef056eaacd9598 ∷ 0x3fef072548ff88d8 ∷
+    0x3fef08d5f225133c ∷ 0x3fef0a80c519aeb5 ∷ 0x3fef0c25dfe529e1 ∷ 0x3fef0dc55fc2b2c6 ∷ 0x3fef0f5f61279a13 ∷ 0x3fef10f3ffc9d22d ∷ 0x3fef128356a62d21 ∷ 0x3fef140d80065c7d ∷
+    0x3fef15929586b5c8 ∷ 0x3fef1712b01bbe52 ∷ 0x3fef188de81780dc ∷ 0x3fef1a04552eaf7d ∷ 0x3fef1b760e7d9403 ∷ 0x3fef1ce32a8cd110 ∷ 0x3fef1e4bbf55f5df ∷ 0x3fef1fafe247e6c4 ∷
+    0x3fef210fa84b1c2f ∷ 0x3fef226b25c5ba01 ∷ 0x3fef23c26e9f80d5 ∷ 0x3fef251596459ae9 ∷ 0x3fef2664afae461a ∷ 0x3fef27afcd5c5c75 ∷ 0x3fef28f70162bcb2 ∷ 0x3fef2a3a5d6793f9 ∷
+    0x3fef2b79f2a78a28 ∷ 0x3fef2cb5d1f8d1cd ∷ 0x3fef2dee0bce1cfc ∷ 0x3fef2f22b039781c ∷ 0x3fef3053ceef0bab ∷ 0x3fef31817747c5fc ∷ 0x3fef32abb843edeb ∷ 0x3fef33d2a08d9f57 ∷
+    0x3fef34f63e7b3261 ∷ 0x3fef3616a0118e26 ∷ 0x3fef3733d30667c9 ∷ 0x3fef384de4c26e97 ∷ 0x3fef3964e26365f5 ∷ 0x3fef3a78d8be2dc2 ∷ 0x3fef3b89d460b9ea ∷ 0x3fef3c97e193f9bd ∷
+    0x3fef3da30c5dafa2 ∷ 0x3fef3eab608239d1 ∷ 0x3fef3fb0e9864c84 ∷ 0x3fef40b3b2b09e3e ∷ 0x3fef41b3c70b86a5 ∷ 0x3fef42b131669062 ∷ 0x3fef43abfc57fe91 ∷ 0x3fef44a4323e4620 ∷
+    0x3fef4599dd417ba0 ∷ 0x3fef468d0754b5e0 ∷ 0x3fef477dba3765c3 ∷ 0x3fef486bff76a3ad ∷ 0x3fef4957e06e72e2 ∷ 0x3fef4a41664afb41 ∷ 0x3fef4b289a09b996 ∷ 0x3fef4c0d847aa6f0 ∷
+    0x3fef4cf02e41573b ∷ 0x3fef4dd09fd60f6e ∷ 0x3fef4eaee186d39c ∷ 0x3fef4f8afb786d25 ∷ 0x3fef5064f5a76955 ∷ 0x3fef513cd7e910a7 ∷ 0x3fef5212a9ec56f8 ∷ 0x3fef52e6733ac4db ∷
+    0x3fef53b83b395a4d ∷ 0x3fef548809296b03 ∷ 0x3fef5555e4297486 ∷ 0x3fef5621d335ee49 ∷ 0x3fef56ebdd2a13fd ∷ 0x3fef57b408c0aa3d ∷ 0x3fef587a5c94bdd9 ∷ 0x3fef593edf225dce ∷
+    0x3fef5a0196c75038 ∷ 0x3fef5ac289c3c24b ∷ 0x3fef5b81be3af38c ∷ 0x3fef5c3f3a33dc65 ∷ 0x3fef5cfb0399d04a ∷ 0x3fef5db5203d1b7b ∷ 0x3fef5e6d95d39c99 ∷ 0x3fef5f2469f95a29 ∷
+    0x3fef5fd9a2311421 ∷ 0x3fef608d43e4d1a6 ∷ 0x3fef613f54666b0f ∷ 0x3fef61efd8f01054 ∷ 0x3fef629ed6a4cc00 ∷ 0x3fef634c529102bb ∷ 0x3fef63f851aaef98 ∷ 0x3fef64a2d8d31d25 ∷
+    0x3fef654becd4db71 ∷ 0x3fef65f39266b30f ∷ 0x3fef6699ce2ad52c ∷ 0x3fef673ea4af88d9 ∷ 0x3fef67e21a6f9594 ∷ 0x3fef688433d2ab28 ∷ 0x3fef6924f52dc6f7 ∷ 0x3fef69c462c396c5 ∷
+    0x3fef6a6280c4d912 ∷ 0x3fef6aff5350bb13 ∷ 0x3fef6b9ade753460 ∷ 0x3fef6c35262f606a ∷ 0x3fef6cce2e6bd5c3 ∷ 0x3fef6d65fb06fb44 ∷ 0x3fef6dfc8fcd5b32 ∷ 0x3fef6e91f07bf45a ∷
+    0x3fef6f2620c08944 ∷ 0x3fef6fb92439ed7f ∷ 0x3fef704afe78511c ∷ 0x3fef70dbb2fd8a62 ∷ 0x3fef716b453d5dbe ∷ 0x3fef71f9b89dc40f ∷ 0x3fef728710772f49 ∷ 0x3fef73135014cd7d ∷
+    0x3fef739e7ab4ca59 ∷ 0x3fef742893888f22 ∷ 0x3fef74b19db50139 ∷ 0x3fef75399c52bf31 ∷ 0x3fef75c0926e5c7b ∷ 0x3fef764683089bbf ∷ 0x3fef76cb7116a7e0 ∷ 0x3fef774f5f824bb9 ∷
+    0x3fef77d2512a2891 ∷ 0x3fef785448e1eb67 ∷ 0x3fef78d5497280fc ∷ 0x3fef7955559a48c7 ∷ 0x3fef79d4700d46b6 ∷ 0x3fef7a529b7553ea ∷ 0x3fef7acfda724e4f ∷ 0x3fef7b4c2f9a4736 ∷
+    0x3fef7bc79d79b0e5 ∷ 0x3fef7c4226938b2b ∷ 0x3fef7cbbcd618efc ∷ 0x3fef7d3494545923 ∷ 0x3fef7dac7dd393fb ∷ 0x3fef7e238c3e2052 ∷ 0x3fef7e99c1ea3d67 ∷ 0x3fef7f0f2125b00a ∷
+    0x3fef7f83ac35e8ee ∷ 0x3fef7ff765582a2b ∷ 0x3fef806a4ec1abf3 ∷ 0x3fef80dc6a9fc087 ∷ 0x3fef814dbb17f762 ∷ 0x3fef81be42483fb7 ∷ 0x3fef822e02470a2c ∷ 0x3fef829cfd2369e7 ∷
+    0x3fef830b34e534ed ∷ 0x3fef8378ab8d23d5 ∷ 0x3fef83e56314f0d7 ∷ 0x3fef84515d6f763a ∷ 0x3fef84bc9c88cc1d ∷ 0x3fef8527224665af ∷ 0x3fef8590f0872dc9 ∷ 0x3fef85fa0923a2f6 ∷
+    0x3fef86626dedf2ef ∷ 0x3fef86ca20b21587 ∷ 0x3fef87312335e70b ∷ 0x3fef879777394224 ∷ 0x3fef87fd1e76192e ∷ 0x3fef88621aa08f12 ∷ 0x3fef88c66d670fa7 ∷ 0x3fef892a18726790 ∷
+    0x3fef898d1d65dbab ∷ 0x3fef89ef7ddf4007 ∷ 0x3fef8a513b770e68 ∷ 0x3fef8ab257c07c5d ∷ 0x3fef8b12d44990e8 ∷ 0x3fef8b72b29b39be ∷ 0x3fef8bd1f4396019 ∷ 0x3fef8c309aa2fd2a ∷
+    0x3fef8c8ea7522e25 ∷ 0x3fef8cec1bbc47ee ∷ 0x3fef8d48f951ea5e ∷ 0x3fef8da5417f133b ∷ 0x3fef8e00f5ab30c3 ∷ 0x3fef8e5c173933ec ∷ 0x3fef8eb6a787a243 ∷ 0x3fef8f10a7f0a780 ∷
+    0x3fef8f6a19ca26ba ∷ 0x3fef8fc2fe65cb51 ∷ 0x3fef901b5711198d ∷ 0x3fef907325157ee2 ∷ 0x3fef90ca69b861f1 ∷ 0x3fef9121263b323d ∷ 0x3fef91775bdb7794 ∷ 0x3fef91cd0bd2e130 ∷
+    0x3fef92223757549a ∷ 0x3fef9276df9afc37 ∷ 0x3fef92cb05cc55a9 ∷ 0x3fef931eab163fd6 ∷ 0x3fef9371d0a008c3 ∷ 0x3fef93c4778d7b22 ∷ 0x3fef9416a0feebac ∷ 0x3fef94684e114632 ∷
+    0x3fef94b97fde1a83 ∷ 0x3fef950a377ba90b ∷ 0x3fef955a75fcef3b ∷ 0x3fef95aa3c71b3c2 ∷ 0x3fef95f98be69285 ∷ 0x3fef964865650866 ∷ 0x3fef9696c9f37ed6 ∷ 0x3fef96e4ba955737 ∷
+    0x3fef9732384af604 ∷ 0x3fef977f4411cdd2 ∷ 0x3fef97cbdee46a14 ∷ 0x3fef981809ba79bd ∷ 0x3fef9863c588d9aa ∷ 0x3fef98af13419ee5 ∷ 0x3fef98f9f3d420b4 ∷ 0x3fef9944682d0282 ∷
+    0x3fef998e71363da0 ∷ 0x3fef99d80fd72ad2 ∷ 0x3fef9a2144f48bbc ∷ 0x3fef9a6a11709421 ∷ 0x3fef9ab2762af301 ∷ 0x3fef9afa7400db87 ∷ 0x3fef9b420bcd0dd8 ∷ 0x3fef9b893e67dfbc ∷
+    0x3fef9bd00ca7451f ∷ 0x3fef9c16775ed86f ∷ 0x3fef9c5c7f5fe2dc ∷ 0x3fef9ca22579646e ∷ 0x3fef9ce76a781bfe ∷ 0x3fef9d2c4f268f09 ∷ 0x3fef9d70d44d116b ∷ 0x3fef9db4fab1ccf2 ∷
+    0x3fef9df8c318c8d3 ∷ 0x3fef9e3c2e43f102 ∷ 0x3fef9e7f3cf31d6f ∷ 0x3fef9ec1efe4191a ∷ 0x3fef9f0447d2a91c ∷ 0x3fef9f464578937e ∷ 0x3fef9f87e98da606 ∷ 0x3fef9fc934c7bce1 ∷
+    0x3fefa00a27dac930 ∷ 0x3fefa04ac378d77d ∷ 0x3fefa08b08521617 ∷ 0x3fefa0caf714db56 ∷ 0x3fefa10a906dabbd ∷ 0x3fefa149d5074011 ∷ 0x3fefa188c58a8b4a ∷ 0x3fefa1c7629ec078 ∷
+    0x3fefa205ace95888 ∷ 0x3fefa243a50e17f7 ∷ 0x3fefa2814baf146e ∷ 0x3fefa2bea16cba47 ∷ 0x3fefa2fba6e5d1f8 ∷ 0x3fefa3385cb78576 ∷ 0x3fefa374c37d6572 ∷ 0x3fefa3b0dbd16e8d ∷
+    0x3fefa3eca64c0e75 ∷ 0x3fefa428238428ee ∷ 0x3fefa463540f1cc5 ∷ 0x3fefa49e3880c8b4 ∷ 0x3fefa4d8d16b9031 ∷ 0x3fefa5131f60602c ∷ 0x3fefa54d22eeb3b7 ∷ 0x3fefa586dca498a0 ∷
+    0x3fefa5c04d0eb3fc ∷ 0x3fefa5f974b84697 ∷ 0x3fefa632542b315f ∷ 0x3fefa66aebeff9b4 ∷ 0x3fefa6a33c8dcdb1 ∷ 0x3fefa6db468a885b ∷ 0x3fefa7130a6ab5cc ∷ 0x3fefa74a88b19741 ∷
+    0x3fefa781c1e12724 ∷ 0x3fefa7b8b67a1d05 ∷ 0x3fefa7ef66fbf17b ∷ 0x3fefa825d3e4e203 ∷ 0x3fefa85bfdb1f4cb ∷ 0x3fefa891e4defc6d ∷ 0x3fefa8c789e69ba1 ∷ 0x3fefa8fced4248dc ∷
+    0x3fefa9320f6a51e8 ∷ 0x3fefa966f0d5df6a ∷ 0x3fefa99b91faf85b ∷ 0x3fefa9cff34e857c ∷ 0x3fefaa04154454af ∷ 0x3fefaa37f84f1c54 ∷ 0x3fefaa6b9ce07e8e ∷ 0x3fefaa9f03690c84 ∷
+    0x3fefaad22c58498e ∷ 0x3fefab05181cae60 ∷ 0x3fefab37c723ac22 ∷ 0x3fefab6a39d9af83 ∷ 0x3fefab9c70aa23bc ∷ 0x3fefabce6bff758a ∷ 0x3fefac002c43161f ∷ 0x3fefac31b1dd7e08 ∷
+    0x3fefac62fd363008 ∷ 0x3fefac940eb3bbe7 ∷ 0x3fefacc4e6bbc13b ∷ 0x3fefacf585b2f228 ∷ 0x3fefad25ebfd160f ∷ 0x3fefad5619fd0c3b ∷ 0x3fefad861014ce84 ∷ 0x3fefadb5cea573e4 ∷
+    0x3fefade5560f3308 ∷ 0x3fefae14a6b164d7 ∷ 0x3fefae43c0ea86eb ∷ 0x3fefae72a5183e0c ∷ 0x3fefaea15397589b ∷ 0x3fefaecfccc3d0f2 ∷ 0x3fefaefe10f8cfc6 ∷ 0x3fefaf2c2090ae77 ∷
+    0x3fefaf59fbe4f95d ∷ 0x3fefaf87a34e720e ∷ 0x3fefafb517251198 ∷ 0x3fefafe257c00ab9 ∷ 0x3fefb00f6575cc0b ∷ 0x3fefb03c409c0227 ∷ 0x3fefb068e98799cb ∷ 0x3fefb095608cc1ee ∷
+    0x3fefb0c1a5feedce ∷ 0x3fefb0edba30d702 ∷ 0x3fefb1199d747f74 ∷ 0x3fefb145501b3366 ∷ 0x3fefb170d2758b60 ∷ 0x3fefb19c24d36e28 ∷ 0x3fefb1c7478412a3 ∷ 0x3fefb1f23ad601be ∷
+    0x3fefb21cff171847 ∷ 0x3fefb247949488c3 ∷ 0x3fefb271fb9add44 ∷ 0x3fefb29c3475f92d ∷ 0x3fefb2c63f711af8 ∷ 0x3fefb2f01cd6ddfa ∷ 0x3fefb319ccf13c17 ∷ 0x3fefb34350098f76 ∷
+    0x3fefb36ca6689431 ∷ 0x3fefb395d0566a01 ∷ 0x3fefb3bece1a95d8 ∷ 0x3fefb3e79ffc0389 ∷ 0x3fefb4104641075d ∷ 0x3fefb438c12f5fa4 ∷ 0x3fefb461110c364b ∷ 0x3fefb489361c225e ∷
+    0x3fefb4b130a32993 ∷ 0x3fefb4d900e4c1c6 ∷ 0x3fefb500a723d279 ∷ 0x3fefb52823a2b645 ∷ 0x3fefb54f76a33c53 ∷ 0x3fefb576a066a9c1 ∷ 0x3fefb59da12dbb15 ∷ 0x3fefb5c47938a599 ∷
+    0x3fefb5eb28c718c0 ∷ 0x3fefb611b0183f83 ∷ 0x3fefb6380f6ac1b4 ∷ 0x3fefb65e46fcc555 ∷ 0x3fefb684570befe9 ∷ 0x3fefb6aa3fd567bc ∷ 0x3fefb6d00195d52b ∷ 0x3fefb6f59c8963ea ∷
+    0x3fefb71b10ebc441 ∷ 0x3fefb7405ef82c4a ∷ 0x3fefb76586e95927 ∷ 0x3fefb78a88f99037 ∷ 0x3fefb7af6562a048 ∷ 0x3fefb7d41c5de2c1 ∷ 0x3fefb7f8ae243ccf ∷ 0x3fefb81d1aee2087 ∷
+    0x3fefb84162f38e0d ∷ 0x3fefb865866c14ae ∷ 0x3fefb889858ed400 ∷ 0x3fefb8ad60927cf7 ∷ 0x3fefb8d117ad52fd ∷ 0x3fefb8f4ab152cff ∷ 0x3fefb9181aff7682 ∷ 0x3fefb93b67a130aa ∷ []
+
+unfoldable pub b1Bits : List ℕ
+b1Bits =
+    0xbf79bbffdd13fb8a ∷ 0xbfc0d0973d5b3223 ∷ 0x3fa4f2f3157a4889 ∷ 0x3fd2b9e494d670c4 ∷ 0x3fe0998d5c7a3af5 ∷ 0x3fe688903c4ff6f7 ∷ 0x3feb52d76190a219 ∷ 0x3fef363e41d6c1aa ∷
+    0x3ff133d5c45b0c00 ∷ 0x3ff287d3649737b3 ∷ 0x3ff3a6341d3f0fb5 ∷ 0x3ff49a387b65b71b ∷ 0x3ff56c5377e3e162 ∷ 0x3ff622f080ee7ba7 ∷ 0x3ff6c300634b6f75 ∷ 0x3ff7505d05a90b24 ∷
+    0x3ff7ce105a20b978 ∷ 0x3ff83e87512debfe ∷ 0x3ff8a3b6dc3fa69a ∷ 0x3ff8ff372359ff39 ∷ 0x3ff95257c3d72aa4 ∷ 0x3ff99e2f0da1ff2d ∷ 0x3ff9e3a59c87e499 ∷ 0x3ffa237f441a4c0e ∷
+    0x3ffa5e61fdd472f8 ∷ 0x3ffa94db582df80e ∷ 0x3ffac764c2e5e1f2 ∷ 0x3ffaf666fc7be07b ∷ 0x3ffb223cd362c3d5 ∷ 0x3ffb4b3560def51e ∷ 0x3ffb7195da512684 ∷ 0x3ffb959b0ee58c8d ∷
+    0x3ffbb77aa2948c71 ∷ 0x3ffbd7641398c0f8 ∷ 0x3ffbf58194a110b4 ∷ 0x3ffc11f8c3d68772 ∷ 0x3ffc2ceb45203081 ∷ 0x3ffc467744c2eddc ∷ 0x3ffc5eb7e6787c5e ∷ 0x3ffc75c5a44df499 ∷
+    0x3ffc8bb69ffa1246 ∷ 0x3ffca09ee8dc981a ∷ 0x3ffcb490b872dbce ∷ 0x3ffcc79ca6bc48bb ∷ 0x3ffcd9d1d7c828ac ∷ 0x3ffceb3e2370f37b ∷ 0x3ffcfbee381e36a7 ∷ 0x3ffd0bedb942d756 ∷
+    0x3ffd1b475a3073f6 ∷ 0x3ffd2a04f5c0c3a5 ∷ 0x3ffd382fa3420926 ∷ 0x3ffd45cfc9033e90 ∷ 0x3ffd52ed2ccee9bb ∷ 0x3ffd5f8f02981055 ∷ 0x3ffd6bbbf9932083 ∷ 0x3ffd777a47ec853e ∷
+    0x3ffd82cfb547c1b9 ∷ 0x3ffd8dc1a42c1ee0 ∷ 0x3ffd98551a7f047a ∷ 0x3ffda28ec927e0ca ∷ 0x3ffdac7312f5e717 ∷ 0x3ffdb60612dcd716 ∷ 0x3ffdbf4ba19b57c4 ∷ 0x3ffdc8475adb26e8 ∷
+    0x3ffdd0fca1d96512 ∷ 0x3ffdd96ea5a39077 ∷ 0x3ffde1a064f44566 ∷ 0x3ffde994b1b99146 ∷ 0x3ffdf14e344d855e ∷ 0x3ffdf8cf6e68bbd4 ∷ 0x3ffe001abdd5a5b1 ∷ 0x3ffe07325eeab830 ∷
+    0x3ffe0e186ed0e6ca ∷ 0x3ffe14ceed9b429e ∷ 0x3ffe1b57c03414e1 ∷ 0x3ffe21b4b223564b ∷ 0x3ffe27e77731ff2c ∷ 0x3ffe2df1aced513f ∷ 0x3ffe33d4dc0cebda ∷ 0x3ffe399279be33b5 ∷
+    0x3ffe3f2be8d757f2 ∷ 0x3ffe44a27af40562 ∷ 0x3ffe49f7717da665 ∷ 0x3ffe4f2bfea0e0ac ∷ 0x3ffe54414631d985 ∷ 0x3ffe59385e80a555 ∷ 0x3ffe5e12511f2600 ∷ 0x3ffe62d01b997f28 ∷
+    0x3ffe6772b0222c89 ∷ 0x3ffe6bfaf632af40 ∷ 0x3ffe7069cb21b149 ∷ 0x3ffe74c002af6b44 ∷ 0x3ffe78fe67890728 ∷ 0x3ffe7d25bbc3aaac ∷ 0x3ffe8136b94fc600 ∷ 0x3ffe853212653654 ∷
+    0x3ffe891871e8c010 ∷ 0x3ffe8cea7bcb59c4 ∷ 0x3ffe90a8cd63b748 ∷ 0x3ffe9453fdc27b6f ∷ 0x3ffe97ec9e016ee7 ∷ 0x3ffe9b73398e132a ∷ 0x3ffe9ee8566fe206 ∷ 0x3ffea24c758a83cf ∷
+    0x3ffea5a012dc40d1 ∷ 0x3ffea8e3a5b8ed8d ∷ 0x3ffeac17a1018c47 ∷ 0x3ffeaf3c7358da63 ∷ 0x3ffeb2528754fbfb ∷ 0x3ffeb55a43ae7463 ∷ 0x3ffeb8540b6c9700 ∷ 0x3ffebb403e0f98ce ∷
+    0x3ffebe1f37b86817 ∷ 0x3ffec0f1514e6d08 ∷ 0x3ffec3b6e0a353dd ∷ 0x3ffec6703894fe9c ∷ 0x3ffec91da92dba9f ∷ 0x3ffecbbf7fc2d43b ∷ 0x3ffece560711a0eb ∷ 0x3ffed0e1875b16ee ∷
+    0x3ffed362467e07b0 ∷ 0x3ffed5d8881010f9 ∷ 0x3ffed8448d755782 ∷ 0x3ffedaa695f71c82 ∷ 0x3ffedcfeded93e77 ∷ 0x3ffedf4da36eb48d ∷ 0x3ffee1931d2d12f2 ∷ 0x3ffee3cf83bf25a5 ∷
+    0x3ffee6030d16ae4c ∷ 0x3ffee82ded7d50f5 ∷ 0x3ffeea5057a4baf5 ∷ 0x3ffeec6a7cb60e41 ∷ 0x3ffeee7c8c609b27 ∷ 0x3ffef086b4e7f1b2 ∷ 0x3ffef28923315350 ∷ 0x3ffef48402d08d15 ∷
+    0x3ffef6777e144224 ∷ 0x3ffef863be11adaf ∷ 0x3ffefa48eaafe34b ∷ 0x3ffefc272ab29421 ∷ 0x3ffefdfea3c45f0d ∷ 0x3ffeffcf7a80b165 ∷ 0x3fff0199d27d3df2 ∷ 0x3fff035dce530f1a ∷
+    0x3fff051b8fa73934 ∷ 0x3fff06d337333182 ∷ 0x3fff0884e4ccce46 ∷ 0x3fff0a30b76df3e7 ∷ 0x3fff0bd6cd3bf32a ∷ 0x3fff0d77438e9c1c ∷ 0x3fff0f1236f70920 ∷ 0x3fff10a7c346258d ∷
+    0x3fff12380392f2d8 ∷ 0x3fff13c312408f54 ∷ 0x3fff154909040162 ∷ 0x3fff16ca00e9c9a2 ∷ 0x3fff1846125b3ebf ∷ 0x3fff19bd5523b547 ∷ 0x3fff1b2fe07575ba ∷ 0x3fff1c9dcaee8315 ∷
+    0x3fff1e072a9d33e8 ∷ 0x3fff1f6c15049fe0 ∷ 0x3fff20cc9f20e3a0 ∷ 0x3fff2228dd6b3cd0 ∷ 0x3fff2380e3ddffe5 ∷ 0x3fff24d4c5f8695e ∷ 0x3fff262496c24bf0 ∷ 0x3fff277068cf9d19 ∷
+    0x3fff28b84e43e184 ∷ 0x3fff29fc58d57a7f ∷ 0x3fff2b3c99d0d5e2 ∷ 0x3fff2c79221b8178 ∷ 0x3fff2db202372338 ∷ 0x3fff2ee74a44573e ∷ 0x3fff30190a0574b4 ∷ 0x3fff314750e13a86 ∷
+    0x3fff32722de564fc ∷ 0x3fff3399afc92d07 ∷ 0x3fff34bde4efb21e ∷ 0x3fff35dedb6a4f9c ∷ 0x3fff36fca0fade4d ∷ 0x3fff38174315e2f5 ∷ 0x3fff392ecee4aa95 ∷ 0x3fff3a4351475514 ∷
+    0x3fff3b54d6d6cef2 ∷ 0x3fff3c636be6bac8 ∷ 0x3fff3d6f1c874afc ∷ 0x3fff3e77f4870c6d ∷ 0x3fff3f7dff74a293 ∷ 0x3fff408148a0758f ∷ 0x3fff4181db1e52d8 ∷ 0x3fff427fc1c700c7 ∷
+    0x3fff437b0739c5b1 ∷ 0x3fff4473b5dde2e6 ∷ 0x3fff4569d7e40407 ∷ 0x3fff465d7747a327 ∷ 0x3fff474e9dd0620d ∷ 0x3fff483d55135910 ∷ 0x3fff4929a6745bcd ∷ 0x3fff4a139b273432 ∷
+    0x3fff4afb3c30d41a ∷ 0x3fff4be092687ddb ∷ 0x3fff4cc3a678e411 ∷ 0x3fff4da480e140f7 ∷ 0x3fff4e8329f66594 ∷ 0x3fff4f5fa9e3c107 ∷ 0x3fff503a08ac6026 ∷ 0x3fff51124e2be5d6 ∷
+    0x3fff51e882177c2d ∷ 0x3fff52bcabfebec5 ∷ 0x3fff538ed34c9e5a ∷ 0x3fff545eff483df9 ∷ 0x3fff552d3715ca05 ∷ 0x3fff55f981b7491b ∷ 0x3fff56c3e60d6740 ∷ 0x3fff578c6ad83b57 ∷
+    0x3fff585316b8072b ∷ 0x3fff5917f02df234 ∷ 0x3fff59dafd9cbf35 ∷ 0x3fff5a9c45497cf3 ∷ 0x3fff5b5bcd5c3217 ∷ 0x3fff5c199be08474 ∷ 0x3fff5cd5b6c65bc7 ∷ 0x3fff5d9023e28022 ∷
+    0x3fff5e48e8ef341a ∷ 0x3fff5f000b8ccadf ∷ 0x3fff5fb591423a60 ∷ 0x3fff60697f7da991 ∷ 0x3fff611bdb94fb04 ∷ 0x3fff61ccaac653d4 ∷ 0x3fff627bf2389f1f ∷ 0x3fff6329b6fc0e10 ∷
+    0x3fff63d5fe0a94a1 ∷ 0x3fff6480cc486331 ∷ 0x3fff652a26845cf5 ∷ 0x3fff65d211788b6e ∷ 0x3fff667891ca8eee ∷ 0x3fff671dac0c0c51 ∷ 0x3fff67c164bb17e9 ∷ 0x3fff6863c0429dc7 ∷
+    0x3fff6904c2fac76a ∷ 0x3fff69a471295ee7 ∷ 0x3fff6a42cf022f9e ∷ 0x3fff6adfe0a76493 ∷ 0x3fff6b7baa29e47a ∷ 0x3fff6c162f89ab74 ∷ 0x3fff6caf74b622b8 ∷ 0x3fff6d477d8e7608 ∷
+    0x3fff6dde4de1e724 ∷ 0x3fff6e73e9701f31 ∷ 0x3fff6f0853e97e3d ∷ 0x3fff6f9b90ef68d6 ∷ 0x3fff702da41493c3 ∷ 0x3fff70be90dd4e07 ∷ 0x3fff714e5abfc913 ∷ 0x3fff71dd05245f52 ∷
+    0x3fff726a9365d90c ∷ 0x3fff72f708d1afb3 ∷ 0x3fff738268a84f96 ∷ 0x3fff740cb61d5828 ∷ 0x3fff7495f457daa9 ∷ 0x3fff751e26729784 ∷ 0x3fff75a54f7c3a30 ∷ 0x3fff762b727793bf ∷
+    0x3fff76b0925bd410 ∷ 0x3fff7734b214c1c8 ∷ 0x3fff77b7d482f0f5 ∷ 0x3fff7839fc7bf888 ∷ 0x3fff78bb2ccaa694 ∷ 0x3fff793b682f336d ∷ 0x3fff79bab15f7397 ∷ 0x3fff7a390b0708ab ∷
+    0x3fff7ab677c79124 ∷ 0x3fff7b32fa38d716 ∷ 0x3fff7bae94e8fdf2 ∷ 0x3fff7c294a5caf3d ∷ 0x3fff7ca31d0f4654 ∷ 0x3fff7d1c0f72fb42 ∷ 0x3fff7d9423f10ca5 ∷ 0x3fff7e0b5ce9e8ae ∷
+    0x3fff7e81bcb55546 ∷ 0x3fff7ef745a29750 ∷ 0x3fff7f6bf9f89920 ∷ 0x3fff7fdfdbf6101c ∷ 0x3fff8052edd1a18c ∷ 0x3fff80c531ba06b5 ∷ 0x3fff8136a9d63027 ∷ 0x3fff81a75845684f ∷
+    0x3fff82173f1f7552 ∷ 0x3fff82866074ba3f ∷ 0x3fff82f4be4e577f ∷ 0x3fff83625aae4aab ∷ 0x3fff83cf378f8db4 ∷ 0x3fff843b56e6356a ∷ 0x3fff84a6ba9f8f5f ∷ 0x3fff851164a23f3a ∷
+    0x3fff857b56ce5b66 ∷ 0x3fff85e492fd8937 ∷ 0x3fff864d1b031879 ∷ 0x3fff86b4f0ac1e74 ∷ 0x3fff871c15bf9068 ∷ 0x3fff87828bfe5d75 ∷ 0x3fff87e855238821 ∷ 0x3fff884d72e43f2c ∷
+    0x3fff88b1e6eff619 ∷ 0x3fff8915b2f07d17 ∷ 0x3fff8978d88a1886 ∷ 0x3fff89db595b9800 ∷ 0x3fff8a3d36fe6cee ∷ 0x3fff8a9e7306c0b6 ∷ 0x3fff8aff0f038a70 ∷ 0x3fff8b5f0c7ea436 ∷
+    0x3fff8bbe6cfce00c ∷ 0x3fff8c1d31fe1c63 ∷ 0x3fff8c7b5cfd582f ∷ 0x3fff8cd8ef70c6ad ∷ 0x3fff8d35eac9e2b3 ∷ 0x3fff8d92507581b4 ∷ 0x3fff8dee21dbe661 ∷ 0x3fff8e496060d2f7 ∷
+    0x3fff8ea40d639b2b ∷ 0x3fff8efe2a3f35c3 ∷ 0x3fff8f57b84a4ded ∷ 0x3fff8fb0b8d75423 ∷ 0x3fff90092d348ee0 ∷ 0x3fff906116ac2af2 ∷ 0x3fff90b876844b84 ∷ 0x3fff910f4dff19e1 ∷
+    0x3fff91659e5ad4ed ∷ 0x3fff91bb68d1e04c ∷ 0x3fff9210ae9ad352 ∷ 0x3fff926570e887a3 ∷ 0x3fff92b9b0ea2791 ∷ 0x3fff930d6fcb3c3f ∷ 0x3fff9360aeb3bb7d ∷ 0x3fff93b36ec8155e ∷
+    0x3fff9405b12941a3 ∷ 0x3fff945776f4ccd8 ∷ 0x3fff94a8c144e539 ∷ 0x3fff94f991306766 ∷ 0x3fff9549e7caead2 ∷ 0x3fff9599c624ce03 ∷ 0x3fff95e92d4b4291 ∷ 0x3fff96381e4858fe ∷
+    0x3fff96869a230c4d ∷ 0x3fff96d4a1df4d69 ∷ 0x3fff9722367e0e59 ∷ 0x3fff976f58fd4d4b ∷ 0x3fff97bc0a581f5e ∷ 0x3fff98084b86bb4d ∷ 0x3fff98541d7e83e4 ∷ 0x3fff989f8132123c ∷
+    0x3fff98ea77913fec ∷ 0x3fff9935018930e2 ∷ 0x3fff997f20045d33 ∷ 0x3fff99c8d3ea9ab5 ∷ 0x3fff9a121e21266b ∷ 0x3fff9a5aff8aadd1 ∷ 0x3fff9aa3790757fa ∷ 0x3fff9aeb8b74ce8d ∷
+    0x3fff9b3337ae4695 ∷ 0x3fff9b7a7e8c8930 ∷ 0x3fff9bc160e5fc18 ∷ 0x3fff9c07df8eaa0d ∷ 0x3fff9c4dfb584b0f ∷ 0x3fff9c93b5124c83 ∷ 0x3fff9cd90d89d92d ∷ 0x3fff9d1e0589e112 ∷
+    0x3fff9d629ddb212b ∷ 0x3fff9da6d7442b04 ∷ 0x3fff9deab2896c3c ∷ 0x3fff9e2e306d35da ∷ 0x3fff9e7151afc390 ∷ 0x3fff9eb4170f42df ∷ 0x3fff9ef68147da11 ∷ 0x3fff9f389113af2a ∷
+    0x3fff9f7a472aeeaf ∷ 0x3fff9fbba443d252 ∷ 0x3fff9ffca912a78a ∷ 0x3fffa03d5649d60d ∷ 0x3fffa07dac99e62f ∷ 0x3fffa0bdacb18725 ∷ 0x3fffa0fd573d9534 ∷ 0x3fffa13cace91fc7 ∷
+    0x3fffa17bae5d6f68 ∷ 0x3fffa1ba5c420ba2 ∷ 0x3fffa1f8b73cc0d3 ∷ 0x3fffa236bff1a5e1 ∷ 0x3fffa274770321d3 ∷ 0x3fffa2b1dd11f161 ∷ 0x3fffa2eef2bd2c63 ∷ 0x3fffa32bb8a24b31 ∷
+    0x3fffa3682f5d2beb ∷ 0x3fffa3a4578817b0 ∷ 0x3fffa3e031bbc7b8 ∷ 0x3fffa41bbe8f6a66 ∷ 0x3fffa456fe98a83f ∷ 0x3fffa491f26ba8d1 ∷ 0x3fffa4cc9a9b177f ∷ 0x3fffa506f7b82849 ∷
+    0x3fffa5410a529c7c ∷ 0x3fffa57ad2f8c740 ∷ 0x3fffa5b452379233 ∷ 0x3fffa5ed889a81d7 ∷ 0x3fffa62676abba03 ∷ 0x3fffa65f1cf4022f ∷ 0x3fffa6977bfac9cb ∷ 0x3fffa6cf94462c67 ∷
+    0x3fffa707665af5e1 ∷ 0x3fffa73ef2bca683 ∷ 0x3fffa77639ed76ff ∷ 0x3fffa7ad3c6e5c6f ∷ 0x3fffa7e3fabf0c42 ∷ 0x3fffa81a755e0014 ∷ 0x3fffa850acc8797e ∷ 0x3fffa886a17a85d3 ∷
+    0x3fffa8bc53ef01d8 ∷ 0x3fffa8f1c49f9d61 ∷ 0x3fffa926f404deed ∷ 0x3fffa95be2962730 ∷ 0x3fffa99090c9b48c ∷ 0x3fffa9c4ff14a685 ∷ 0x3fffa9f92deb0127 ∷ 0x3fffaa2d1dbfb057 ∷
+    0x3fffaa60cf048b24 ∷ 0x3fffaa94422a5702 ∷ 0x3fffaac777a0cb04 ∷ 0x3fffaafa6fd69301 ∷ 0x3fffab2d2b3952b0 ∷ 0x3fffab5faa35a8bb ∷ 0x3fffab91ed3731c7 ∷ 0x3fffabc3f4a88b71 ∷
+    0x3fffabf5c0f3573f ∷ 0x3fffac2752803d83 ∷ 0x3fffac58a9b6f042 ∷ 0x3fffac89c6fe2dfe ∷ 0x3fffacbaaabbc480 ∷ 0x3fffaceb5554939d ∷ 0x3fffad1bc72c8fe6 ∷ 0x3fffad4c00a6c559 ∷
+    0x3fffad7c02255a00 ∷ 0x3fffadabcc09908a ∷ 0x3fffaddb5eb3cae0 ∷ 0x3fffae0aba838cab ∷ 0x3fffae39dfd77dd4 ∷ 0x3fffae68cf0d6cf6 ∷ 0x3fffae97888251d2 ∷ 0x3fffaec60c924fb4 ∷
+    0x3fffaef45b98b7cb ∷ 0x3fffaf2275f00b84 ∷ 0x3fffaf505bf1fed8 ∷ 0x3fffaf7e0df77a8e ∷ 0x3fffafab8c589e7b ∷ 0x3fffafd8d76cc3b7 ∷ 0x3fffb005ef8a7ed0 ∷ 0x3fffb032d507a1ed ∷
+    0x3fffb05f88393eef ∷ 0x3fffb08c0973a98e ∷ 0x3fffb0b8590a7965 ∷ 0x3fffb0e477508c06 ∷ 0x3fffb110649806f4 ∷ 0x3fffb13c213259ab ∷ 0x3fffb167ad703f90 ∷ 0x3fffb19309a1c1e3 ∷
+    0x3fffb1be361639ad ∷ 0x3fffb1e9331c519e ∷ 0x3fffb214010207f4 ∷ 0x3fffb23ea014b046 ∷ 0x3fffb26910a0f55e ∷ 0x3fffb29352f2db06 ∷ 0x3fffb2bd6755bfcb ∷ 0x3fffb2e74e145eb7 ∷
+    0x3fffb3110778d115 ∷ 0x3fffb33a93cc9024 ∷ 0x3fffb363f35876bf ∷ 0x3fffb38d2664c311 ∷ 0x3fffb3b62d391831 ∷ 0x3fffb3df081c7fc4 ∷ 0x3fffb407b7556b9a ∷ 0x3fffb4303b29b741 ∷
+    0x3fffb45893dea991 ∷ 0x3fffb480c1b8f63a ∷ 0x3fffb4a8c4fcbf4d ∷ 0x3fffb4d09ded96b6 ∷ 0x3fffb4f84cce7fc1 ∷ 0x3fffb51fd1e1f088 ∷ 0x3fffb5472d69d36e ∷ 0x3fffb56e5fa78889 ∷
+    0x3fffb59568dbe70d ∷ 0x3fffb5bc49473eb3 ∷ 0x3fffb5e301295919 ∷ 0x3fffb60990c17b1d ∷ 0x3fffb62ff84e6638 ∷ 0x3fffb656380e59d3 ∷ 0x3fffb67c503f1494 ∷ 0x3fffb6a2411dd5ae ∷
+    0x3fffb6c80ae75e26 ∷ 0x3fffb6edadd7f21b ∷ 0x3fffb7132a2b5a00 ∷ 0x3fffb738801ce3e1 ∷ 0x3fffb75dafe76495 ∷ 0x3fffb782b9c538f4 ∷ 0x3fffb7a79df0470d ∷ 0x3fffb7cc5ca1ff4d ∷
+    0x3fffb7f0f6135db0 ∷ 0x3fffb8156a7ceade ∷ 0x3fffb839ba16bd59 ∷ 0x3fffb85de5187a96 ∷ 0x3fffb881ebb9581c ∷ 0x3fffb8a5ce301c97 ∷ 0x3fffb8c98cb320f9 ∷ 0x3fffb8ed27785180 ∷ []

@@ -1,0 +1,210 @@
+// The ultimate smoother with its coefficients, and true range.
+mod table;
+
+use calls::Answer;
+use calls::Refusal;
+ghost use mathlib.Core.Path.{_≡_};
+ghost use mathlib.Core.List.{[], _∷_};
+ghost use Prim.Native.Nat.{_<_, _≤_};
+ghost use lib.ListN.{length};
+ghost use Rattle.calls.specs.Accepted.{accepted};
+ghost use Rattle.calls.specs.Answer.{checked};
+ghost use Rattle.calls.specs.Call.{Call};
+ghost use Rattle.calls.specs.Room.{Three};
+ghost use Rattle.calls.specs.Line.{line};
+ghost use Rattle.calls.specs.Written.{Writing};
+ghost use Rattle.extremes.specs.Extreme.{larger};
+ghost use Rattle.smoothers.specs.Coefficients.{ofPair, coefficients};
+ghost use Rattle.smoothers.specs.Smoother.{formula, smooth, smootherAnswer, Begun, Smoothed};
+ghost use Rattle.smoothers.specs.Period.{isPeriod, wholePart};
+ghost use Rattle.smoothers.specs.Range.{trueRange, trueRangeLine, Ranging};
+
+// What the smoother's step needs of its period.
+pub struct Coefficients {
+    pub c1: f64,
+    pub c2: f64,
+    pub c3: f64,
+}
+
+impl Coefficients {
+    // Period 0. Its c1 and c2 are NaN, which no constant holds today: here they are 0.0, and `of_period` divides each by itself.
+    const PERIOD_0: Coefficients = Coefficients {
+        c1: 0.0,
+        c2: 0.0,
+        c3: -0.0,
+    };
+
+    fn of_pair(a1: f64, b1: f64) -> Coefficients
+        ensures { λ r. ⌜ r ≡ ofPair a1 b1 ⌝ }
+    {
+        let c2 = b1;
+        let c3 = -a1 * a1;
+        Coefficients {
+            c1: (1.0 + c2 - c3) / 4.0,
+            c2: c2,
+            c3: c3,
+        }
+    }
+
+    // The coefficients of a whole period.
+    pub fn of_period(period: usize) -> Coefficients
+        requires { ⌜ period ≤ 512 ⌝ }
+        ensures { λ r. ⌜ r ≡ coefficients period ⌝ }
+    {
+        if period == 0 {
+            let zero = Coefficients::PERIOD_0;
+            return Coefficients {
+                c1: zero.c1 / zero.c1,
+                c2: zero.c2 / zero.c2,
+                c3: zero.c3,
+            };
+        }
+        Coefficients::of_pair(table::A1[period - 1], table::B1[period - 1])
+    }
+}
+
+// One cell, from the last three prices, the newest first, and the last two cells.
+pub fn step(c: Coefficients, p0: f64, p1: f64, p2: f64, us1: f64, us2: f64) -> f64
+    ensures { λ r. ⌜ r ≡ formula c p0 p1 p2 us1 us2 ⌝ }
+{
+    (1.0 - c.c1) * p0 + (2.0 * c.c1 - c.c2) * p1 - (c.c1 + c.c3) * p2 + c.c2 * us1 + c.c3 * us2
+}
+
+// Copies the first n cells.
+fn copy(from: &[f64], n: usize, to: &mut [f64])
+    requires { ⌜ (n ≤ length (now from)) × (n ≤ length (now to)) ⌝ }
+    ensures { λ _. ⌜ Writing n (line (now (from .entry))) (now (to .entry)) (now (to .exit)) ⌝ }
+{
+    let mut i = 0;
+    while i < n {
+        to[i] = from[i];
+        i += 1;
+    }
+}
+
+// Writes the cells from bar 4 on, where the first four stand.
+fn write_steps(price: &[f64], c: Coefficients, out: &mut [f64])
+    requires { ⌜ Begun c (now price) (now out) ⌝ }
+    ensures { λ _. ⌜ Smoothed c (now (price .entry)) (now (out .entry)) (now (out .exit)) ⌝ }
+{
+    let mut i = 4;
+    while i < price.len() {
+        out[i] = step(
+            c,
+            price[i],
+            price[i - 1],
+            price[i - 2],
+            out[i - 1],
+            out[i - 2],
+        );
+        i += 1;
+    }
+}
+
+// Writes the smoother's line of any series.
+pub fn write_smooth(price: &[f64], period: usize, out: &mut [f64])
+    requires { ⌜ (period ≤ 512) × (length (now price) ≤ length (now out)) ⌝ }
+    ensures { λ _. ⌜ Smoothed (coefficients period) (now (price .entry)) (now (out .entry)) (now (out .exit)) ⌝ }
+{
+    if price.len() <= 4 {
+        copy(price, price.len(), out);
+    } else {
+        copy(price, 4, out);
+        write_steps(price, Coefficients::of_period(period), out);
+    }
+}
+
+// Whether x is whole from 0 to 512.
+fn is_period(x: f64) -> bool
+    ensures { λ r. ⌜ r ≡ isPeriod x ⌝ }
+{
+    if x >= 0.0 {
+        if x <= 512.0 {
+            return std::num::truncating_f64_to_u64(x) as f64 == x;
+        }
+    }
+    false
+}
+
+// The ultimate smoother: see `smootherAnswer` and `smooth`.
+pub fn ultimate_smoother(price: &[f64], period: f64, out: &mut [f64]) -> Answer
+    ensures { λ r. ⌜ Call (smootherAnswer (now (price .entry)) period (length (now (out .entry))))
+        (smooth (coefficients (wholePart period)) (line (now (price .entry))))
+        (now (out .entry)) r (now (out .exit)) ⌝ }
+{
+    let due = calls::check(price, out.len());
+    if let Answer::Refused(_) = due {
+        return due;
+    }
+    if calls::is_finite(period) {
+        if is_period(period) {
+            let whole = std::num::truncating_f64_to_u64(period) as usize;
+            write_smooth(price, whole, out);
+            return Answer::Cells(price.len());
+        }
+        return Answer::Refused(Refusal::WindowTooLong);
+    }
+    Answer::Refused(Refusal::ParameterNotFinite)
+}
+
+// The larger of two, the first of equals.
+fn larger_of(x: f64, y: f64) -> f64
+    ensures { λ r. ⌜ r ≡ larger x y ⌝ }
+{
+    if x < y { y } else { x }
+}
+
+// The true range of a bar, from the close before it.
+pub fn range_of(high: f64, low: f64, before: f64) -> f64
+    ensures { λ r. ⌜ r ≡ trueRange high low before ⌝ }
+{
+    let above = rounding::magnitude(high - before);
+    let below = rounding::magnitude(low - before);
+    larger_of(larger_of(high - low, above), below)
+}
+
+// Writes the cell of bar 0, which has no close before it.
+fn write_first(high: &[f64], low: &[f64], close_prev: &[f64], out: &mut [f64])
+    requires { ⌜ (0 < length (now high)) × Three (now high) (now low) (now «close_prev») (length (now out)) ⌝ }
+    ensures { λ _. ⌜ Ranging 1 (now (high .entry)) (now (low .entry)) (now («close_prev» .entry)) (now (out .entry)) (now (out .exit)) ⌝ }
+{
+    out[0] = high[0] - low[0];
+}
+
+// Writes the cells after bar 0, where that one stands.
+fn write_rest(high: &[f64], low: &[f64], close_prev: &[f64], out: &mut [f64])
+    requires { ⌜ (0 < length (now high)) × Three (now high) (now low) (now «close_prev») (length (now out)) ⌝ }
+    requires { ⌜ Ranging 1 (now high) (now low) (now «close_prev») (now out) (now out) ⌝ }
+    ensures { λ _. ⌜ Ranging (length (now (high .entry))) (now (high .entry)) (now (low .entry)) (now («close_prev» .entry)) (now (out .entry)) (now (out .exit)) ⌝ }
+{
+    let mut i = 1;
+    while i < high.len() {
+        out[i] = range_of(high[i], low[i], close_prev[i]);
+        i += 1;
+    }
+}
+
+// Writes the true range of every bar.
+pub fn write_true_range(high: &[f64], low: &[f64], close_prev: &[f64], out: &mut [f64])
+    requires { ⌜ Three (now high) (now low) (now «close_prev») (length (now out)) ⌝ }
+    ensures { λ _. ⌜ Ranging (length (now (high .entry))) (now (high .entry)) (now (low .entry)) (now («close_prev» .entry)) (now (out .entry)) (now (out .exit)) ⌝ }
+{
+    if high.len() > 0 {
+        write_first(high, low, close_prev, out);
+        write_rest(high, low, close_prev, out);
+    }
+}
+
+// True range: see `trueRangeLine`.
+pub fn true_range(high: &[f64], low: &[f64], close_prev: &[f64], out: &mut [f64]) -> Answer
+    ensures { λ r. ⌜ Call (checked accepted (now (high .entry) ∷ now (low .entry) ∷ now («close_prev» .entry) ∷ []) (length (now (out .entry)) ∷ []) [])
+        (trueRangeLine (line (now (high .entry))) (line (now (low .entry))) (line (now («close_prev» .entry))))
+        (now (out .entry)) r (now (out .exit)) ⌝ }
+{
+    let due = calls::check_three(high, low, close_prev, out.len());
+    if let Answer::Refused(_) = due {
+        return due;
+    }
+    write_true_range(high, low, close_prev, out);
+    Answer::Cells(high.len())
+}

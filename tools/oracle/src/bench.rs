@@ -1,0 +1,109 @@
+//! Times per bar of the library and of pure.rs, in one run: outputs ready beforehand on our side, vectors on the source's.
+
+use std::hint::black_box;
+
+use crate::call::{Call, Value};
+use crate::catalogue::{self, Function, Role};
+use crate::clock::best_of_two;
+use crate::leaf;
+use crate::library::Lent;
+use crate::rng::Rng;
+
+const LENGTHS: &[usize] = &[512, 65_536];
+const WINDOWS: &[usize] = &[2, 5, 20, 60, 250, 1_000, 4_096];
+
+/// One line of the table.
+struct Row {
+    name: &'static str,
+    bars: usize,
+    window: String,
+    ours: f64,
+    source: f64,
+}
+
+impl Row {
+    fn ratio(&self) -> f64 {
+        self.source / self.ours
+    }
+
+    fn print(&self) {
+        println!("{:<24}{:>8}{:>10}{:>12.3}{:>12.3}{:>10.2}", self.name, self.bars, self.window, self.ours, self.source, self.ratio());
+    }
+}
+
+/// Prints the table; its last line is the smallest ratio of source to ours.
+pub fn run() {
+    println!("{:<24}{:>8}{:>10}{:>12}{:>12}{:>10}", "function", "L", "window", "ours ns/bar", "source", "ratio");
+    let mut rows: Vec<Row> = Vec::new();
+    for function in catalogue::exported() {
+        for bars in LENGTHS {
+            for window in windows(function, *bars) {
+                let row = measure(function, *bars, window);
+                row.print();
+                rows.push(row);
+            }
+        }
+    }
+    square_root();
+    if let Some(least) = rows.iter().min_by(|a, b| a.ratio().total_cmp(&b.ratio())) {
+        println!("smallest ratio {:.2}: {}, L {}, window {}", least.ratio(), least.name, least.bars, least.window);
+    }
+}
+
+/// The windows that a function is timed with: none for one without windows.
+fn windows(function: &Function, bars: usize) -> Vec<Option<usize>> {
+    if function.roles.contains(&Role::Window) { WINDOWS.iter().filter(|n| **n <= bars).map(|n| Some(*n)).collect() } else { vec![None] }
+}
+
+/// Both sides on a walk of whole ticks, by turns, and the best time of each.
+fn measure(function: &'static Function, bars: usize, window: Option<usize>) -> Row {
+    let call = Call {
+        series: (0..function.series).map(|place| walk(place as u64, bars)).collect(),
+        parameters: parameters(function, window),
+        out: bars,
+        work: if function.work { 8 * bars } else { 0 },
+    };
+    let library = function.library.unwrap();
+    let source = function.timed.unwrap_or(function.reckon);
+    let (mut out, mut work) = (Lent::new(), Lent::new());
+    out.fill(call.out, 1);
+    work.fill(call.work, 2);
+    let mut ours = || assert_eq!(library(&call, &mut out, &mut work).count, bars as u64);
+    let mut theirs = || source(&call);
+    let (ours, source) = best_of_two(&mut ours, &mut theirs);
+    let window = window.map_or("-".to_string(), |n| n.to_string());
+    Row { name: function.name, bars, window, ours: ours / bars as f64, source: source / bars as f64 }
+}
+
+/// The window last, half of it before; a factor of 0.1 and a period of 20.
+fn parameters(function: &Function, window: Option<usize>) -> Vec<Value> {
+    let windows = function.roles.iter().filter(|role| **role == Role::Window).count();
+    let value = |(place, role): (usize, &Role)| match role {
+        Role::Window => Value::Count(window.unwrap() >> (windows - 1 - place)),
+        Role::Real => Value::Real(0.1),
+        Role::Period => Value::Real(20.0),
+    };
+    function.roles.iter().enumerate().map(value).collect()
+}
+
+fn walk(seed: u64, bars: usize) -> Vec<f64> {
+    let mut rng = Rng::new(seed);
+    let mut price = 100_000;
+    let step = |_| {
+        price += rng.between(-40, 40);
+        price as f64
+    };
+    (0..bars).map(step).collect()
+}
+
+/// The library's square root beside the machine's instruction, a call each.
+fn square_root() {
+    let Some(root) = leaf::SQUARE_ROOT else { return };
+    let mut rng = Rng::new(1);
+    let numbers: Vec<f64> = (0..4_096).map(|_| rng.unit() * 1e9).collect();
+    let mut ours = || numbers.iter().for_each(|x| _ = black_box(root(*x)));
+    let mut machine = || numbers.iter().for_each(|x| _ = black_box(black_box(*x).sqrt()));
+    let (ours, machine) = best_of_two(&mut ours, &mut machine);
+    let each = |time: f64| time / numbers.len() as f64;
+    println!("square_root: {:.2} ns a call; the machine's instruction: {:.2}", each(ours), each(machine));
+}

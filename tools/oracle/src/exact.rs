@@ -1,0 +1,285 @@
+//! Demand 3 of document 01 on whole ticks: what the library's cells must be by whole-number arithmetic alone.
+
+use crate::call::{Call, Value};
+use crate::catalogue::{self, Function};
+use crate::generate;
+use crate::library::Lent;
+use crate::rng::Rng;
+
+const TICK_LIMIT: i64 = 16_777_216;
+const WINDOW_LIMIT: usize = 4_096;
+/// The largest window for which the one-average rule's sign is promised.
+const ONE_AVERAGE_LIMIT: usize = 720;
+const SHOWN: usize = 5;
+
+/// A promise, and how often it was looked at.
+struct Fact {
+    name: &'static str,
+    checked: usize,
+    wrong: usize,
+}
+
+impl Fact {
+    fn new(name: &'static str) -> Fact {
+        Fact { name, checked: 0, wrong: 0 }
+    }
+
+    fn check(&mut self, holds: bool, what: impl Fn() -> String) {
+        self.checked += 1;
+        if !holds {
+            self.wrong += 1;
+            if self.wrong <= SHOWN {
+                println!("{}: {}", self.name, what());
+            }
+        }
+    }
+
+    fn print(&self) {
+        println!("{}: {} cells, {} wrong", self.name, self.checked, self.wrong);
+    }
+}
+
+/// Each promise whose function is exported, on `series` series for each seed. True if none is broken.
+pub fn run(seeds: &[u64], series: usize) -> bool {
+    type Promise = (&'static str, &'static str, fn(&mut Rng, &Function, &mut Fact));
+    let promises: &[Promise] = &[
+        ("sma", "sma is nearest the true mean", sma),
+        ("double_sma_positions", "double decides as whole sums do", double),
+        ("single_sma_positions", "one average has the sign of n*n*price - D", one_average),
+        ("mid_positions", "middle has the sign of 2S - (H + W)", middle),
+    ];
+    let mut good = true;
+    for (function, name, promise) in promises {
+        let function = catalogue::named(function).unwrap();
+        let mut fact = Fact::new(name);
+        for seed in seeds.iter().filter(|_| function.library.is_some()) {
+            let mut rng = Rng::new(*seed);
+            (0..series).for_each(|_| promise(&mut rng, function, &mut fact));
+        }
+        if function.library.is_some() {
+            fact.print();
+        }
+        good &= fact.wrong == 0;
+    }
+    good & no_look_ahead(seeds, series)
+}
+
+/// The cells that the library gives for a call, or none where it is refused or answers with fewer than its bars.
+fn cells(function: &Function, call: &Call) -> Option<Vec<u64>> {
+    let (mut out, mut work) = (Lent::new(), Lent::new());
+    out.fill(call.bars(), 1);
+    work.fill(call.work, 2);
+    let answer = (function.library.unwrap())(call, &mut out, &mut work);
+    (answer.refusal == 0 && answer.count == call.bars() as u64).then(|| out.cells().to_vec())
+}
+
+fn of_ticks(function: &Function, ticks: &[i64], windows: &[usize]) -> Vec<f64> {
+    assert!(ticks.iter().all(|x| x.abs() <= TICK_LIMIT), "ticks beyond what is promised");
+    let call = Call {
+        series: vec![ticks.iter().map(|x| *x as f64).collect()],
+        parameters: windows.iter().map(|n| Value::Count(*n)).collect(),
+        out: ticks.len(),
+        work: if function.work { 8 * ticks.len() } else { 0 },
+    };
+    let cells = cells(function, &call).expect("whole ticks and windows in range are answered");
+    cells.into_iter().map(f64::from_bits).collect()
+}
+
+/// The sum of the last n at each bar from n-1 on, at place bar - (n-1).
+fn window_sums(ticks: &[i64], n: usize) -> Vec<i128> {
+    let mut before = vec![0i128];
+    before.extend(ticks.iter().scan(0i128, |sum, x| {
+        *sum += *x as i128;
+        Some(*sum)
+    }));
+    (n..=ticks.len()).map(|end| before[end] - before[end - n]).collect()
+}
+
+/// Ticks around a level: from all alike in size to a wide range, with room to shift each by twice the spread and a window.
+fn ticks(rng: &mut Rng, len: usize) -> Vec<i64> {
+    let spread = rng.pick(&[1, 3, 40, 1_000, 1 << 20, 1 << 22]);
+    let highest = TICK_LIMIT - 3 * spread - WINDOW_LIMIT as i64;
+    let anywhere = rng.between(-highest, highest);
+    let level = rng.pick(&[0, highest, -highest, anywhere]);
+    (0..len).map(|_| level + rng.between(-spread, spread)).collect()
+}
+
+/// A window from 1 to the limit, of any size with equal chance.
+fn window(rng: &mut Rng, limit: usize) -> usize {
+    let bits = rng.below(limit.ilog2() as usize + 1);
+    (1 + rng.below(2 << bits)).min(limit)
+}
+
+/// A fact's words for a bar that breaks it.
+fn at(bar: usize, windows: &[usize], cell: f64, ticks: &[i64]) -> String {
+    format!("bar {bar}, windows {windows:?}, cell {cell:?}, last ticks {:?}", &ticks[bar.saturating_sub(8)..=bar])
+}
+
+fn sma(rng: &mut Rng, function: &Function, fact: &mut Fact) {
+    let n = window(rng, WINDOW_LIMIT);
+    let extra = 1 + rng.below(60);
+    let ticks = ticks(rng, n + extra);
+    let cells = of_ticks(function, &ticks, &[n]);
+    for (sum, bar) in window_sums(&ticks, n).iter().zip(n - 1..) {
+        fact.check(is_nearest(cells[bar], *sum, n), || at(bar, &[n], cells[bar], &ticks));
+    }
+}
+
+/// Units of 2^-66 in which every mean here, and the numbers next to it, are whole.
+const UNIT_BITS: i32 = 66;
+
+fn units(x: f64) -> i128 {
+    let (exponent, fraction) = ((x.to_bits() >> 52 & 0x7ff) as i32, (x.to_bits() & ((1 << 52) - 1)) as i128);
+    let size = if x == 0.0 { 0 } else { (fraction | 1 << 52) << (exponent - 1075 + UNIT_BITS) };
+    if x < 0.0 { -size } else { size }
+}
+
+/// Whether no f64 is nearer to sum / n than the cell, and of two as near it is the even one; 0 is +0.0.
+fn is_nearest(cell: f64, sum: i128, n: usize) -> bool {
+    if sum == 0 || cell == 0.0 {
+        return sum == 0 && cell.to_bits() == 0;
+    }
+    let distance = |x: f64| (units(x) * n as i128 - (sum << UNIT_BITS)).abs();
+    let even = cell.to_bits() & 1 == 0;
+    [cell.next_up(), cell.next_down()].into_iter().all(|other| {
+        let (here, there) = (distance(cell), distance(other));
+        here < there || here == there && even
+    })
+}
+
+fn double(rng: &mut Rng, function: &Function, fact: &mut Fact) {
+    let m = window(rng, WINDOW_LIMIT).max(2);
+    let n = 1 + rng.below(m - 1);
+    let extra = rng.below(40);
+    let mut ticks = ticks(rng, m + extra);
+    nearly_equal_means(rng, &mut ticks, n, m);
+    let cells = of_ticks(function, &ticks, &[n, m]);
+    let (short, long) = (window_sums(&ticks, n), window_sums(&ticks, m));
+    for (place, bar) in (m - 1..ticks.len()).enumerate() {
+        let above = m as i128 * short[place + m - n] >= n as i128 * long[place];
+        let want = if above { 1.0 } else { -1.0 };
+        fact.check(cells[bar] == want, || at(bar, &[n, m], cells[bar], &ticks));
+    }
+}
+
+/// Shifts the ticks so that at the last bar m times the short sum and n times the long one differ by at most their common divisor.
+fn nearly_equal_means(rng: &mut Rng, ticks: &mut [i64], n: usize, m: usize) {
+    let (n, m, end) = (n as i64, m as i64, ticks.len());
+    let (recent, earlier) = (end - n as usize, end - m as usize);
+    let difference = |ticks: &[i64]| (m - n) * ticks[recent..].iter().sum::<i64>() - n * ticks[earlier..recent].iter().sum::<i64>();
+    let divisor = common_divisor(m, n);
+    let want = divisor * rng.between(-1, 1);
+    let present = difference(ticks);
+    let more = (0..n).find(|more| (present + more * (m - n) - want) % n == 0).unwrap();
+    ticks[end - 1] += more;
+    let shift = (difference(ticks) - want) / n;
+    let (each, left) = (shift.div_euclid(m - n), shift.rem_euclid(m - n));
+    for (place, tick) in ticks[earlier..recent].iter_mut().enumerate() {
+        *tick += each + (place < left as usize) as i64;
+    }
+    assert_eq!(difference(ticks), want);
+}
+
+fn common_divisor(a: i64, b: i64) -> i64 {
+    if b == 0 { a } else { common_divisor(b, a % b) }
+}
+
+fn one_average(rng: &mut Rng, function: &Function, fact: &mut Fact) {
+    let n = window(rng, ONE_AVERAGE_LIMIT);
+    let extra = rng.below(20);
+    let mut ticks = ticks(rng, 2 * n - 1 + extra);
+    let want = rng.between(-1, 1);
+    nearly_averaged(&mut ticks, n, want);
+    let cells = of_ticks(function, &ticks, &[n]);
+    let sums = window_sums(&ticks, n);
+    for bar in 2 * n - 2..ticks.len() {
+        let doubly: i128 = sums[bar + 2 - 2 * n..bar + 2 - n].iter().sum();
+        let difference = (n * n) as i128 * ticks[bar] as i128 - doubly;
+        assert!(bar + 1 < ticks.len() || n == 1 || difference == want as i128, "the last bar is not as near as it was made");
+        if difference != 0 && doubly != 0 {
+            let sign = difference.signum() as f64;
+            fact.check(cells[bar] == sign, || at(bar, &[n], cells[bar], &ticks));
+        }
+    }
+}
+
+/// Changes the last ticks so that n*n times the last one less D is `want`; a window of 1 is left, where both are the price.
+fn nearly_averaged(ticks: &mut [i64], n: usize, want: i64) {
+    let last = ticks.len() - 1;
+    let weight = |back: usize| (back + 1).min(2 * n - 1 - back) as i64;
+    let others = |ticks: &[i64]| (1..2 * n - 1).map(|back| weight(back) * ticks[last - back]).sum::<i64>();
+    if n == 1 {
+        return;
+    }
+    let squares = (n * n - 1) as i64;
+    ticks[last] = (others(ticks) + squares / 2).div_euclid(squares);
+    let left = squares * ticks[last] - others(ticks) - want;
+    ticks[last + 1 - n] += left.div_euclid(n as i64);
+    match left.rem_euclid(n as i64) {
+        0 => {}
+        1 => ticks[last + 2 - 2 * n] += 1,
+        rest => ticks[last + 1 - rest as usize] += 1,
+    }
+}
+
+fn middle(rng: &mut Rng, function: &Function, fact: &mut Fact) {
+    let limit = if rng.one_in(40) { WINDOW_LIMIT } else { 600 };
+    let n = window(rng, limit);
+    let extra = rng.below(20);
+    let mut ticks = ticks(rng, 2 * n - 1 + extra);
+    nearly_in_the_middle(rng, &mut ticks, n);
+    let cells = of_ticks(function, &ticks, &[n]);
+    let sums = window_sums(&ticks, n);
+    for bar in 2 * n - 2..ticks.len() {
+        let recent = &sums[bar + 2 - 2 * n..bar + 2 - n];
+        let (high, low) = (*recent.iter().max().unwrap(), *recent.iter().min().unwrap());
+        let difference = 2 * recent[n - 1] - (high + low);
+        if difference != 0 && high != 0 && low != 0 {
+            let sign = difference.signum() as f64;
+            fact.check(cells[bar] == sign, || at(bar, &[n], cells[bar], &ticks));
+        }
+    }
+}
+
+/// Changes the last tick so that twice the last sum is at most 1 from the highest plus the lowest sum before it, where that tick is in range.
+fn nearly_in_the_middle(rng: &mut Rng, ticks: &mut [i64], n: usize) {
+    let last = ticks.len() - 1;
+    let sums = window_sums(ticks, n);
+    let (present, before) = sums.split_last().unwrap();
+    let before = &before[before.len() - (n - 1)..];
+    if let (Some(high), Some(low)) = (before.iter().max(), before.iter().min()) {
+        let want = (high + low + rng.between(-1, 1) as i128).div_euclid(2);
+        let tick = ticks[last] + (want - present) as i64;
+        ticks[last] = tick.clamp(-TICK_LIMIT, TICK_LIMIT);
+    }
+}
+
+/// Two calls with equal bars up to a bar b have the same cells up to b, though their later bars differ.
+fn no_look_ahead(seeds: &[u64], series: usize) -> bool {
+    let mut fact = Fact::new("no look-ahead");
+    for function in catalogue::exported() {
+        for seed in seeds {
+            let mut rng = Rng::new(!seed);
+            (0..series).for_each(|_| earlier_cells(&mut rng, function, &mut fact));
+        }
+    }
+    fact.print();
+    fact.wrong == 0
+}
+
+fn earlier_cells(rng: &mut Rng, function: &Function, fact: &mut Fact) {
+    let whole = generate::random(rng, function);
+    if whole.series.iter().any(|s| s.is_empty() || s.len() != whole.bars()) {
+        return;
+    }
+    let shared = 1 + rng.below(whole.bars());
+    let len = shared + rng.below(30);
+    let mut other = generate::plain(rng, function, len, whole.parameters.clone());
+    for (to, from) in other.series.iter_mut().zip(&whole.series) {
+        to[..shared].copy_from_slice(&from[..shared]);
+    }
+    if let (Some(a), Some(b)) = (cells(function, &whole), cells(function, &other)) {
+        let same = (0..shared).find(|bar| !function.kind.same(a[*bar], b[*bar]));
+        fact.check(same.is_none(), || format!("{} at bar {same:?} of {shared} shared", function.name));
+    }
+}

@@ -1,0 +1,13 @@
+//! What a call must leave: document 01's table for the answer, pure.rs for the cells.
+
+use crate::call::{Call, Expected};
+use crate::catalogue::Function;
+use crate::table;
+
+pub fn expected(function: &Function, call: &Call) -> Expected {
+    let answer = table::answer(function, call);
+    let cleared = table::cleared(function, call, answer);
+    let cells = if answer.refusal == 0 { (function.source)(call) } else { Vec::new() };
+    assert_eq!(cells.len() as u64, answer.count, "{} gives another number of cells than document 01", function.name);
+    Expected { answer, cells, cleared }
+}
