@@ -269,7 +269,15 @@ fn answer(request: Request, series: &[f64], out: &mut [f64], work: &mut [f64]) -
     ensures { λ r. ⌜ Call (ruleAnswer request (take (request .bars) (now (series .entry)))) (ruleLine request (take (request .bars) (now (series .entry))))
         (now (out .entry)) r (now (out .exit)) ⌝ }
 {
-    Answer::Cells(0)
+    let bars = request.bars;
+    let prices = &series[..bars];
+    if request.rule == 1 {
+        rules::single_sma_positions(prices, request.n, out, work)
+    } else if request.rule == 2 {
+        rules::double_sma_positions(prices, request.n, request.m, out)
+    } else {
+        rules::mid_positions(prices, request.n, out, work)
+    }
 }
 
 // Prints an answer from `at` on, with the positions in `cells`, and gives the place after it.
