@@ -101,3 +101,8 @@ pub record Finished (sheet : Sheet) (kept : ℕ) (text : List ℕ) : Type 0 wher
 pub record Kept (from to : ℕ) (old : List ℕ) (r : ℕ) (now : List ℕ) : Type 0 where
   pub count : r ≡ to - from
   pub bytes : take r now ≡ slice from to old
+
+-- What holds between two blocks: `kept` bytes are left, too few for the next line.
+pub record Between (sheet : Sheet) (kept : ℕ) : Type 0 where
+  pub sound : Sound (sheet .stage)
+  pub few : kept < due (sheet .stage)
