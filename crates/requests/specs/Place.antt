@@ -92,10 +92,11 @@ pub record Ran (block : List ℕ) (at : ℕ) (r : Request) (got : ℕ) (old : Li
   pub within : run .at ≤ length block
   pub long : length now ≡ length old
 
--- The text is all that is still to be printed where the input ends, after bytes that are too few for a line.
-pub record Finished (sheet : Sheet) (kept : ℕ) (text : List ℕ) : Type 0 where
+-- The first r bytes are all that is still to be printed where the input ends, after bytes that are too few for a line.
+pub record Finished (sheet : Sheet) (kept r : ℕ) (text : List ℕ) : Type 0 where
+  pub within : r ≤ length text
   pub is : (series : List Float) (rest : List ℕ) → length rest ≡ kept
-      → text ≡ outcome (stateOf (sheet .stage) (sheet .counts .refused) series) (lines rest)
+      → take r text ≡ outcome (stateOf (sheet .stage) (sheet .counts .refused) series) (lines rest)
 
 -- The first r bytes are now those from `from` to `to`.
 pub record Kept (from to : ℕ) (old : List ℕ) (r : ℕ) (now : List ℕ) : Type 0 where

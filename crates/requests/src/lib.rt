@@ -501,7 +501,7 @@ pub fn begin() -> Sheet
 // Prints that a request broke off, and the last line.
 fn print_cut(text: &mut [u8], counts: Counts) -> usize
     requires { ⌜ 32 ≤ length (now text) ⌝ }
-    ensures { λ r. ⌜ take r (now (text .exit)) ≡ broken (counts .refused) .prints ++ lastLine (oneMore (counts .refused)) ⌝ }
+    ensures { λ r. ⌜ (r ≡ 32) × (take r (now (text .exit)) ≡ broken (counts .refused) .prints ++ lastLine (oneMore (counts .refused))) ⌝ }
 {
     print_head(text, 0, 0, 0, 10, 0);
     let all = counts.one_more();
@@ -512,7 +512,7 @@ fn print_cut(text: &mut [u8], counts: Counts) -> usize
 // Prints what is left to print where the input has ended, with `kept` bytes that are too few for a line, and gives how many bytes.
 pub fn finish(sheet: Sheet, kept: usize, text: &mut [u8]) -> usize
     requires { ⌜ (kept < due (sheet .stage)) × (32 ≤ length (now text)) ⌝ }
-    ensures { λ r. ⌜ Finished sheet kept (take r (now (text .exit))) ⌝ }
+    ensures { λ r. ⌜ Finished sheet kept r (now (text .exit)) ⌝ }
 {
     let stage = sheet.stage;
     let counts = sheet.counts;

@@ -6,7 +6,7 @@ use requests::Sheet;
 use requests::Stage;
 ghost use mathlib.Core.Path.{_≡_};
 ghost use Prim.Native.Nat.{_≤_};
-ghost use lib.ListN.{length};
+ghost use lib.ListN.{length, take};
 ghost use Rattle.requests.specs.Place.{Between};
 ghost use Rattle.sheet.specs.Buffers.{Buffers};
 
@@ -27,24 +27,39 @@ fn reads_on(sheet: Sheet, written: bool) -> bool {
     }
 }
 
+// Reads once, and gives how many bytes came: none where the input has ended or cannot be read.
+fn read_some(room: &mut [u8]) -> usize
+    ensures { λ r. ⌜ r ≤ length (now (room .entry)) ⌝ }
+{
+    let got = libc::read(STDIN_FILENO, room);
+    if got < 0 {
+        os::fail(b"sheet: reading");
+        return 0;
+    }
+    io::count(got, room)
+}
+
+// Reads once behind the first `kept` bytes of the block, which stay, and gives where the bytes end.
+fn read_on(block: &mut [u8], kept: usize) -> usize
+    requires { ⌜ kept ≤ length (now block) ⌝ }
+    ensures { λ r. ⌜ (kept ≤ r) × (r ≤ length (now (block .entry))) × (take kept (now (block .exit)) ≡ take kept (now (block .entry))) ⌝ }
+{
+    kept + read_some(&mut block[kept..])
+}
+
 // Reads once, feeds what came, and writes the answers.
 fn turn(sheet: Sheet, kept: usize, block: &mut [u8], series: &mut [f64], out: &mut [f64], work: &mut [f64], text: &mut [u8]) -> Carried
     requires { ⌜ Between sheet kept × Buffers (now block) (now series) (now out) (now work) (now text) ⌝ }
     ensures { λ r. ⌜ Between (r .sheet) (r .kept) ⌝ }
 {
-    let got = libc::read(STDIN_FILENO, &mut block[kept..]);
-    let count = io::count(got, &block[kept..]);
-    if count == 0 {
-        if got < 0 {
-            os::fail(b"sheet: reading");
-        }
+    let end = read_on(block, kept);
+    if end == kept {
         return Carried {
             sheet: sheet,
             kept: kept,
             goes_on: false,
         };
     }
-    let end = kept + count;
     let place = requests::feed(sheet, &block[..end], series, out, work, text);
     let filled = place.filled;
     let at = place.at;
