@@ -2,4 +2,3 @@
 pub mod Header
 pub mod Answer
 pub mod Sheet
-pub mod Place

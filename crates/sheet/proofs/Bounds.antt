@@ -2,10 +2,10 @@
 use mathlib.Core.Path.{_≡_}
 use Prim.Native.Nat.{ℕ, _<_, _≤_}
 use native.Mathlib.Omega.{arith}
-use Rattle.requests.specs.declared.Stage.{Stage}
-use Rattle.requests.specs.declared.Stage.the-variants.{Waiting, Collecting, Stopped}
-use Rattle.requests.specs.declared.Sheet.{Sheet}
-use Rattle.requests.specs.Place.{due, Between}
+use Rattle.blocks.specs.declared.Stage.{Stage}
+use Rattle.blocks.specs.declared.Stage.the-variants.{Waiting, Collecting, Stopped}
+use Rattle.blocks.specs.declared.Sheet.{Sheet}
+use Rattle.blocks.specs.Place.{due, Between}
 
 due-few : (stage : Stage) → due stage ≤ 27
 due-few Waiting = omega arith

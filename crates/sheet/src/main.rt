@@ -2,12 +2,12 @@
 // here are the buffers, and the loop that reads blocks, feeds them and writes.
 use libc::STDIN_FILENO;
 use libc::STDOUT_FILENO;
-use requests::Sheet;
-use requests::Stage;
+use blocks::Sheet;
+use blocks::Stage;
 ghost use mathlib.Core.Path.{_≡_};
 ghost use Prim.Native.Nat.{_≤_};
 ghost use lib.ListN.{length, take};
-ghost use Rattle.requests.specs.Place.{Between};
+ghost use Rattle.blocks.specs.Place.{Between};
 ghost use Rattle.sheet.specs.Buffers.{Buffers};
 
 // What is carried from one block to the next: the sheet, the bytes kept at the front of the block, and whether to read on.
@@ -60,12 +60,12 @@ fn turn(sheet: Sheet, kept: usize, block: &mut [u8], series: &mut [f64], out: &m
             goes_on: false,
         };
     }
-    let place = requests::feed(sheet, &block[..end], series, out, work, text);
+    let place = blocks::feed(sheet, &block[..end], series, out, work, text);
     let filled = place.filled;
     let at = place.at;
     let next = place.sheet;
     let written = io::write_all(STDOUT_FILENO, &text[..filled]);
-    let left = requests::keep(block, at, end);
+    let left = blocks::keep(block, at, end);
     Carried {
         sheet: next,
         kept: left,
@@ -78,7 +78,7 @@ fn run(block: &mut [u8], series: &mut [f64], out: &mut [f64], work: &mut [f64], 
     requires { ⌜ Buffers (now block) (now series) (now out) (now work) (now text) ⌝ }
 {
     let mut carried = Carried {
-        sheet: requests::begin(),
+        sheet: blocks::begin(),
         kept: 0,
         goes_on: true,
     };
@@ -87,7 +87,7 @@ fn run(block: &mut [u8], series: &mut [f64], out: &mut [f64], work: &mut [f64], 
         carried = turn(carried.sheet, carried.kept, block, series, out, work, text);
         turns -= 1;
     }
-    let count = requests::finish(carried.sheet, carried.kept, text);
+    let count = blocks::finish(carried.sheet, carried.kept, text);
     io::write_all(STDOUT_FILENO, &text[..count]);
 }
 

@@ -8,8 +8,8 @@ use Rattle.sheet.proofs.run.Tie as tie
 use Rattle.sheet.proofs.run.Reads as reads
 use Rattle.sheet.proofs.run.Lts as lts
 use Rattle.io.proofs.write_all.Reads as write-all-reads
-use Rattle.requests.proofs.begin.Reads as begin-reads
-use Rattle.requests.proofs.finish.Reads as finish-reads
+use Rattle.blocks.proofs.begin.Reads as begin-reads
+use Rattle.blocks.proofs.finish.Reads as finish-reads
 use Rattle.sheet.proofs.turn.Reads as turn-reads
 
 abbrev Inv-loop : tie.InvT-loop

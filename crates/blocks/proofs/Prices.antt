@@ -11,12 +11,12 @@ use lib.Seq.{slice, length-take-le, take-suc-set, drop-drop}
 use lib.Ieee.{Float}
 use Rattle.columns.specs.declared.Price.{Price}
 use Rattle.columns.specs.declared.Price.the-variants.{Ticks, Unpriced}
 use Rattle.requests.specs.declared.Request.{Request}
 use Rattle.requests.specs.Header.{readPriceLine}
 use Rattle.requests.specs.Sheet.{collecting, broken, settled, gathered, priced, lines, outcome}
-use Rattle.requests.specs.Place.{finally}
-use Rattle.requests.proofs.Lines.{finally-broken, line-at}
-use Rattle.requests.proofs.Strict.{price-reader}
+use Rattle.blocks.specs.Place.{finally}
+use Rattle.blocks.proofs.Lines.{finally-broken, line-at}
+use Rattle.blocks.proofs.Strict.{price-reader}
 
 module _ (k : ℕ) (r : Request) (series : List Float) (got : ℕ) (h : got ≤ length series) where
   -- some price is missing: the request waits for it

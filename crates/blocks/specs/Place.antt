@@ -8,13 +8,13 @@ use lib.ListN.{length, take, drop}
 use lib.Seq.{slice}
 use lib.Ieee.{Float}
 use Rattle.columns.specs.Print.{Adds}
 use Rattle.requests.specs.declared.Request.{Request}
-use Rattle.requests.specs.declared.Stage.{Stage}
-use Rattle.requests.specs.declared.Stage.the-variants.{Waiting, Collecting, Stopped}
-use Rattle.requests.specs.declared.Sheet.{Sheet}
-use Rattle.requests.specs.declared.Place.{Place}
-use Rattle.requests.specs.declared.Run.{Run}
+use Rattle.blocks.specs.declared.Stage.{Stage}
+use Rattle.blocks.specs.declared.Stage.the-variants.{Waiting, Collecting, Stopped}
+use Rattle.blocks.specs.declared.Sheet.{Sheet}
+use Rattle.blocks.specs.declared.Place.{Place}
+use Rattle.blocks.specs.declared.Run.{Run}
 use Rattle.requests.specs.Sheet.{State, waiting, collecting, stopped, Step, broken, gathered, lines, outcome}
 
 -- the state that a stage stands for, with the number of refused requests and the prices that lie in the series
 abbrev pub stateOf : Stage → ℕ → List Float → State

@@ -3,14 +3,14 @@ use Prim.Native.Nat.{ℕ, _+_, _-_, _*_, _≤_, _<_}
 use native.Mathlib.Nat.{zero-add}
 use native.Mathlib.Omega.{arith}
 use lib.ListN.{length, length-set}
-use Rattle.requests.proofs.Steps.{Feeding, owed-few}
+use Rattle.blocks.proofs.Steps.{Feeding, owed-few}
 use borrow.Author.Needs.{needs}
-use Rattle.requests.proofs.feed.Statement.{statement}
-use Rattle.requests.proofs.feed.Tie as tie
-use Rattle.requests.proofs.feed.Reads as reads
-use Rattle.requests.proofs.feed.Lts as lts
-use Rattle.requests.proofs.advance.Reads as advance-reads
-use Rattle.requests.proofs.wanted.Reads as wanted-reads
+use Rattle.blocks.proofs.feed.Statement.{statement}
+use Rattle.blocks.proofs.feed.Tie as tie
+use Rattle.blocks.proofs.feed.Reads as reads
+use Rattle.blocks.proofs.feed.Lts as lts
+use Rattle.blocks.proofs.advance.Reads as advance-reads
+use Rattle.blocks.proofs.wanted.Reads as wanted-reads
 
 abbrev Inv-loop : tie.InvT-loop
 Inv-loop block series₀ out₀ work₀ text₀ place₀ series out work text place = Feeding block place₀ series₀ text₀ place series out work text

@@ -12,15 +12,15 @@ use lib.Ieee.{Float}
 use Rattle.columns.specs.declared.Field.{Field}
 use Rattle.columns.specs.declared.Field.the-variants.{Value, Broken}
 use Rattle.columns.specs.Read.{readField}
-use Rattle.requests.specs.declared.Place.{Place}
+use Rattle.blocks.specs.declared.Place.{Place}
 use Rattle.requests.specs.declared.Request.{Request}
-use Rattle.requests.specs.declared.Stage.{Stage}
-use Rattle.requests.specs.declared.Stage.the-variants.{Waiting, Collecting, Stopped}
+use Rattle.blocks.specs.declared.Stage.{Stage}
+use Rattle.blocks.specs.declared.Stage.the-variants.{Waiting, Collecting, Stopped}
 use Rattle.requests.specs.declared.Header.{Header}
 use Rattle.requests.specs.declared.Header.the-variants.{Asked, Malformed}
 use Rattle.requests.specs.Header.{columned, given, accepted, requestOf, readHeader}
 use Rattle.requests.specs.Sheet.{Step, lines, outcome}
-use Rattle.requests.specs.Place.{stateOf, owed, Sound, finally, Stepped, Lent, Well, total, Onward}
+use Rattle.blocks.specs.Place.{stateOf, owed, Sound, finally, Stepped, Lent, Well, total, Onward}
 
 -- Where the lines from p on come to the step t and the lines from `at` on, making that step goes onward.
 pub onward : {block : List ℕ} {p q : Place} {series series′ : List Float} {text text′ : List ℕ} {t : Step} {at : ℕ}

@@ -5,20 +5,20 @@ use lib.ListN.{length, length-set}
 use mathlib.Core.List.{List, [], _++_}
 use lib.ListN.{drop}
 use denote.Ref.{now}
 use Rattle.requests.specs.Header.{readHeader}
 use Rattle.requests.specs.Sheet.{begun, lines, outcome}
-use Rattle.requests.specs.Place.{stateOf, finally}
-use Rattle.requests.proofs.Lines.{line-at, finally-broken}
-use Rattle.requests.proofs.Strict.{header-reader}
-use Rattle.requests.proofs.Steps.{onward, header-small}
+use Rattle.blocks.specs.Place.{stateOf, finally}
+use Rattle.blocks.proofs.Lines.{line-at, finally-broken}
+use Rattle.blocks.proofs.Strict.{header-reader}
+use Rattle.blocks.proofs.Steps.{onward, header-small}
 use borrow.Author.Needs.{needs}
-use Rattle.requests.proofs.take_header.Statement.{statement}
-use Rattle.requests.proofs.take_header.Tie as tie
-use Rattle.requests.proofs.take_header.Reads as reads
-use Rattle.requests.proofs.take_header.Lts as lts
-use Rattle.requests.proofs.gather.Reads as gather-reads
+use Rattle.blocks.proofs.take_header.Statement.{statement}
+use Rattle.blocks.proofs.take_header.Tie as tie
+use Rattle.blocks.proofs.take_header.Reads as reads
+use Rattle.blocks.proofs.take_header.Lts as lts
+use Rattle.blocks.proofs.gather.Reads as gather-reads
 use Rattle.requests.proofs.read_header.Reads as read-header-reads
-use Rattle.requests.proofs.stop.Reads as stop-reads
+use Rattle.blocks.proofs.stop.Reads as stop-reads
 
 -- what the line is read as
 read : (c : tie.After-read-header) (more : List ℕ) →

@@ -2,14 +2,14 @@ use mathlib.Core.Path.{_≡_, refl, sym, ap, _∙_, subst}
 use Prim.Native.Nat.{ℕ, _+_, _-_, _*_, _≤_, _<_}
 use native.Mathlib.Omega.{arith}
 use lib.ListN.{length, length-set}
-use Rattle.requests.proofs.Ends.{ends-waiting, ends-stopped, cut-waiting, cut-collecting}
+use Rattle.blocks.proofs.Ends.{ends-waiting, ends-stopped, cut-waiting, cut-collecting}
 use borrow.Author.Needs.{needs}
-use Rattle.requests.proofs.finish.Statement.{statement}
-use Rattle.requests.proofs.finish.Tie as tie
-use Rattle.requests.proofs.finish.Reads as reads
-use Rattle.requests.proofs.finish.Lts as lts
-use Rattle.requests.proofs.print_cut.Reads as print-cut-reads
+use Rattle.blocks.proofs.finish.Statement.{statement}
+use Rattle.blocks.proofs.finish.Tie as tie
+use Rattle.blocks.proofs.finish.Reads as reads
+use Rattle.blocks.proofs.finish.Lts as lts
+use Rattle.blocks.proofs.print_cut.Reads as print-cut-reads
 use Rattle.requests.proofs.print_last.Reads as print-last-reads
 
 -- src/lib.rt:294:16
 enum-told : tie.Need-enum-told
@@ -49,6 +49,7 @@ returns c =
     let print = c .before .before in
     let test = print .before .before in
     record {
+      within = omega (arith, print .print-last .kept .0, test .before .before .before .before .before .pre .1);
       is = λ series rest e. print .print-last .ensures .text ∙ rw (test .before .enum-told .given .1, ends-waiting _ rest (e ∙ test .if1 .taken));
     }
 
@@ -64,6 +65,7 @@ returns-2 c =
     let told = test .before .enum-told .given .1 in
     let few = rw told at (test .before .before .before .before .before .pre .0) in
     record {
+      within = omega (arith, print .print-cut .kept .0, test .before .before .before .before .before .pre .1);
       is = λ series rest e. print .print-cut .ensures ∙ rw (told, cut-waiting _ rest (λ z. test .if1 .left (rw e at z)) (rw e few));
     }
 
@@ -77,7 +79,10 @@ returns-3 c =
     let print = c .before .before in
     let told = print .before .before .enum-told2 .given .1 in
     let few = rw told at (print .before .before .before .before .before .before .pre .0) in
-    record { is = λ series rest e. print .print-cut2 .ensures ∙ rw (told, cut-collecting _ _ _ rest (rw e few)) }
+    record {
+      within = omega (arith, print .print-cut2 .kept .0, print .before .before .before .before .before .before .pre .1);
+      is = λ series rest e. print .print-cut2 .ensures ∙ rw (told, cut-collecting _ _ _ rest (rw e few));
+    }
 
 -- src/lib.rt:286:1
 same-length-4 : tie.Need-same-length-4
@@ -87,7 +92,10 @@ same-length-4 c = search needs
 returns-4 : tie.Need-returns-4
 returns-4 c =
     let print = c .before .before in
-    record { is = λ series rest e. print .print-last2 .ensures .text ∙ rw (print .before .before .enum-told3 .given .1, ends-stopped _ rest) }
+    record {
+      within = omega (arith, print .print-last2 .kept .0, print .before .before .before .before .before .before .pre .1);
+      is = λ series rest e. print .print-last2 .ensures .text ∙ rw (print .before .before .enum-told3 .given .1, ends-stopped _ rest);
+    }
 
 pub finish-spec : {M : Type 1} → statement M
 finish-spec =

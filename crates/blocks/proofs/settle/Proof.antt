@@ -6,16 +6,16 @@ use denote.Ref.{now}
 use lib.ListN.{take}
 use lib.Seq.{length-take-le}
 use Rattle.calls.specs.Answer.{countOf}
 use Rattle.requests.specs.Answer.{ruleLine}
 use Rattle.requests.proofs.Answers.{rule-most, text-same}
 use borrow.Author.Needs.{needs}
-use Rattle.requests.proofs.settle.Statement.{statement}
-use Rattle.requests.proofs.settle.Tie as tie
-use Rattle.requests.proofs.settle.Reads as reads
-use Rattle.requests.proofs.settle.Lts as lts
+use Rattle.blocks.proofs.settle.Statement.{statement}
+use Rattle.blocks.proofs.settle.Tie as tie
+use Rattle.blocks.proofs.settle.Reads as reads
+use Rattle.blocks.proofs.settle.Lts as lts
 use Rattle.requests.proofs.Counts.after.Reads as after-reads
 use Rattle.requests.proofs.answer.Reads as answer-reads
 use Rattle.requests.proofs.print_answer.Reads as print-answer-reads
 
 -- there are no more positions than prices
 few : (c : tie.After-answer) → countOf (c .answer .result) ≤ c .before .before .before .before .before .before .before .args .request .bars
