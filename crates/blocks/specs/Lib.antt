@@ -1,0 +1,2 @@
+-- Requests carried through blocks of bytes.
+pub mod Place

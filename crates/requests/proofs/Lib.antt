@@ -1,0 +1,3 @@
+pub mod Places
+pub mod Positions
+pub mod Answers

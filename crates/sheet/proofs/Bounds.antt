@@ -1,0 +1,17 @@
+-- How many bytes the program keeps between two blocks. Assumes nothing.
+use mathlib.Core.Path.{_≡_}
+use Prim.Native.Nat.{ℕ, _<_, _≤_}
+use native.Mathlib.Omega.{arith}
+use Rattle.blocks.specs.declared.Stage.{Stage}
+use Rattle.blocks.specs.declared.Stage.the-variants.{Waiting, Collecting, Stopped}
+use Rattle.blocks.specs.declared.Sheet.{Sheet}
+use Rattle.blocks.specs.Place.{due, Between}
+
+due-few : (stage : Stage) → due stage ≤ 27
+due-few Waiting = omega arith
+due-few (Collecting r got) = omega arith
+due-few Stopped = omega arith
+
+-- fewer than the longest line has
+pub kept-few : {sheet : Sheet} {kept : ℕ} → Between sheet kept → kept < 27
+kept-few {sheet} b = omega (arith, b .few, due-few (sheet .stage))

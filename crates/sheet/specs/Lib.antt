@@ -1,0 +1,2 @@
+-- The sheet program's buffers.
+pub mod Buffers
