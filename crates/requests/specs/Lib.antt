@@ -2,3 +2,4 @@
 pub mod Header
 pub mod Answer
 pub mod Sheet
+pub mod Cases

@@ -1,0 +1,75 @@
+-- Small cases, by computation: lines, and whole sheets with document 01's example. Assumes nothing.
+use mathlib.Core.Path.{_≡_, refl}
+use mathlib.Core.List.{List, [], _∷_, map}
+use lib.ListN.{replicate}
+use lib.Ieee.{add, sub, div, ofInt, lt, eq, le, toBits}
+use Rattle.rounding.specs.Leaves.{signOf}
+use Rattle.calls.specs.Accepted.{accepted}
+use Rattle.calls.specs.Answer.{slices, checked, windowed, answered}
+use Rattle.calls.specs.Line.{fromBar}
+use Rattle.calls.specs.Recur.{recur}
+use Rattle.averages.specs.Window.{sumFrom, windowSum, mean, runningSum}
+use Rattle.extremes.specs.Extreme.{pickFrom, extreme}
+use Rattle.rules.specs.Rules.{singleLine, runningMean, doubleLine, doubleAnswer, midLine}
+use Rattle.columns.specs.Text.{bytes}
+use Rattle.columns.specs.Read.{number, readField, signed, readPrice}
+use Rattle.columns.specs.Print.{printField}
+use Rattle.requests.specs.declared.Header.{Header}
+use Rattle.requests.specs.declared.Header.the-variants.{Asked, Malformed}
+use Rattle.requests.specs.Header.{requestOf, readHeader, readPriceLine}
+use Rattle.requests.specs.Answer.{ruleAnswer, ruleLine, headLine, positionLines, answerText, lastLine}
+use Rattle.requests.specs.Sheet.{lines, gathered, ending, outcome, sheet}
+
+header : readHeader (bytes "   7   2     1     2     4\n") ≡ Asked (record { desk = 7; rule = 2; n = 1; m = 2; bars = 4 })
+unfolding readHeader requestOf readField number
+header = refl
+
+-- a blank field, a rule that is none, 513 bars, a column more, a column fewer, no line feed, a carriage return, a sign
+malformed :
+    map (λ line. readHeader (bytes line))
+    (
+      "       2     1     2     4\n"
+      ∷ "   7   4     1     2     4\n"
+      ∷ "   7   0     1     2     4\n"
+      ∷ "   7   2     1     2   513\n"
+      ∷ "    7   2     1     2     4\n"
+      ∷ "  7   2     1     2     4\n"
+      ∷ "   7   2     1     2     4"
+      ∷ "   7   2     1     2     4\r\n"
+      ∷ "   7   2    -1     2     4\n"
+      ∷ []
+    )
+    ≡ replicate 9 Malformed
+unfolding readHeader requestOf readField number
+malformed = refl
+
+-- document 01's example
+example :
+    sheet (bytes "   7   2     1     2     4\n          10\n          12\n          12\n          11\n")
+    ≡ bytes "   7   2   0     4\n   0\n   1\n   1\n  -1\n           0\n"
+unfolding sheet outcome lines gathered ending readHeader requestOf readPriceLine readField readPrice signed number ruleAnswer ruleLine answerText headLine positionLines lastLine printField answered doubleAnswer slices checked windowed accepted singleLine doubleLine midLine mean windowSum extreme pickFrom runningMean runningSum recur sumFrom fromBar signOf add sub div ofInt lt eq le toBits
+example = refl
+
+-- no input; a request with no bars; windows out of order and then a good request of one bar; an input that ends inside a request;
+-- a line that breaks its columns after a good request
+sheets :
+    map (λ input. sheet (bytes input))
+    (
+      ""
+      ∷ "   0   1     1     0     0\n"
+      ∷ "   1   2     2     1     1\n           5\n   2   1     1     0     1\n           5\n"
+      ∷ "   1   1     1     0     2\n           5\n"
+      ∷ "   3   3     1     0     1\n          -0\nx\n   7"
+      ∷ []
+    )
+    ≡ map bytes
+    (
+      "           0\n"
+      ∷ "   0   1   0     0\n           0\n"
+      ∷ "   1   2   9     0\n   2   1   0     1\n   1\n           1\n"
+      ∷ "   0   0  10     0\n           1\n"
+      ∷ "   3   3   0     1\n   0\n   0   0  10     0\n           1\n"
+      ∷ []
+    )
+unfolding sheet outcome lines gathered ending readHeader requestOf readPriceLine readField readPrice signed number ruleAnswer ruleLine answerText headLine positionLines lastLine printField answered doubleAnswer slices checked windowed accepted singleLine doubleLine midLine mean windowSum extreme pickFrom runningMean runningSum recur sumFrom fromBar signOf add sub div ofInt lt eq le toBits
+sheets = refl
