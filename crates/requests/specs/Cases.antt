@@ -28,16 +28,16 @@ header = refl
 malformed :
     map (λ line. readHeader (bytes line))
     (
-      "       2     1     2     4\n"
-      ∷ "   7   4     1     2     4\n"
-      ∷ "   7   0     1     2     4\n"
-      ∷ "   7   2     1     2   513\n"
-      ∷ "    7   2     1     2     4\n"
-      ∷ "  7   2     1     2     4\n"
-      ∷ "   7   2     1     2     4"
-      ∷ "   7   2     1     2     4\r\n"
-      ∷ "   7   2    -1     2     4\n"
-      ∷ []
+    "       2     1     2     4\n"
+    ∷ "   7   4     1     2     4\n"
+    ∷ "   7   0     1     2     4\n"
+    ∷ "   7   2     1     2   513\n"
+    ∷ "    7   2     1     2     4\n"
+    ∷ "  7   2     1     2     4\n"
+    ∷ "   7   2     1     2     4"
+    ∷ "   7   2     1     2     4\r\n"
+    ∷ "   7   2    -1     2     4\n"
+    ∷ []
     )
     ≡ replicate 9 Malformed
 unfolding readHeader requestOf readField number
@@ -55,21 +55,21 @@ example = refl
 sheets :
     map (λ input. sheet (bytes input))
     (
-      ""
-      ∷ "   0   1     1     0     0\n"
-      ∷ "   1   2     2     1     1\n           5\n   2   1     1     0     1\n           5\n"
-      ∷ "   1   1     1     0     2\n           5\n"
-      ∷ "   3   3     1     0     1\n          -0\nx\n   7"
-      ∷ []
+    ""
+    ∷ "   0   1     1     0     0\n"
+    ∷ "   1   2     2     1     1\n           5\n   2   1     1     0     1\n           5\n"
+    ∷ "   1   1     1     0     2\n           5\n"
+    ∷ "   3   3     1     0     1\n          -0\nx\n   7"
+    ∷ []
     )
     ≡ map bytes
     (
-      "           0\n"
-      ∷ "   0   1   0     0\n           0\n"
-      ∷ "   1   2   9     0\n   2   1   0     1\n   1\n           1\n"
-      ∷ "   0   0  10     0\n           1\n"
-      ∷ "   3   3   0     1\n   0\n   0   0  10     0\n           1\n"
-      ∷ []
+    "           0\n"
+    ∷ "   0   1   0     0\n           0\n"
+    ∷ "   1   2   9     0\n   2   1   0     1\n   1\n           1\n"
+    ∷ "   0   0  10     0\n           1\n"
+    ∷ "   3   3   0     1\n   0\n   0   0  10     0\n           1\n"
+    ∷ []
     )
 unfolding sheet outcome lines gathered ending readHeader requestOf readPriceLine readField readPrice signed number ruleAnswer ruleLine answerText headLine positionLines lastLine printField answered doubleAnswer slices checked windowed accepted singleLine doubleLine midLine mean windowSum extreme pickFrom runningMean runningSum recur sumFrom fromBar signOf add sub div ofInt lt eq le toBits
 sheets = refl

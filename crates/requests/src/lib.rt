@@ -202,7 +202,13 @@ pub fn answer(request: Request, series: &[f64], out: &mut [f64], work: &mut [f64
 }
 
 // Prints an answer from `at` on, with the positions in `cells`, and gives the place after it.
-pub fn print_answer(text: &mut [u8], at: usize, request: Request, given: Answer, cells: &[f64]) -> usize
+pub fn print_answer(
+    text: &mut [u8],
+    at: usize,
+    request: Request,
+    given: Answer,
+    cells: &[f64],
+) -> usize
     requires { ⌜ (countOf given ≤ length (now cells)) × (at + 19 + 5 * countOf given ≤ length (now text)) ⌝ }
     ensures { λ r. ⌜ (Adds at (answerText request given (line (now (cells .entry)))) r (now (text .entry)) (now (text .exit))) × (r ≡ at + 19 + 5 * countOf given) ⌝ }
 {

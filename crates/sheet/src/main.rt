@@ -1,9 +1,9 @@
 // The sheet program: requests on standard input, answers on standard output. All that it reads and prints is the work of `requests`;
 // here are the buffers, and the loop that reads blocks, feeds them and writes.
-use libc::STDIN_FILENO;
-use libc::STDOUT_FILENO;
 use blocks::Sheet;
 use blocks::Stage;
+use libc::STDIN_FILENO;
+use libc::STDOUT_FILENO;
 ghost use mathlib.Core.Path.{_≡_};
 ghost use Prim.Native.Nat.{_≤_};
 ghost use lib.ListN.{length, take};
@@ -48,7 +48,15 @@ fn read_on(block: &mut [u8], kept: usize) -> usize
 }
 
 // Reads once, feeds what came, and writes the answers.
-fn turn(sheet: Sheet, kept: usize, block: &mut [u8], series: &mut [f64], out: &mut [f64], work: &mut [f64], text: &mut [u8]) -> Carried
+fn turn(
+    sheet: Sheet,
+    kept: usize,
+    block: &mut [u8],
+    series: &mut [f64],
+    out: &mut [f64],
+    work: &mut [f64],
+    text: &mut [u8],
+) -> Carried
     requires { ⌜ Between sheet kept × Buffers (now block) (now series) (now out) (now work) (now text) ⌝ }
     ensures { λ r. ⌜ Between (r .sheet) (r .kept) ⌝ }
 {

@@ -40,8 +40,7 @@ same-length c = search needs
 returns : tie.Need-returns
 returns c =
     let read = c .before .before in
-    let a = read .before .before .before .args in
-    (
+    let a = read .before .before .before .args in (
       omega arith,
       omega (arith, rw (length-take, length-drop) at (read .read-some .ensures)),
       take-at (take (a .kept) (now (a .block))) _ (a .kept) (length-take-le (a .kept) (now (a .block)) (omega arith)),

@@ -51,8 +51,7 @@ loop-again : tie.Need-loop-again Inv-loop μ-loop
 loop-again c =
     let turn = c .before .before .before .before .before .before .before .before .before .before in
     let kept = turn .turn .kept in
-    let buffers = turn .before .before .before .before .before .before .before .before .loop .inv .1 in
-    (
+    let buffers = turn .before .before .before .before .before .before .before .before .loop .inv .1 in (
       turn .turn .ensures,
       record {
         block-long = kept .1 .1 .0 ∙ buffers .block-long;

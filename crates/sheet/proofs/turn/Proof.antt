@@ -66,8 +66,7 @@ feed-requires : tie.Need-feed-requires
 feed-requires c κs =
     let read = c .before .before .before .before .before .before .before .before in
     let start = read .before .before .before .before .before .before .before in
-    let lent = start .pre .1 in
-    (
+    let lent = start .pre .1 in (
       start .pre .0 .sound,
       record {
         series-long = lent .series-long;
