@@ -264,6 +264,60 @@ pub fn check_three(first: &[f64], second: &[f64], third: &[f64], out: usize) -> 
     check_values(two, first)
 }
 
+// The same with three series and a work slice.
+pub fn check_three_with_work(
+    first: &[f64],
+    second: &[f64],
+    third: &[f64],
+    out: usize,
+    work: usize,
+) -> Answer
+    ensures { λ r. ⌜ r ≡ checked accepted (now (first .entry) ∷ now (second .entry) ∷ now (third .entry) ∷ []) (out ∷ []) (work ∷ []) ⌝ }
+{
+    let lengths = check_lengths_of_three(first.len(), second.len(), third.len(), out);
+    let room = check_work(first.len(), work);
+    let due = and_then(lengths, room);
+    let one = check_values(due, third);
+    let two = check_values(one, second);
+    check_values(two, first)
+}
+
+// The smaller of two counts.
+fn smaller(a: usize, b: usize) -> usize
+    ensures { λ r. ⌜ r ≡ min a b ⌝ }
+{
+    if a < b { a } else { b }
+}
+
+// The shortest of three outputs.
+fn shortest(a: usize, b: usize, c: usize) -> usize
+    ensures { λ r. ⌜ r ≡ min a (min b c) ⌝ }
+{
+    smaller(a, smaller(b, c))
+}
+
+// The first refusal of a call with one series, three outputs and a work slice, before its parameters; else the series' length.
+pub fn check_bands(series: &[f64], middle: usize, upper: usize, lower: usize, work: usize) -> Answer
+    ensures { λ r. ⌜ r ≡ checked accepted (now (series .entry) ∷ []) (middle ∷ upper ∷ lower ∷ []) (work ∷ []) ⌝ }
+{
+    check_with_work(series, shortest(middle, upper, lower), work)
+}
+
+// The same with three series.
+pub fn check_channel(
+    first: &[f64],
+    second: &[f64],
+    third: &[f64],
+    middle: usize,
+    upper: usize,
+    lower: usize,
+    work: usize,
+) -> Answer
+    ensures { λ r. ⌜ r ≡ checked accepted (now (first .entry) ∷ now (second .entry) ∷ now (third .entry) ∷ []) (middle ∷ upper ∷ lower ∷ []) (work ∷ []) ⌝ }
+{
+    check_three_with_work(first, second, third, shortest(middle, upper, lower), work)
+}
+
 // What one window makes of an answer of `bars` cells.
 fn check_window(bars: usize, n: usize) -> Answer
     ensures { λ r. ⌜ r ≡ windowed bars (n ∷ []) (Cells bars) ⌝ }
@@ -322,13 +376,6 @@ pub fn clear(cells: &mut [f64], n: usize)
     ensures { λ _. ⌜ Writing n (λ i. plusZero) (now (cells .entry)) (now (cells .exit)) ⌝ }
 {
     fill(cells, n, 0.0);
-}
-
-// The smaller of two counts.
-fn smaller(a: usize, b: usize) -> usize
-    ensures { λ r. ⌜ r ≡ min a b ⌝ }
-{
-    if a < b { a } else { b }
 }
 
 // Writes x to the bars before bar b, and gives the bar after them: b, or the end where the bars end before it.
