@@ -7,6 +7,7 @@ ghost use lib.Dec.{leb, eqb};
 ghost use lib.ListN.{length};
 ghost use lib.Ieee.{binary64, toBits};
 ghost use Rattle.calls.specs.Accepted.{within, accepted, tick, finite, all};
+ghost use Rattle.calls.specs.Quick.{cappedBits, NoneAbove};
 ghost use Rattle.calls.specs.Answer.{number, refusalOf, countOf, unless, andThen, slices, checked, windowed, answered};
 ghost use Rattle.calls.specs.Line.{plusZero, Led};
 ghost use Rattle.calls.specs.Written.{Writing};
@@ -110,8 +111,29 @@ pub fn is_finite(x: f64) -> bool
     if x < infinity { -infinity < x } else { false }
 }
 
+// The bits of x, or those of 2^31 where x is not below it, as a NaN is not.
+fn capped_bits(x: f64) -> u64
+    ensures { λ r. ⌜ r ≡ cappedBits x ⌝ }
+{
+    let low = if x < 2147483648.0 { x } else { 2147483648.0 };
+    f64::to_bits(low)
+}
+
+// The bits of all numbers of s, one upon the other: those of no number are larger.
+fn bits_together(s: &[f64]) -> u64
+    ensures { λ r. ⌜ NoneAbove r (now (s .entry)) ⌝ }
+{
+    let mut together = 0;
+    let mut i = 0;
+    while i < s.len() {
+        together = together | capped_bits(s[i]);
+        i += 1;
+    }
+    together
+}
+
 // Whether a series may hold every number of s. All are looked at, and what was found is kept in two variables: so the loop takes several at a time.
-pub fn all_accepted(s: &[f64]) -> bool
+fn each_accepted(s: &[f64]) -> bool
     ensures { λ r. ⌜ r ≡ all accepted (now (s .entry)) ⌝ }
 {
     let mut near = true;
@@ -123,6 +145,17 @@ pub fn all_accepted(s: &[f64]) -> bool
         i += 1;
     }
     near & (minus_zeros == 0)
+}
+
+// Whether a series may hold every number of s. If all bits together are at most those of 2^30, every number lies from 0.0 to 2^30; most series pass this quick test.
+pub fn all_accepted(s: &[f64]) -> bool
+    ensures { λ r. ⌜ r ≡ all accepted (now (s .entry)) ⌝ }
+{
+    if bits_together(s) <= 4742290407621132288 {
+        true
+    } else {
+        each_accepted(s)
+    }
 }
 
 // Whether every number of s is a whole tick.
