@@ -309,8 +309,8 @@ pub fn check_three_with_work(
 {
     let lengths = check_lengths_of_three(first.len(), second.len(), third.len(), out);
     let room = check_work(first.len(), work);
-    let due = and_then(lengths, room);
-    let one = check_values(due, third);
+    let sizes = and_then(lengths, room);
+    let one = check_values(sizes, third);
     let two = check_values(one, second);
     check_values(two, first)
 }
