@@ -2,7 +2,7 @@
 pub mod Rules
 pub mod Numbers
 pub mod TickMeans
-pub mod TickPositions
 pub mod Stages
+pub mod TickPositions
 pub mod Opened
 pub mod Cases
