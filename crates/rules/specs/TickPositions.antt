@@ -91,17 +91,17 @@ module _ {b l : ℕ} {f : Line} {t : ℕ → ℤ} (w : WholeLine b l f t) (n : �
   -- so they are whole numbers in turn
   runs-whole : WholeLine (n * b) l (runs n f) (fromBar (n - 1) (pos 0) (windowTotal n t))
   unfolding runs
-  runs-whole = record { is = λ i h. at i h (ltb i (n - 1)) (ltb→lt i (n - 1)) (nltb→le i (n - 1)); small = λ i h. size i h (ltb i (n - 1)) (ltb→lt i (n - 1)) (nltb→le i (n - 1)) }
+  runs-whole = record {
+    is = λ i h. at i h (ltb i (n - 1)) (ltb→lt i (n - 1)) (nltb→le i (n - 1)) .0;
+    small = λ i h. at i h (ltb i (n - 1)) (ltb→lt i (n - 1)) (nltb→le i (n - 1)) .1;
+  }
     where
       at : (i : ℕ) → i < l → (u : Bool) → (T u → i < n - 1) → (T (not u) → n - 1 ≤ i)
-          → runs n f i ≡ ofInt binary64 (fromBar (n - 1) (pos 0) (windowTotal n t) i)
-      at i h true p q = rw (before-bar (n - 1) plusZero _ i (p tt), before-bar (n - 1) (pos 0) (windowTotal n t) i (p tt)) (sym (zero-is binary64))
-      at i h false p q = let m = q tt in rw (from-bar (n - 1) (pos 0) (windowTotal n t) i m) (run-exact i (omega arith) h)
-
-      size : (i : ℕ) → i < l → (u : Bool) → (T u → i < n - 1) → (T (not u) → n - 1 ≤ i)
-          → natAbs (fromBar (n - 1) (pos 0) (windowTotal n t) i) ≤ n * b
-      size i h true p q = rw (before-bar (n - 1) (pos 0) (windowTotal n t) i (p tt)) zero-le
-      size i h false p q = let m = q tt in rw (from-bar (n - 1) (pos 0) (windowTotal n t) i m) (window-size w (i + 1 - n) n (omega arith))
+          → let z = fromBar (n - 1) (pos 0) (windowTotal n t) i in (runs n f i ≡ ofInt binary64 z) × (natAbs z ≤ n * b)
+      at i h true p q = rw (before-bar (n - 1) plusZero _ i (p tt), before-bar (n - 1) (pos 0) (windowTotal n t) i (p tt)) (sym (zero-is binary64), zero-le)
+      at i h false p q =
+          let m = q tt in
+          rw (from-bar (n - 1) (pos 0) (windowTotal n t) i m) (run-exact i (omega arith) h, window-size w (i + 1 - n) n (omega arith))
 
 -- ---- the decision
 
@@ -166,10 +166,9 @@ pub record TickRows (n : ℕ) (s now : List Float) : Type 0 where
   pub room : 2 * length s ≤ length now
   pub rows : Totals n s now now
 
--- n · n is a float
-pub square-is-float : (n : ℕ) → n ≤ 1022 → T (inFloat binary64 (pos (n * n)))
+pub whole-is-float : (k : ℕ) → k ≤ 2 ^ 53 → T (inFloat binary64 (pos k))
 unfolding inFloat
-square-is-float n h = le→leb (n * n) (2 ^ 53) (omega (arith, mul-le-mul h h))
+whole-is-float k h = le→leb k (2 ^ 53) h
 
 module _ {n : ℕ} {s now : List Float} (r : TickRows n s now) (floats : (i : ℕ) → T (fits binary64 (line s i))) (i : ℕ) (p : 2 * n ≤ i + 2) (h : i < length s) where
   mean-cell : (j : ℕ) → j ≤ i → line now j ≡ mean n (line s) j
@@ -178,11 +177,11 @@ module _ {n : ℕ} {s now : List Float} (r : TickRows n s now) (floats : (i : �
   total-cell : line now (length s + i) ≡ runs n (runs n (line s)) i
   total-cell = read-back (length s + i) nan (r .rows) (omega (arith, r .room)) ∙ beside-second (length s) _ _ i
 
-  -- the average decides, at a tie and everywhere else
+  -- the rounded average decides every bar
   pub by-average : againstMean (line s i) (mean n (line now) i) ≡ singleLine n (line s) i
   by-average = single-at n (line s) i (causal-mean n (line now) (mean n (line s)) i mean-cell) (omega arith)
 
-  -- and where there is no tie, the total
+  -- and so does the total where there is no tie
   pub by-total : tie (mul binary64 (line s i) (ofInt binary64 (pos (n * n)))) (line now (length s + i)) ≡ false
       → singleLine n (line s) i ≡ cond (lt (mul binary64 (line s i) (ofInt binary64 (pos (n * n)))) (line now (length s + i))) minusOne plusOne
   by-total e = rw total-cell (no-tie (tick-line s floats (r .ticks)) n (r .some) (r .narrow) i p h (rw (← total-cell) e))
