@@ -5,5 +5,4 @@ pub mod NoLookAhead
 pub mod Starred
 pub mod Series
 pub mod Double
-pub mod Single
 pub mod Middle

@@ -18,7 +18,7 @@ use Rattle.averages.specs.Averages.{two}
 use Rattle.averages.specs.Window.{mean}
 use Rattle.averages.specs.Exact.{TickLine, window-whole, mean-exact}
 use Rattle.averages.specs.Errors.{windowTotal, products, window-total-size}
-use Rattle.guarantees.specs.Single.{some-abs}
+use Rattle.rules.specs.TickPositions.{some-abs}
 use Rattle.extremes.specs.Extreme.{larger, smaller, pickFrom, extreme}
 use Rattle.rules.specs.Rules.{midLine}
 

@@ -24,7 +24,7 @@ use Rattle.averages.specs.Errors.{windowTotal}
 use Rattle.guarantees.specs.Calls.{SmaCall, DoubleCall, SingleCall, MidCall}
 use Rattle.guarantees.specs.Series.{WholeTicks, price, whole-ticks, bar}
 use Rattle.guarantees.specs.Double.{double-exact}
-use Rattle.guarantees.specs.Single.{single-exact}
+use Rattle.rules.specs.TickPositions.{single-exact}
 use Rattle.guarantees.specs.Middle.{highest, lowest, middle-exact}
 
 -- the sum of the last n prices at bar i: its window sum

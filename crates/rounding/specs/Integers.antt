@@ -168,6 +168,12 @@ unfoldable pub total : (ℕ → ℤ) → ℕ → ℕ → ℤ
 total t a zero = pos 0
 total t a (suc k) = total t a k +ℤ t (a + k)
 
+-- runs of the same numbers
+pub total-same : (t u : ℕ → ℤ) (a k : ℕ) → ((j : ℕ) → j < k → t (a + j) ≡ u (a + j)) → total t a k ≡ total u a k
+unfolding total
+total-same t u a zero h = refl
+total-same t u a (suc k) h = rw (total-same t u a k (λ j l. h j (omega arith)), h k (le-refl (suc k)))
+
 -- a run of numbers of magnitude at most b
 pub total-size : (t : ℕ → ℤ) (a k b : ℕ) → ((j : ℕ) → j < k → natAbs (t (a + j)) ≤ b) → natAbs (total t a k) ≤ k * b
 unfolding total

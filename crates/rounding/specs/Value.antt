@@ -6,7 +6,7 @@ use Prim.Native.Nat.{ℕ, _+_, _-_, _*_, _<_}
 use native.Mathlib.Nat.{mul-assoc, mul-comm, mul-left-comm, mul-right-comm, mul-sub, mul-pos, mul-lt-mul-of-pos-right, lt-of-mul-lt-mul-right}
 use native.Mathlib.Omega.{arith}
 use lib.Dec.{ltb}
-use lib.Ieee.{Float, nan, inf, fin, Format, up, down, unlike, round, neg, sum, add, sub, div, lt}
+use lib.Ieee.{Float, nan, inf, fin, Format, up, down, unlike, round, neg, sum, add, sub, mul, div, lt}
 use lib.Ieee.{below as isBelow}
 use lib.IntN.{ℤ}
 use lib.Ieee.Fits.{down-pos}
@@ -90,6 +90,22 @@ pub sub-at : (x y : Float) (s : Bool) (a : ℕ) (t : Bool) (b c : ℕ) → 0 < c
     → (f : Format) → sub f x y ≡ sum f s a (not t) b c
 unfolding sub
 sub-at x y s a t b c C v w = add-at x (neg y) s a (not t) b c C v (neg-value y t b c w)
+
+cross-mul : (M E a c N G b d : ℕ) → M * c ≡ a * E → N * d ≡ b * G → M * N * (c * d) ≡ a * b * (E * G)
+cross-mul M E a c N G b d p q =
+    let l : M * N * (c * d) ≡ M * c * (N * d) = simp (mul-assoc, mul-left-comm) in
+    let r : a * E * (b * G) ≡ a * b * (E * G) = simp (mul-assoc, mul-comm, mul-left-comm) in
+    l ∙ rw (p, q) r
+
+pub mul-at : (x y : Float) (s : Bool) (a c : ℕ) (t : Bool) (b d : ℕ) → 0 < c → 0 < d → HasValue x s a c → HasValue y t b d
+    → (f : Format) → mul f x y ≡ round f (unlike s t) (a * b) (c * d)
+unfolding mul
+mul-at x y s a c t b d C D v w f =
+    let (m, e, p, v') = shape x s a c v in
+    let (n, g, q, w') = shape y t b d w in
+    rw (p, q)
+    (round-same f (unlike s t) (m * up e * (n * up g)) (down e * down g) (a * b) (c * d) (mul-pos (down-pos e) (down-pos g)) (mul-pos C D)
+    (cross-mul (m * up e) (down e) a c (n * up g) (down g) b d v' w'))
 
 cross-div : (M E a c N G b d : ℕ) → M * c ≡ a * E → N * d ≡ b * G → M * G * (b * c) ≡ a * d * (N * E)
 cross-div M E a c N G b d p q =

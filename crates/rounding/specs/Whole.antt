@@ -1,17 +1,18 @@
--- Whole numbers in a format. Up to 2 ^ prec either way each has its own float, `ofInt f z`, and such floats add and subtract exactly.
+-- Whole numbers in a format. Up to 2 ^ prec either way each has its own float, `ofInt f z`, and such floats add, subtract and multiply
+-- exactly.
 -- Assumes nothing.
 use mathlib.Core.Path.{_≡_, refl, _∙_}
 use mathlib.Core.Bool.{Bool, true, false, not, cond}
-use Prim.Native.Nat.{ℕ, zero, suc, _+_, _-_, _^_, _<_, _≤_, zero-le}
-use native.Mathlib.Nat.{zero-add, add-zero, sub-zero, lt-trans, lt-irrefl, zero-lt-suc}
+use Prim.Native.Nat.{ℕ, zero, suc, _+_, _-_, _*_, _^_, _<_, _≤_, zero-le}
+use native.Mathlib.Nat.{zero-add, add-zero, sub-zero, lt-trans, lt-irrefl, zero-lt-suc, mul-pos}
 use native.Mathlib.Omega.{arith}
 use lib.Dec.{T, ltb, ltb→lt, nltb→le}
-use lib.IntN.{ℤ, pos, negsuc, natAbs, subℕ, _+ℤ_, _-ℤ_, +ℤ-idr}
-use lib.Ieee.{fin, Format, prec, round, sum, add, sub, ofInt}
+use lib.IntN.{ℤ, pos, negsuc, natAbs, subℕ, _+ℤ_, _-ℤ_, _*ℤ_, +ℤ-idr}
+use lib.Ieee.{fin, Format, prec, unlike, round, sum, add, sub, mul, ofInt}
 use lib.Ieee.Back.{round-whole}
 use lib.Ieee.Exact.{HasValue}
 use borrow.Author.Tests.{lt-ltb, le-ltb}
-use Rattle.rounding.specs.Value.{add-at, sub-at}
+use Rattle.rounding.specs.Value.{add-at, sub-at, mul-at}
 
 abbrev pub isNegative : ℤ → Bool
 isNegative (pos n) = false
@@ -79,3 +80,17 @@ module _ (f : Format) (a b : ℤ) (h : natAbs a ≤ 2 ^ prec f) (k : natAbs b �
 
 pub add-first : (f : Format) (z : ℤ) → natAbs z ≤ 2 ^ prec f → add f (fin true 0 (pos 0)) (ofInt f z) ≡ ofInt f z
 add-first f z h = add-at (fin true 0 (pos 0)) (ofInt f z) true 0 (isNegative z) (natAbs z) 1 (zero-lt-suc 0) (refl, refl) (whole-value f z h) f ∙ sum-first f z
+
+-- ---- a product
+
+-- of a size and a sign; with 0 for n a negative number would give -0.0
+product-whole : (f : Format) (a : ℤ) (n : ℕ) → 0 < n → round f (unlike (isNegative a) false) (natAbs a * n) (1 * 1) ≡ ofInt f (a *ℤ pos n)
+unfolding ofInt
+product-whole f (pos a) n p = refl
+product-whole f (negsuc a) n p = let e : suc a * n ≡ suc (suc a * n - 1) = omega (arith, mul-pos (zero-lt-suc a) p) in rw e
+
+-- whole numbers, the second above 0
+pub mul-whole : (f : Format) (a : ℤ) (n : ℕ) → natAbs a ≤ 2 ^ prec f → (0 < n) × (n ≤ 2 ^ prec f) → mul f (ofInt f a) (ofInt f (pos n)) ≡ ofInt f (a *ℤ pos n)
+mul-whole f a n h (p, k) =
+    mul-at (ofInt f a) (ofInt f (pos n)) (isNegative a) (natAbs a) 1 false n 1 (zero-lt-suc 0) (zero-lt-suc 0) (whole-value f a h) (whole-value f (pos n) k) f
+    ∙ product-whole f a n p

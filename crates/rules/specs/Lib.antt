@@ -3,5 +3,6 @@ pub mod Rules
 pub mod Numbers
 pub mod TickMeans
 pub mod Stages
+pub mod TickPositions
 pub mod Opened
 pub mod Cases

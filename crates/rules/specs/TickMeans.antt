@@ -19,7 +19,7 @@ use Rattle.averages.specs.Window.{mean}
 use Rattle.rules.specs.Numbers.{all-at}
 
 -- a series of floats that are whole ticks, as a line of whole numbers
-tick-line : (s : List Float) → ((i : ℕ) → T (fits binary64 (line s i))) → all tick s ≡ true → TickLine (length s) (line s) (λ i. toSigned 63 (line s i))
+pub tick-line : (s : List Float) → ((i : ℕ) → T (fits binary64 (line s i))) → all tick s ≡ true → TickLine (length s) (line s) (λ i. toSigned 63 (line s i))
 tick-line s floats h = record {
   is = λ i l. sym (float-back-signed binary64 63 (line s i) (floats i) (ticked (line s i) (all-at tick s i h l) .castable) .1);
   small = λ i l. ticked (line s i) (all-at tick s i h l) .near;

@@ -1,12 +1,12 @@
--- `write_single` meets its contract: the means, their means, the positions over these, and the clearing over the first. Assumes nothing.
+-- `write_single_of_prices` meets its contract: the means, their means, the positions over these, and the clearing over the first. Assumes nothing.
 use Rattle.calls.specs.Written.{stands, then-written}
 use Rattle.averages.specs.Window.{mean, causal-mean}
 use Rattle.rules.specs.Stages.{part-long, through}
 use mathlib.Core.Path.{sym}
 use native.Mathlib.Omega.{arith}
 use borrow.Author.Needs.{needs}
-use Rattle.rules.proofs.write_single.Statement.{statement}
-use Rattle.rules.proofs.write_single.Tie as tie
+use Rattle.rules.proofs.write_single_of_prices.Statement.{statement}
+use Rattle.rules.proofs.write_single_of_prices.Tie as tie
 
 write-means-requires : tie.Need-write-means-requires
 write-means-requires c κs =
@@ -29,8 +29,8 @@ returns c =
     let long = part-long (first .write-means-of-prices .ensures) (omega arith) in
     (then-written (second .write-means .ensures) (cells .write-against-means .ensures) (omega arith), then-written (first .write-means-of-prices .ensures) (clear .clear .ensures) (omega arith))
 
-pub write-single-spec : {M : Type 1} → statement M
-write-single-spec =
+pub write-single-of-prices-spec : {M : Type 1} → statement M
+write-single-of-prices-spec =
     tie.close
     (tie.spec
     (λ c κs. search needs)  -- write-means-of-prices-requires
