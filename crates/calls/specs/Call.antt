@@ -47,3 +47,12 @@ module _ {A : Type 0} {due : Answer} {f : ℕ → A} {out₀ : List A} where
     pub work-counted : {k : ℕ} {out₁ : List A} {work₁ : List Float} → Cells k ≡ due
         → Writing k f out₀ out₁ → Writing (8 * l) (λ i. plusZero) work₀ work₁ → WorkCall due f out₀ l work₀ (Cells k) out₁ work₁
     work-counted e o w = record { answer = e; cells = o .is; work = w .is }
+
+    pub band-refused : {g h : ℕ → A} {upper₀ lower₀ : List A} {r : Answer} {q : Refusal} → r ≡ due → r ≡ Refused q
+        → BandCall due f out₀ g h upper₀ lower₀ l work₀ r out₀ upper₀ lower₀ work₀
+    band-refused e q = record { answer = e; middle = rw q; upper = rw q; lower = rw q; work = rw q }
+
+    pub band-counted : {g h : ℕ → A} {upper₀ lower₀ out₁ upper₁ lower₁ : List A} {k : ℕ} {work₁ : List Float} → Cells k ≡ due
+        → Writing k f out₀ out₁ → Writing k g upper₀ upper₁ → Writing k h lower₀ lower₁ → Writing (8 * l) (λ i. plusZero) work₀ work₁
+        → BandCall due f out₀ g h upper₀ lower₀ l work₀ (Cells k) out₁ upper₁ lower₁ work₁
+    band-counted e m u d w = record { answer = e; middle = m .is; upper = u .is; lower = d .is; work = w .is }

@@ -5,6 +5,7 @@ pub mod Line
 pub mod Recur
 pub mod Accepted
 pub mod Ticks
+pub mod Quick
 pub mod Answer
 pub mod Room
 pub mod Call

@@ -2,9 +2,9 @@
 use mathlib.Core.Path.{_≡_, refl, sym, _∙_}
 use mathlib.Core.Bool.{Bool, true, false, _&&_, _||_}
 use mathlib.Core.List.{List, [], _∷_, map}
-use Prim.Native.Nat.{ℕ, zero, suc, _*_, _<_, _≤_}
+use Prim.Native.Nat.{ℕ, zero, suc, _*_, _<_, _≤_, min}
 use native.Mathlib.Omega.{arith}
-use borrow.Author.Tests.{leb-true, eqb-true, eq-eqb, eqb-false}
+use borrow.Author.Tests.{leb-true, leb-false, le-leb, lt-leb, eqb-true, eq-eqb, eqb-false}
 use lib.Dec.{leb, eqb}
 use lib.ListN.{length}
 use lib.Ieee.{Float}
@@ -13,7 +13,7 @@ use Rattle.calls.specs.declared.Refusal.the-variants.{SeriesTooLong, Len
 use Rattle.calls.specs.declared.Answer.{Answer}
 use Rattle.calls.specs.declared.Answer.the-variants.{Cells, Refused}
 use Rattle.calls.specs.Accepted.{all}
-use Rattle.calls.specs.Answer.{countOf, unless, andThen, emptyIf, slices, checked, anyZero, windowed, answered}
+use Rattle.calls.specs.Answer.{countOf, first, unless, andThen, emptyIf, slices, checked, anyZero, windowed, answered}
 
 -- ---- the table for one series
 
@@ -29,11 +29,22 @@ unless-and : (t u : Bool) (q : Refusal) (next : Answer) → unless (t && u) q ne
 unless-and true u q next = refl
 unless-and false u q next = refl
 
-parted : (t u : Bool) (p q : Refusal) (l : ℕ) (next : Answer)
-    → unless t p (unless u q next) ≡ andThen (unless t p (unless u q (Cells l))) next
-parted true true p q l next = refl
-parted true false p q l next = refl
-parted false u p q l next = refl
+-- refusals 1 to 3, and then the next
+parted : (t u v : Bool) (l : ℕ) (next : Answer)
+    → unless t SeriesTooLong (unless u LengthsDiffer (unless v OutputTooShort next))
+    ≡ andThen (unless t SeriesTooLong (unless u LengthsDiffer (unless v OutputTooShort (Cells l)))) next
+parted true true true l next = refl
+parted true true false l next = refl
+parted true false v l next = refl
+parted false u v l next = refl
+
+leb-min : (k a b : ℕ) → leb k (min a b) ≡ leb k a && leb k b
+leb-min k a b = go (leb k a) (leb k b) refl refl
+  where
+    go : (t u : Bool) → leb k a ≡ t → leb k b ≡ u → leb k (min a b) ≡ t && u
+    go true true p q = let x = leb-true k a p in let y = leb-true k b q in le-leb k (min a b) (omega arith)
+    go true false p q = let y = leb-false k b q in lt-leb k (min a b) (omega arith)
+    go false u p q = let x = leb-false k a p in lt-leb k (min a b) (omega arith)
 
 in-turn : (a : Answer) (p q r : Bool) (k l m : ℕ)
     → andThen a (unless (p && (q && r)) ValueNotAccepted (Cells k))
@@ -56,12 +67,13 @@ unfolding slices
 slices-one l out work = rw (and-true (leb l 65536), and-true (eqb l l), eq-eqb l l refl, and-true (leb l out))
 
 -- three series: each length, then each of the later two against the first
-pub slices-three : (a b c out : ℕ)
-    → slices (a ∷ b ∷ c ∷ []) (out ∷ []) []
+pub slices-three : (a b c out : ℕ) (work : List ℕ)
+    → slices (a ∷ b ∷ c ∷ []) (out ∷ []) work
     ≡ unless (leb a 65536) SeriesTooLong (unless (leb b 65536) SeriesTooLong (unless (leb c 65536) SeriesTooLong
-    (unless (eqb b a) LengthsDiffer (unless (eqb c a) LengthsDiffer (unless (leb a out) OutputTooShort (Cells a))))))
+    (unless (eqb b a) LengthsDiffer (unless (eqb c a) LengthsDiffer
+    (unless (leb a out) OutputTooShort (unless (all (λ room. leb (8 * a) room) work) WorkTooShort (Cells a)))))))
 unfolding slices
-slices-three a b c out =
+slices-three a b c out work =
     rw (
       and-true (leb c 65536),
       unless-and (leb a 65536),
@@ -73,10 +85,22 @@ slices-three a b c out =
     )
 
 -- the work slice comes after the other lengths
-pub slices-work : (l out work : ℕ)
-    → slices (l ∷ []) (out ∷ []) (work ∷ []) ≡ andThen (slices (l ∷ []) (out ∷ []) []) (unless (leb (8 * l) work) WorkTooShort (Cells l))
-slices-work l out work =
-    rw (slices-one l out (work ∷ []), slices-one l out [], and-true (leb (8 * l) work)) (parted (leb l 65536) (leb l out) _ _ l _)
+pub slices-work : (series outputs : List ℕ) (work : ℕ)
+    → slices series outputs (work ∷ [])
+    ≡ andThen (slices series outputs []) (unless (leb (8 * first series) work) WorkTooShort (Cells (first series)))
+unfolding slices
+slices-work series outputs work =
+    let l = first series in
+    rw (and-true (leb (8 * l) work))
+    (parted (all (λ k. leb k 65536) series) (all (λ k. eqb k l) series) (all (λ room. leb l room) outputs) l (unless (leb (8 * l) work) WorkTooShort (Cells l)))
+
+-- of three outputs the shortest decides
+pub three-outputs : (ok : Float → Bool) (series : List (List Float)) (a b c : ℕ) (work : List ℕ)
+    → checked ok series (a ∷ b ∷ c ∷ []) work ≡ checked ok series (min a (min b c) ∷ []) work
+unfolding checked slices
+three-outputs ok series a b c work =
+    let l = first (map length series) in
+    rw (and-true (leb l c), and-true (leb l (min a (min b c))), leb-min l a (min b c), leb-min l b c)
 
 pub checked-one : (ok : Float → Bool) (s : List Float) (outputs work : List ℕ)
     → checked ok (s ∷ []) outputs work
@@ -188,28 +212,36 @@ opened ok s n out work k e h =
     let c = or-parts (eqb l 0) (eqb n 0) (b .0) in
     record { some = nonzero n (c .1); narrow = leb-true _ _ (a .0); whole = sym (same-count _ _ (b .1)) }
 
--- three series of one length, and an output that has room for it
-pub record Three (s t u : List Float) (out : ℕ) : Type 0 where
+-- three series of one length, and an output and a work slice that have room for it
+pub record Three (s t u : List Float) (out : ℕ) (work : List ℕ) : Type 0 where
   pub second : length t ≡ length s
   pub third : length u ≡ length s
   pub out-long : length s ≤ out
+  pub work-long : AtLeast (8 * length s) work
 
 -- that is so of three series that were checked, and the count is that length
-pub checked-three-room : (ok : Float → Bool) (s t u : List Float) (out k : ℕ) → checked ok (s ∷ t ∷ u ∷ []) (out ∷ []) [] ≡ Cells k
-    → Three s t u out × (Cells (length s) ≡ Cells k)
-checked-three-room ok s t u out k e =
-    let lengths = slices (length s ∷ length t ∷ length u ∷ []) (out ∷ []) [] in
+pub checked-three-room : (ok : Float → Bool) (s t u : List Float) (out : ℕ) (work : List ℕ) (k : ℕ)
+    → checked ok (s ∷ t ∷ u ∷ []) (out ∷ []) work ≡ Cells k
+    → Three s t u out work × (Cells (length s) ≡ Cells k)
+checked-three-room ok s t u out work k e =
+    let lengths = slices (length s ∷ length t ∷ length u ∷ []) (out ∷ []) work in
     let last = andThen lengths (unless (all ok u) ValueNotAccepted (Cells (length u))) in
     let later = andThen last (unless (all ok t) ValueNotAccepted (Cells (length t))) in
-    let one = andThen-cells later _ k (sym (checked-three ok s t u (out ∷ []) []) ∙ e) in
+    let one = andThen-cells later _ k (sym (checked-three ok s t u (out ∷ []) work) ∙ e) in
     let two = andThen-cells last _ _ (one .0) in
     let three = andThen-cells lengths _ _ (two .0) in
-    let a = unless-cells (leb (length s) 65536) _ _ _ (sym (slices-three (length s) (length t) (length u) out) ∙ three .0) in
+    let a = unless-cells (leb (length s) 65536) _ _ _ (sym (slices-three (length s) (length t) (length u) out work) ∙ three .0) in
     let b = unless-cells (leb (length t) 65536) _ _ _ (a .1) in
     let c = unless-cells (leb (length u) 65536) _ _ _ (b .1) in
     let second = unless-cells (eqb (length t) (length s)) _ _ _ (c .1) in
     let third = unless-cells (eqb (length u) (length s)) _ _ _ (second .1) in
-    let room = unless-cells (leb (length s) out) _ _ _ (third .1) in (
-      record { second = eqb-true _ _ (second .0); third = eqb-true _ _ (third .0); out-long = leb-true _ _ (room .0) },
+    let room = unless-cells (leb (length s) out) _ _ _ (third .1) in
+    let beside = unless-cells (all (λ room. leb (8 * length s) room) work) _ _ _ (room .1) in (
+      record {
+        second = eqb-true _ _ (second .0);
+        third = eqb-true _ _ (third .0);
+        out-long = leb-true _ _ (room .0);
+        work-long = at-least (8 * length s) work (beside .0);
+      },
       unless-cells (all ok s) _ _ k (one .1) .1,
     )

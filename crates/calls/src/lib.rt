@@ -7,6 +7,7 @@ ghost use lib.Dec.{leb, eqb};
 ghost use lib.ListN.{length};
 ghost use lib.Ieee.{binary64, toBits};
 ghost use Rattle.calls.specs.Accepted.{within, accepted, tick, finite, all};
+ghost use Rattle.calls.specs.Quick.{cappedBits, NoneAbove};
 ghost use Rattle.calls.specs.Answer.{number, refusalOf, countOf, unless, andThen, slices, checked, windowed, answered};
 ghost use Rattle.calls.specs.Line.{plusZero, Led};
 ghost use Rattle.calls.specs.Written.{Writing};
@@ -110,8 +111,29 @@ pub fn is_finite(x: f64) -> bool
     if x < infinity { -infinity < x } else { false }
 }
 
+// The bits of x, or those of 2^31 where x is not below it, as a NaN is not.
+fn capped_bits(x: f64) -> u64
+    ensures { λ r. ⌜ r ≡ cappedBits x ⌝ }
+{
+    let low = if x < 2147483648.0 { x } else { 2147483648.0 };
+    f64::to_bits(low)
+}
+
+// The bits of all numbers of s, one upon the other: those of no number are larger.
+fn bits_together(s: &[f64]) -> u64
+    ensures { λ r. ⌜ NoneAbove r (now (s .entry)) ⌝ }
+{
+    let mut together = 0;
+    let mut i = 0;
+    while i < s.len() {
+        together = together | capped_bits(s[i]);
+        i += 1;
+    }
+    together
+}
+
 // Whether a series may hold every number of s. All are looked at, and what was found is kept in two variables: so the loop takes several at a time.
-pub fn all_accepted(s: &[f64]) -> bool
+fn each_accepted(s: &[f64]) -> bool
     ensures { λ r. ⌜ r ≡ all accepted (now (s .entry)) ⌝ }
 {
     let mut near = true;
@@ -123,6 +145,17 @@ pub fn all_accepted(s: &[f64]) -> bool
         i += 1;
     }
     near & (minus_zeros == 0)
+}
+
+// Whether a series may hold every number of s. If all bits together are at most those of 2^30, every number lies from 0.0 to 2^30; most series pass this quick test.
+pub fn all_accepted(s: &[f64]) -> bool
+    ensures { λ r. ⌜ r ≡ all accepted (now (s .entry)) ⌝ }
+{
+    if bits_together(s) <= 4742290407621132288 {
+        true
+    } else {
+        each_accepted(s)
+    }
 }
 
 // Whether every number of s is a whole tick.
@@ -264,6 +297,60 @@ pub fn check_three(first: &[f64], second: &[f64], third: &[f64], out: usize) -> 
     check_values(two, first)
 }
 
+// The same with three series and a work slice.
+pub fn check_three_with_work(
+    first: &[f64],
+    second: &[f64],
+    third: &[f64],
+    out: usize,
+    work: usize,
+) -> Answer
+    ensures { λ r. ⌜ r ≡ checked accepted (now (first .entry) ∷ now (second .entry) ∷ now (third .entry) ∷ []) (out ∷ []) (work ∷ []) ⌝ }
+{
+    let lengths = check_lengths_of_three(first.len(), second.len(), third.len(), out);
+    let room = check_work(first.len(), work);
+    let sizes = and_then(lengths, room);
+    let one = check_values(sizes, third);
+    let two = check_values(one, second);
+    check_values(two, first)
+}
+
+// The smaller of two counts.
+fn smaller(a: usize, b: usize) -> usize
+    ensures { λ r. ⌜ r ≡ min a b ⌝ }
+{
+    if a < b { a } else { b }
+}
+
+// The shortest of three outputs.
+fn shortest(a: usize, b: usize, c: usize) -> usize
+    ensures { λ r. ⌜ r ≡ min a (min b c) ⌝ }
+{
+    smaller(a, smaller(b, c))
+}
+
+// The first refusal of a call with one series, three outputs and a work slice, before its parameters; else the series' length.
+pub fn check_bands(series: &[f64], middle: usize, upper: usize, lower: usize, work: usize) -> Answer
+    ensures { λ r. ⌜ r ≡ checked accepted (now (series .entry) ∷ []) (middle ∷ upper ∷ lower ∷ []) (work ∷ []) ⌝ }
+{
+    check_with_work(series, shortest(middle, upper, lower), work)
+}
+
+// The same with three series.
+pub fn check_channel(
+    first: &[f64],
+    second: &[f64],
+    third: &[f64],
+    middle: usize,
+    upper: usize,
+    lower: usize,
+    work: usize,
+) -> Answer
+    ensures { λ r. ⌜ r ≡ checked accepted (now (first .entry) ∷ now (second .entry) ∷ now (third .entry) ∷ []) (middle ∷ upper ∷ lower ∷ []) (work ∷ []) ⌝ }
+{
+    check_three_with_work(first, second, third, shortest(middle, upper, lower), work)
+}
+
 // What one window makes of an answer of `bars` cells.
 fn check_window(bars: usize, n: usize) -> Answer
     ensures { λ r. ⌜ r ≡ windowed bars (n ∷ []) (Cells bars) ⌝ }
@@ -322,13 +409,6 @@ pub fn clear(cells: &mut [f64], n: usize)
     ensures { λ _. ⌜ Writing n (λ i. plusZero) (now (cells .entry)) (now (cells .exit)) ⌝ }
 {
     fill(cells, n, 0.0);
-}
-
-// The smaller of two counts.
-fn smaller(a: usize, b: usize) -> usize
-    ensures { λ r. ⌜ r ≡ min a b ⌝ }
-{
-    if a < b { a } else { b }
 }
 
 // Writes x to the bars before bar b, and gives the bar after them: b, or the end where the bars end before it.

@@ -118,7 +118,7 @@ true-range-no-look-ahead {high} {low} {close} {high′} {low′} {close′} {out
     let p = eh .left in
     let q = eh .right in
     holds nan _ (length high) out₀ out₁ (c .cells)
-    (checked-three-room accepted high low close (length out₀) (length high) (sym (c .answer)) .0 .out-long)
+    (checked-three-room accepted high low close (length out₀) [] (length high) (sym (c .answer)) .0 .out-long)
     j
     (omega arith)
     ∙ causal-range (line high) (line high′) (line low) (line low′) (line close) (line close′) j
@@ -127,7 +127,7 @@ true-range-no-look-ahead {high} {low} {close} {high′} {low′} {close′} {out
     (λ i m. ec .same i (omega arith))
     ∙ sym
     (holds nan _ (length high′) out₀′ out₁′ (c′ .cells)
-    (checked-three-room accepted high′ low′ close′ (length out₀′) (length high′) (sym (c′ .answer)) .0 .out-long)
+    (checked-three-room accepted high′ low′ close′ (length out₀′) [] (length high′) (sym (c′ .answer)) .0 .out-long)
     j
     (omega arith))
 

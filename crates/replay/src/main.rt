@@ -2,8 +2,6 @@
 // left something else than was recorded: another refusal, count, cell of the output or work cell. The last line says how
 // many records there are and how many were not run: those from the first on that breaks off, is too long or is of a
 // function that is not here.
-mod same;
-
 use calls::Answer;
 use records::Word;
 use records::stream::Place;
@@ -13,7 +11,8 @@ ghost use Prim.Native.Nat.{_+_, _%_, _^_, _<_, _≤_};
 ghost use lib.ListN.{length, getD, set};
 ghost use Rattle.calls.specs.Answer.{refusalOf, countOf};
 ghost use Rattle.calls.specs.Written.{Writing};
-ghost use Rattle.replay.specs.Agree.{Decides, Same, floats, words, Left, Runs, wordsOf, Given, Counted};
+ghost use Rattle.same.specs.Agree.{Decides, Same, floats, words};
+ghost use Rattle.replay.specs.Agree.{Left, Runs, wordsOf, Given, Counted};
 
 // The numbers of a recorded call. No function here has more than two parameters.
 struct Call {

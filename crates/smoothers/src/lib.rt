@@ -165,7 +165,7 @@ pub fn range_of(high: f64, low: f64, before: f64) -> f64
 
 // Writes the cell of bar 0, which has no close before it.
 fn write_first(high: &[f64], low: &[f64], close_prev: &[f64], out: &mut [f64])
-    requires { ⌜ (0 < length (now high)) × Three (now high) (now low) (now «close_prev») (length (now out)) ⌝ }
+    requires { ⌜ (0 < length (now high)) × Three (now high) (now low) (now «close_prev») (length (now out)) [] ⌝ }
     ensures { λ _. ⌜ Ranging 1 (now (high .entry)) (now (low .entry)) (now («close_prev» .entry)) (now (out .entry)) (now (out .exit)) ⌝ }
 {
     out[0] = high[0] - low[0];
@@ -173,7 +173,7 @@ fn write_first(high: &[f64], low: &[f64], close_prev: &[f64], out: &mut [f64])
 
 // Writes the cells after bar 0, where that one stands.
 fn write_rest(high: &[f64], low: &[f64], close_prev: &[f64], out: &mut [f64])
-    requires { ⌜ (0 < length (now high)) × Three (now high) (now low) (now «close_prev») (length (now out)) ⌝ }
+    requires { ⌜ (0 < length (now high)) × Three (now high) (now low) (now «close_prev») (length (now out)) [] ⌝ }
     requires { ⌜ Ranging 1 (now high) (now low) (now «close_prev») (now out) (now out) ⌝ }
     ensures { λ _. ⌜ Ranging (length (now (high .entry))) (now (high .entry)) (now (low .entry)) (now («close_prev» .entry)) (now (out .entry)) (now (out .exit)) ⌝ }
 {
@@ -186,7 +186,7 @@ fn write_rest(high: &[f64], low: &[f64], close_prev: &[f64], out: &mut [f64])
 
 // Writes the true range of every bar.
 pub fn write_true_range(high: &[f64], low: &[f64], close_prev: &[f64], out: &mut [f64])
-    requires { ⌜ Three (now high) (now low) (now «close_prev») (length (now out)) ⌝ }
+    requires { ⌜ Three (now high) (now low) (now «close_prev») (length (now out)) [] ⌝ }
     ensures { λ _. ⌜ Ranging (length (now (high .entry))) (now (high .entry)) (now (low .entry)) (now («close_prev» .entry)) (now (out .entry)) (now (out .exit)) ⌝ }
 {
     if high.len() > 0 {

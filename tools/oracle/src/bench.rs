@@ -1,11 +1,8 @@
 //! Times per bar of the library and of pure.rs, in one run: outputs ready beforehand on our side, vectors on the source's.
 
-use std::hint::black_box;
-
 use crate::call::{Call, Value};
 use crate::catalogue::{self, Function, Role};
 use crate::clock::best_of_two;
-use crate::leaf;
 use crate::library::Lent;
 use crate::rng::Rng;
 
@@ -44,7 +41,6 @@ pub fn run() {
             }
         }
     }
-    square_root();
     if let Some(least) = rows.iter().min_by(|a, b| a.ratio().total_cmp(&b.ratio())) {
         println!("smallest ratio {:.2}: {}, L {}, window {}", least.ratio(), least.name, least.bars, least.window);
     }
@@ -94,16 +90,4 @@ fn walk(seed: u64, bars: usize) -> Vec<f64> {
         price as f64
     };
     (0..bars).map(step).collect()
-}
-
-/// The library's square root beside the machine's instruction, a call each.
-fn square_root() {
-    let Some(root) = leaf::SQUARE_ROOT else { return };
-    let mut rng = Rng::new(1);
-    let numbers: Vec<f64> = (0..4_096).map(|_| rng.unit() * 1e9).collect();
-    let mut ours = || numbers.iter().for_each(|x| _ = black_box(root(*x)));
-    let mut machine = || numbers.iter().for_each(|x| _ = black_box(black_box(*x).sqrt()));
-    let (ours, machine) = best_of_two(&mut ours, &mut machine);
-    let each = |time: f64| time / numbers.len() as f64;
-    println!("square_root: {:.2} ns a call; the machine's instruction: {:.2}", each(ours), each(machine));
 }

@@ -7,7 +7,6 @@ mod clock;
 mod compare;
 mod exact;
 mod generate;
-mod leaf;
 mod library;
 mod record;
 mod rng;
@@ -39,7 +38,7 @@ fn main() -> ExitCode {
         ["compare", calls, seeds @ ..] if !seeds.is_empty() => {
             let seeds: Vec<u64> = seeds.iter().map(|s| number(s)).collect();
             let calls = number(calls) as usize;
-            exact::run(&seeds, calls / 50) & leaf::compare(&seeds, calls) & compare::run(&seeds, calls)
+            exact::run(&seeds, calls / 50) & compare::run(&seeds, calls)
         }
         ["notice", calls, names @ ..] => compare::notices(1, number(calls) as usize, names),
         ["bench"] => told(|| bench::run()),

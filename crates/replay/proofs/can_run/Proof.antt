@@ -1,6 +1,6 @@
 -- `can_run` meets its contract: a number that is out of its bounds, or none. Assumes nothing.
 use native.Mathlib.Omega.{arith}
-use Rattle.replay.proofs.Deciding.{holds, fails}
+use Rattle.same.specs.Deciding.{holds, fails}
 use borrow.Author.Needs.{needs}
 use Rattle.replay.proofs.can_run.Statement.{statement}
 use Rattle.replay.proofs.can_run.Tie as tie

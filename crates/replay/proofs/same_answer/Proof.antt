@@ -1,6 +1,6 @@
 -- `same_answer` meets its contract: the numbers are those of the answer. Assumes nothing.
 use mathlib.Core.Path.{sym, _∙_}
-use Rattle.replay.proofs.Deciding.{holds, fails}
+use Rattle.same.specs.Deciding.{holds, fails}
 use borrow.Author.Needs.{needs}
 use Rattle.replay.proofs.same_answer.Statement.{statement}
 use Rattle.replay.proofs.same_answer.Tie as tie

@@ -1,8 +1,8 @@
--- `same::work_word` meets its contract: each arm is one of `workWord`'s. Assumes nothing.
+-- `work_word` meets its contract: each arm is one of `workWord`'s. Assumes nothing.
 use borrow.Author.Tests.{lt-ltb, le-ltb}
-use Rattle.replay.specs.Agree.{workWord}
-use Rattle.replay.proofs.same.work_word.Statement.{statement}
-use Rattle.replay.proofs.same.work_word.Tie as tie
+use Rattle.same.specs.Agree.{workWord}
+use Rattle.same.proofs.work_word.Statement.{statement}
+use Rattle.same.proofs.work_word.Tie as tie
 
 pub work-word-spec : {M : Type 1} → statement M
 work-word-spec =

@@ -1,4 +1,4 @@
--- `same::same_work` meets its contract: the cells before i agree. Assumes nothing.
+-- `same_work` meets its contract: the cells before i agree. Assumes nothing.
 use mathlib.Core.Path.{sym, ap, _∙_}
 use mathlib.Core.Bool.{true≢false}
 use Prim.Native.Nat.{_-_, _≤_}
@@ -6,11 +6,11 @@ use native.Mathlib.Omega.{arith}
 use lib.ListN.{length}
 use lib.Ieee.{binary64, ofBits}
 use Rattle.calls.specs.Line.{line}
-use Rattle.replay.specs.Agree.{worked}
-use Rattle.replay.proofs.Deciding.{Agreeing, none-agrees, one-agrees, all-agree, one-differs}
+use Rattle.same.specs.Agree.{worked}
+use Rattle.same.specs.Deciding.{Agreeing, none-agrees, one-agrees, all-agree, one-differs}
 use borrow.Author.Needs.{needs}
-use Rattle.replay.proofs.same.same_work.Statement.{statement}
-use Rattle.replay.proofs.same.same_work.Tie as tie
+use Rattle.same.proofs.same_work.Statement.{statement}
+use Rattle.same.proofs.same_work.Tie as tie
 
 abbrev Inv-loop : tie.InvT-loop
 Inv-loop work cleared i₀ i = (i ≤ length work) × Agreeing (line work) (worked cleared) i

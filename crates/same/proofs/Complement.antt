@@ -10,7 +10,7 @@ use lib.Signed.{ltZ, nonNeg}
 use mir.Syntax.{w64}
 use mir.Val.{SFits, ofZ, toZ}
 use mir.ValLaws.{toZ-ofZ}
-use Rattle.replay.specs.Agree.{twosComplement}
+use Rattle.same.specs.Agree.{twosComplement}
 
 -- of a number below 0: what -1 less it is, and that the complement counts that many down from 2 ^ 64 - 1
 pub record Below (z : ℤ) : Type 0 where

@@ -4,7 +4,7 @@ use mathlib.Core.Path.{_≡_, refl, sym}
 use Prim.Native.Nat.{ℕ, _+_, _<_, _≤_}
 use native.Mathlib.Omega.{arith}
 use borrow.Author.Count.{below-none, below-more}
-use Rattle.replay.specs.Agree.{Decides, Agree}
+use Rattle.same.specs.Agree.{Decides, Agree}
 
 module _ {P : Type 0} where
   pub holds : P → Decides P true

@@ -2,7 +2,7 @@
 ghost use mathlib.Core.Path.{_≡_};
 ghost use lib.ListN.{length, getD};
 ghost use Rattle.calls.specs.Line.{line};
-ghost use Rattle.replay.specs.Agree.{Agree, floats, twosComplement, words, workWord, worked};
+ghost use Rattle.same.specs.Agree.{Agree, floats, twosComplement, words, workWord, worked};
 
 // What every output and work cell holds before a call: the pattern of -987654321.125, and a whole number where cells are.
 pub const UNTOUCHED: u64 = 0xc1cd_6f34_5890_0000;

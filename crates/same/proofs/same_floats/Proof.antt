@@ -1,15 +1,15 @@
--- `same::same_floats` meets its contract: the cells before i agree. Assumes nothing.
+-- `same_floats` meets its contract: the cells before i agree. Assumes nothing.
 use mathlib.Core.Path.{sym, _∙_}
 use mathlib.Core.Bool.{true≢false}
 use Prim.Native.Nat.{_-_, _≤_}
 use native.Mathlib.Omega.{arith}
 use lib.ListN.{length}
 use Rattle.calls.specs.Line.{line}
-use Rattle.replay.specs.Agree.{floats}
-use Rattle.replay.proofs.Deciding.{Agreeing, none-agrees, one-agrees, all-agree, one-differs}
+use Rattle.same.specs.Agree.{floats}
+use Rattle.same.specs.Deciding.{Agreeing, none-agrees, one-agrees, all-agree, one-differs}
 use borrow.Author.Needs.{needs}
-use Rattle.replay.proofs.same.same_floats.Statement.{statement}
-use Rattle.replay.proofs.same.same_floats.Tie as tie
+use Rattle.same.proofs.same_floats.Statement.{statement}
+use Rattle.same.proofs.same_floats.Tie as tie
 
 abbrev Inv-loop : tie.InvT-loop
 Inv-loop cells recorded i₀ i = (i ≤ length cells) × Agreeing (line cells) (floats recorded) i

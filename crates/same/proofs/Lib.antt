@@ -1,3 +1,2 @@
 -- What the proofs share.
-mod Deciding
 mod Complement

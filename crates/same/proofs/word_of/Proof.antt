@@ -1,4 +1,4 @@
--- `same::word_of` meets its contract: an i64 is read as it was written, and its sign picks the line of `twosComplement`.
+-- `word_of` meets its contract: an i64 is read as it was written, and its sign picks the line of `twosComplement`.
 -- Assumes nothing.
 use mathlib.Core.Path.{_≡_}
 use native.Mathlib.Omega.{arith}
@@ -6,9 +6,9 @@ use lib.IntN.{pos}
 use mir.Syntax.{w64}
 use mir.Val.{toZ, ofZ}
 use mir.ValLaws.{toZ-ofZ}
-use Rattle.replay.proofs.Complement.{Below, NotBelow, below, not-below, small-fits}
-use Rattle.replay.proofs.same.word_of.Statement.{statement}
-use Rattle.replay.proofs.same.word_of.Tie as tie
+use Rattle.same.proofs.Complement.{Below, NotBelow, below, not-below, small-fits}
+use Rattle.same.proofs.word_of.Statement.{statement}
+use Rattle.same.proofs.word_of.Tie as tie
 
 read : (c : tie.Start) → toZ w64 (ofZ w64 (c .args .tick)) ≡ c .args .tick
 read c = toZ-ofZ w64 (c .args .tick) (c .fits .tick)

@@ -1,4 +1,4 @@
--- `same::same_ticks` meets its contract: the cells before i agree. Assumes nothing.
+-- `same_ticks` meets its contract: the cells before i agree. Assumes nothing.
 use mathlib.Core.Path.{_≡_, sym, ap, _∙_}
 use Prim.Native.Nat.{_-_, _≤_}
 use native.Mathlib.Omega.{arith}
@@ -6,11 +6,11 @@ use lib.ListN.{length, getD}
 use lib.IntN.{pos}
 use mir.Syntax.{w64}
 use mir.ValLaws.{toZ-ofZ}
-use Rattle.replay.specs.Agree.{twosComplement, words}
-use Rattle.replay.proofs.Deciding.{Agreeing, none-agrees, one-agrees, all-agree, one-differs}
+use Rattle.same.specs.Agree.{twosComplement, words}
+use Rattle.same.specs.Deciding.{Agreeing, none-agrees, one-agrees, all-agree, one-differs}
 use borrow.Author.Needs.{needs}
-use Rattle.replay.proofs.same.same_ticks.Statement.{statement}
-use Rattle.replay.proofs.same.same_ticks.Tie as tie
+use Rattle.same.proofs.same_ticks.Statement.{statement}
+use Rattle.same.proofs.same_ticks.Tie as tie
 
 abbrev Inv-loop : tie.InvT-loop
 Inv-loop cells recorded i₀ i = (i ≤ length cells) × Agreeing (words cells) (λ k. getD recorded k 0) i
