@@ -1,13 +1,13 @@
 -- The best of neighbouring cells, put together from the best of its parts: of numbers `pickOf` picks the same in any grouping.
 -- Assumes nothing.
-use mathlib.Core.Path.{_≡_, refl, sym, ap, _∙_}
+use mathlib.Core.Path.{_≡_, refl, sym, _∙_}
 use mathlib.Core.Bool.{Bool, true, false, cond}
 use Prim.Native.Nat.{ℕ, zero, suc, _+_, _-_, _<_, _≤_}
 use native.Mathlib.Nat.{add-zero, sub-self}
 use native.Mathlib.Omega.{arith}
 use lib.Ieee.{Float, lt, isNan}
 use Rattle.calls.specs.Line.{Line, plusZero, from-bar}
-use Rattle.extremes.specs.Extreme.{larger, smaller, pickOf, pickFrom, extreme}
+use Rattle.extremes.specs.Extreme.{pickOf, pickFrom, extreme}
 use Rattle.extremes.specs.Order.{lt-between}
 
 -- the cells before bar `bars` are numbers

@@ -2,5 +2,6 @@
 pub mod Extreme
 pub mod Order
 pub mod Best
+pub mod Range
 pub mod Part
 pub mod Blocks

@@ -1,9 +1,10 @@
--- A part of a slice written anew, from either end. Assumes nothing.
+-- Two rows of a slice, the highest of bar i in cell i and the lowest in cell bars + i: a part of the bars written anew, from either end.
+-- Assumes nothing.
 use mathlib.Core.Path.{_≡_, refl, sym, _∙_}
 use mathlib.Core.Bool.{Bool, true, false}
-use mathlib.Core.Logic.{⊎-elim}
+use mathlib.Core.Logic.{_⊎_, inl, inr, ⊎-elim}
 use mathlib.Core.List.{List}
-use Prim.Native.Nat.{ℕ, _+_, _<_, _≤_}
+use Prim.Native.Nat.{ℕ, _+_, _-_, _<_, _≤_}
 use native.Mathlib.Nat.{eq-or-lt-of-le}
 use native.Mathlib.Omega.{arith}
 use borrow.Author.Tests.{ltb-true, ltb-false}
@@ -12,82 +13,155 @@ use lib.ListN.{length, set, length-set}
 use lib.Seq.{getD-set-same, getD-set-other, ext-getD}
 use lib.Ieee.{Float, nan}
 use Rattle.calls.specs.Line.{Line, line}
-use Rattle.calls.specs.Written.{written, Writing, read-back, length-written, getD-written, getD-untouched}
+use Rattle.calls.specs.Rows.{beside, beside-first, beside-second}
+use Rattle.calls.specs.Written.{written, Writing, length-written, getD-written, getD-untouched}
+use Rattle.extremes.specs.declared.Range.{Range}
 
--- `now` is `old` with the cells lo to hi - 1 written, each as Q asks
-pub record Replacing (lo hi : ℕ) (Q : ℕ → Float → Type 0) (old now : List Float) : Type 0 where
+before-or-not : (i k : ℕ) → (i < k) ⊎ (k ≤ i)
+before-or-not i k = go (ltb i k) refl
+  where
+    go : (t : Bool) → ltb i k ≡ t → (i < k) ⊎ (k ≤ i)
+    go true e = inl (ltb-true i k e)
+    go false e = inr (ltb-false i k e)
+
+-- what stands in the rows at bar i
+abbrev pub rangeAt : ℕ → List Float → ℕ → Range
+rangeAt bars cells i = record { high = line cells i; low = line cells (bars + i) }
+
+-- the rows with a range stored at bar i
+abbrev pub stored : ℕ → List Float → ℕ → Range → List Float
+stored bars cells i x = set (set cells i (x .high)) (bars + i) (x .low)
+
+-- `now` is `old` with the ranges of bars lo to hi - 1 written, each as Q asks
+pub record Replacing (bars lo hi : ℕ) (Q : ℕ → Range → Type 0) (old now : List Float) : Type 0 where
   pub long : length now ≡ length old
-  pub inside : (i : ℕ) → (lo ≤ i) × (i < hi) → Q i (line now i)
-  pub below : (i : ℕ) → i < lo → line now i ≡ line old i
-  pub above : (i : ℕ) → hi ≤ i → line now i ≡ line old i
+  pub inside : (i : ℕ) → (lo ≤ i) × (i < hi) → Q i (rangeAt bars now i)
+  pub below : (i : ℕ) → i < lo → rangeAt bars now i ≡ rangeAt bars old i
+  pub above : (i : ℕ) → (hi ≤ i) × (i < bars) → rangeAt bars now i ≡ rangeAt bars old i
+  pub after : (i : ℕ) → bars + bars ≤ i → line now i ≡ line old i
 
-module _ {Q : ℕ → Float → Type 0} {old : List Float} where
-  pub none-replaced : {lo hi : ℕ} → lo ≡ hi → Replacing lo hi Q old old
-  none-replaced e = record { long = refl; inside = λ i h. absurd (omega arith); below = λ i l. refl; above = λ i l. refl }
+module _ {bars : ℕ} {Q : ℕ → Range → Type 0} {old : List Float} where
+  pub none-replaced : {lo hi : ℕ} → lo ≡ hi → Replacing bars lo hi Q old old
+  none-replaced e = record { long = refl; inside = λ i h. absurd (omega arith); below = λ i l. refl; above = λ i l. refl; after = λ i l. refl }
 
   -- the loop is over, and the part ends at hi
-  pub part-ends : {lo k hi : ℕ} {now : List Float} → Replacing lo k Q old now → k ≡ hi → Replacing lo hi Q old now
+  pub part-ends : {lo k hi : ℕ} {now : List Float} → Replacing bars lo k Q old now → k ≡ hi → Replacing bars lo hi Q old now
   part-ends w e = rw (← e) w
 
-  -- one cell is as Q asks already
-  pub one-stands : {lo hi : ℕ} (i : ℕ) → Q i (line old i) → (lo ≡ i) × (i + 1 ≡ hi) → Replacing lo hi Q old old
+  -- the range of one bar is as Q asks already
+  pub one-stands : {lo hi : ℕ} (i : ℕ) → Q i (rangeAt bars old i) → (lo ≡ i) × (i + 1 ≡ hi) → Replacing bars lo hi Q old old
   one-stands i q (d, e) = record {
     long = refl;
     inside = λ j h. let same : j ≡ i = omega arith in rw same q;
     below = λ j l. refl;
     above = λ j l. refl;
+    after = λ j l. refl;
   }
 
   -- what is written stands there, also for a call that writes it over
-  pub stays : {lo hi : ℕ} {now : List Float} → Replacing lo hi Q old now → Replacing lo hi Q now now
-  stays w = record { long = refl; inside = w .inside; below = λ j l. refl; above = λ j l. refl }
+  pub stays : {lo hi : ℕ} {now : List Float} → Replacing bars lo hi Q old now → Replacing bars lo hi Q now now
+  stays w = record { long = refl; inside = w .inside; below = λ j l. refl; above = λ j l. refl; after = λ j l. refl }
 
-  pub replaced-again : {lo hi : ℕ} {R : ℕ → Float → Type 0} {mid now : List Float} → Replacing lo hi R old mid → Replacing lo hi Q mid now
-      → Replacing lo hi Q old now
-  replaced-again v w = record {
+  -- a part of the bars written, and then all of these and more
+  pub replaced-again : {lo hi lo′ hi′ : ℕ} {R : ℕ → Range → Type 0} {mid now : List Float} → Replacing bars lo′ hi′ R old mid → Replacing bars lo hi Q mid now
+      → (lo ≤ lo′) × (hi′ ≤ hi) → Replacing bars lo hi Q old now
+  replaced-again v w h = record {
     long = w .long ∙ v .long;
     inside = w .inside;
-    below = λ j l. w .below j l ∙ v .below j l;
-    above = λ j l. w .above j l ∙ v .above j l;
+    below = λ j l. w .below j l ∙ v .below j (omega arith);
+    above = λ j l. w .above j l ∙ v .above j (omega arith);
+    after = λ j l. w .after j l ∙ v .after j l;
   }
 
-  -- one more store, below the part or above it
-  module _ {lo hi : ℕ} {now : List Float} {x : Float} (i : ℕ) (w : Replacing lo hi Q old now) (q : Q i x) where
-    elsewhere : (j : ℕ) → (j ≡ i → ⊥) → line (set now i x) j ≡ line now j
-    elsewhere j d = getD-set-other now i j x nan d
+  -- the bars from k on are written after those before
+  pub goes-on : {lo k hi : ℕ} {mid now : List Float} → Replacing bars lo k Q old mid → Replacing bars k hi Q mid now → (lo ≤ k) × (k ≤ hi)
+      → Replacing bars lo hi Q old now
+  goes-on {k = k} v w h = record {
+    long = w .long ∙ v .long;
+    inside = λ j l. ⊎-elim (λ m. rw (w .below j m) (v .inside j (omega arith))) (λ m. w .inside j (omega arith)) (before-or-not j k);
+    below = λ j l. w .below j (omega arith) ∙ v .below j l;
+    above = λ j l. w .above j l ∙ v .above j (omega arith);
+    after = λ j l. w .after j l ∙ v .after j l;
+  }
 
-    here : (j : ℕ) → (j ≡ i) × (i < length old) → Q j (line (set now i x) j)
-    here j (e, h) = rw (e, getD-set-same now i x nan (rw (w .long) h)) q
+  -- a bar that the loop has not reached is still as R asks
+  pub not-yet : {a e lo hi : ℕ} {R : ℕ → Range → Type 0} {now : List Float} (i : ℕ) → Replacing bars a e R old old → Replacing bars lo hi Q old now
+      → (a ≤ i) × (i < e) × (hi ≤ i) × (i < bars) → R i (rangeAt bars now i)
+  not-yet i v w h = rw (w .above i (omega arith)) (v .inside i (omega arith))
 
-    pub one-below : {lo′ : ℕ} → (lo ≡ i + 1) × (i ≡ lo′) × (i < hi) × (i < length old) → Replacing lo′ hi Q old (set now i x)
-    one-below (d, e, h, l) = record {
-      long = length-set now i x ∙ w .long;
-      inside = λ j m. ⊎-elim (λ p. here j (omega arith)) (λ p. rw (elsewhere j (λ z. omega arith)) (w .inside j (omega arith))) (eq-or-lt-of-le (m .0));
-      below = λ j m. elsewhere j (λ z. omega arith) ∙ w .below j (omega arith);
-      above = λ j m. elsewhere j (λ z. omega arith) ∙ w .above j (omega arith);
-    }
+  -- one more bar, below the part or above it
+  module _ {lo hi : ℕ} {now : List Float} (i : ℕ) (x : Range) (w : Replacing bars lo hi Q old now) (q : Q i x) where
+    elsewhere : (j : ℕ) → (j ≡ i → ⊥) × (j < bars) × (i < bars) → rangeAt bars (stored bars now i x) j ≡ rangeAt bars now j
+    elsewhere j (d, l, m) =
+        rw (
+          getD-set-other (set now i (x .high)) (bars + i) j (x .low) nan (λ z. omega arith),
+          getD-set-other now i j (x .high) nan d,
+          getD-set-other (set now i (x .high)) (bars + i) (bars + j) (x .low) nan (λ z. d (omega arith)),
+          getD-set-other now i (bars + j) (x .high) nan (λ z. omega arith),
+        )
 
-    pub one-above : {hi′ : ℕ} → (hi ≡ i) × (i + 1 ≡ hi′) × (lo ≤ i) × (i < length old) → Replacing lo hi′ Q old (set now i x)
-    one-above (d, e, h, l) = record {
-      long = length-set now i x ∙ w .long;
+    here : (j : ℕ) → (j ≡ i) × (i < bars) × (bars + bars ≤ length old) → Q j (rangeAt bars (stored bars now i x) j)
+    here j (e, l, m) =
+        let long = w .long in
+        let long′ = length-set now i (x .high) in
+        rw (
+          e,
+          getD-set-other (set now i (x .high)) (bars + i) i (x .low) nan (λ z. omega arith),
+          getD-set-same now i (x .high) nan (omega arith),
+          getD-set-same (set now i (x .high)) (bars + i) (x .low) nan (omega arith),
+        )
+        q
+
+    long-still : length (stored bars now i x) ≡ length old
+    long-still = length-set (set now i (x .high)) (bars + i) (x .low) ∙ length-set now i (x .high) ∙ w .long
+
+    after-still : (j : ℕ) → (bars + bars ≤ j) × (i < bars) → line (stored bars now i x) j ≡ line old j
+    after-still j (l, m) =
+        getD-set-other (set now i (x .high)) (bars + i) j (x .low) nan (λ z. omega arith)
+        ∙ getD-set-other now i j (x .high) nan (λ z. omega arith)
+        ∙ w .after j l
+
+    pub one-below : {lo′ : ℕ} → (lo ≡ i + 1) × (i ≡ lo′) × (i < hi) × (i < bars) × (hi ≤ bars) × (bars + bars ≤ length old)
+        → Replacing bars lo′ hi Q old (stored bars now i x)
+    one-below {lo′ = lo′} (d, e, h, l, m, r) = record {
+      long = long-still;
       inside =
-          λ j m. ⊎-elim (λ p. here j (omega arith)) (λ p. rw (elsewhere j (λ z. omega arith)) (w .inside j (omega arith)))
-          (eq-or-lt-of-le {n = j} {m = i} (omega arith));
-      below = λ j m. elsewhere j (λ z. omega arith) ∙ w .below j (omega arith);
-      above = λ j m. elsewhere j (λ z. omega arith) ∙ w .above j (omega arith);
+          λ j p. ⊎-elim (λ z. here j (omega arith)) (λ z. rw (elsewhere j (λ y. omega arith, omega arith, l)) (w .inside j (omega arith)))
+          (eq-or-lt-of-le {n = lo′} {m = j} (p .0));
+      below = λ j p. elsewhere j (λ y. omega arith, omega arith, l) ∙ w .below j (omega arith);
+      above = λ j p. elsewhere j (λ y. omega arith, p .1, l) ∙ w .above j p;
+      after = λ j p. after-still j (p, l);
     }
 
--- The first k cells are written and stay, and the next ones up to hi are written after them.
-pub goes-on : {k hi : ℕ} {g : Line} {old mid now : List Float} → Writing k g old mid → Replacing k hi (λ i x. x ≡ g i) mid now
-    → (k ≤ hi) × (hi ≤ length old) → Writing hi g old now
-goes-on {k} {hi} {g} {old} {mid} {now} v w (p, q) =
-    let long : length now ≡ length old = w .long ∙ v .long in
-    record { is = ext-getD nan now (written hi g old) (long ∙ sym (length-written hi g old)) (λ i l. cell i (omega arith) (ltb i k) refl (ltb i hi) refl); long = long }
+    pub one-above : {hi′ : ℕ} → (hi ≡ i) × (i + 1 ≡ hi′) × (lo ≤ i) × (i < bars) × (bars + bars ≤ length old)
+        → Replacing bars lo hi′ Q old (stored bars now i x)
+    one-above (d, e, h, l, r) = record {
+      long = long-still;
+      inside =
+          λ j p. ⊎-elim (λ z. here j (omega arith)) (λ z. rw (elsewhere j (λ y. omega arith, omega arith, l)) (w .inside j (omega arith)))
+          (eq-or-lt-of-le {n = j} {m = i} (omega arith));
+      below = λ j p. elsewhere j (λ y. omega arith, omega arith, l) ∙ w .below j p;
+      above = λ j p. elsewhere j (λ y. omega arith, p .1, l) ∙ w .above j (omega arith);
+      after = λ j p. after-still j (p, l);
+    }
+
+-- both rows are written whole
+pub rows-written : {bars : ℕ} {g f : Line} {old now : List Float} → Replacing bars 0 bars (λ i x. (x .high ≡ g i) × (x .low ≡ f i)) old now
+    → bars + bars ≤ length old → Writing (bars + bars) (beside bars g f) old now
+rows-written {bars} {g} {f} {old} {now} w h =
+    record { is = ext-getD nan now (written (bars + bars) (beside bars g f) old) (w .long ∙ sym (length-written (bars + bars) (beside bars g f) old)) cell; long = w .long }
   where
-    cell : (i : ℕ) → i < length old → (a : Bool) → ltb i k ≡ a → (b : Bool) → ltb i hi ≡ b → line now i ≡ line (written hi g old) i
-    cell i l true a b e = w .below i (ltb-true i k a) ∙ read-back i nan v (ltb-true i k a, l) ∙ sym (getD-written hi g old i nan (omega (arith, ltb-true i k a)) l)
-    cell i l false a true e = w .inside i (ltb-false i k a, ltb-true i hi e) ∙ sym (getD-written hi g old i nan (ltb-true i hi e) l)
-    cell i l false a false e =
-        w .above i (ltb-false i hi e)
-        ∙ rw (v .is) (getD-untouched k g old i nan (ltb-false i k a))
-        ∙ sym (getD-untouched hi g old i nan (ltb-false i hi e))
+    inside : (i : ℕ) → i < bars + bars → line now i ≡ beside bars g f i
+    inside i l =
+        ⊎-elim
+        (λ m. w .inside i (omega arith) .0 ∙ sym (beside-first bars g f i m))
+        (λ m. let e : i ≡ bars + (i - bars) = omega arith in rw e (w .inside (i - bars) (omega arith) .1 ∙ sym (beside-second bars g f (i - bars))))
+        (before-or-not i bars)
+
+    cell : (i : ℕ) → i < length now → line now i ≡ line (written (bars + bars) (beside bars g f) old) i
+    cell i l =
+        let long = w .long in
+        ⊎-elim
+        (λ m. inside i m ∙ sym (getD-written (bars + bars) (beside bars g f) old i nan m (omega arith)))
+        (λ m. w .after i m ∙ sym (getD-untouched (bars + bars) (beside bars g f) old i nan m))
+        (before-or-not i (bars + bars))

@@ -1,77 +1,115 @@
 // The highest and the lowest of the last n cells, in time that does not grow with n: a window that reaches over bar e is the bars up to e
-// and the bars from e on, and the best of either kind is had from its neighbour's in one step.
+// and the bars from e on, and the range of either is had from its neighbour's in one step.
 ghost use mathlib.Core.Path.{_≡_};
-ghost use Prim.Native.Nat.{_+_, _<_, _≤_, min};
+ghost use Prim.Native.Nat.{_+_, _-_, _<_, _≤_, min};
 ghost use lib.ListN.{length};
 ghost use Rattle.calls.specs.Line.{line};
+ghost use Rattle.calls.specs.Rows.{beside};
 ghost use Rattle.calls.specs.Written.{Writing};
-ghost use Rattle.extremes.specs.Extreme.{pickOf, extreme};
-ghost use Rattle.extremes.specs.Best.{Numbers, Best};
-ghost use Rattle.extremes.specs.Blocks.{Room, Begun, Windows, UpTo, Whole};
+ghost use Rattle.extremes.specs.Extreme.{larger, smaller, extreme};
+ghost use Rattle.extremes.specs.Best.{Numbers};
+ghost use Rattle.extremes.specs.Range.{alone, joined, RangeOf};
 ghost use Rattle.extremes.specs.Part.{Replacing};
+ghost use Rattle.extremes.specs.Blocks.{Room, Begun, Windows, UpTo, Whole};
 
-// The larger of two where the highest is asked, the smaller where the lowest is; the first of equals.
-fn pick(high: bool, x: f64, y: f64) -> f64
-    ensures { λ r. ⌜ r ≡ pickOf high x y ⌝ }
+// The highest and the lowest of neighbouring cells.
+pub struct Range {
+    pub high: f64,
+    pub low: f64,
+}
+
+// The larger of two, the first of equals.
+fn larger_of(x: f64, y: f64) -> f64
+    ensures { λ r. ⌜ r ≡ larger x y ⌝ }
 {
-    if high {
-        if x < y { y } else { x }
-    } else {
-        if y < x { y } else { x }
+    if x < y { y } else { x }
+}
+
+// The smaller of two, the first of equals.
+fn smaller_of(x: f64, y: f64) -> f64
+    ensures { λ r. ⌜ r ≡ smaller x y ⌝ }
+{
+    if y < x { y } else { x }
+}
+
+// The range of one cell.
+fn of_one(x: f64) -> Range
+    ensures { λ r. ⌜ r ≡ alone x ⌝ }
+{
+    Range { high: x, low: x }
+}
+
+// The range of the cells of x and those of y, which stand right of them.
+fn join(x: Range, y: Range) -> Range
+    ensures { λ r. ⌜ r ≡ joined x y ⌝ }
+{
+    Range {
+        high: larger_of(x.high, y.high),
+        low: smaller_of(x.low, y.low),
     }
 }
 
-// The best of the cells of bars a to e.
-fn best_of(cells: &[f64], high: bool, a: usize, e: usize) -> f64
+// The range of the cells of bars a to e.
+fn range_of(cells: &[f64], a: usize, e: usize) -> Range
     requires { ⌜ (a ≤ e) × (e < length (now cells)) × Numbers (line (now cells)) (length (now cells)) ⌝ }
-    ensures { λ r. ⌜ Best high (line (now (cells .entry))) a e r ⌝ }
+    ensures { λ r. ⌜ RangeOf (line (now (cells .entry))) a e r ⌝ }
 {
     let mut i = a;
-    let mut best = cells[a];
+    let mut best = of_one(cells[a]);
     while i < e {
         i += 1;
-        best = pick(high, best, cells[i]);
+        best = join(best, of_one(cells[i]));
     }
     best
 }
 
-// Writes for each bar from `last` down to e the best of its window's bars up to e.
-fn write_up_to(cells: &[f64], high: bool, n: usize, e: usize, last: usize, out: &mut [f64])
-    requires { ⌜ Windows (now cells) n e last (length (now out)) ⌝ }
-    ensures { λ _. ⌜ Replacing e (last + 1) (UpTo high (now (cells .entry)) n e) (now (out .entry)) (now (out .exit)) ⌝ }
+// Writes for each bar from `last` down to e the range of its window's bars up to e.
+fn write_up_to(cells: &[f64], n: usize, e: usize, last: usize, rows: &mut [f64])
+    requires { ⌜ Windows (now cells) n e last (length (now rows)) ⌝ }
+    ensures { λ _. ⌜ Replacing (length (now (cells .entry))) e (last + 1) (UpTo (now (cells .entry)) n e) (now (rows .entry)) (now (rows .exit)) ⌝ }
 {
+    let bars = cells.len();
     let mut i = last;
-    let mut best = best_of(cells, high, last + 1 - n, e);
+    let mut best = range_of(cells, last + 1 - n, e);
     while e < i {
-        out[i] = best;
+        rows[i] = best.high;
+        rows[bars + i] = best.low;
         i -= 1;
-        best = pick(high, cells[i + 1 - n], best);
+        best = join(of_one(cells[i + 1 - n]), best);
     }
-    out[i] = best;
+    rows[i] = best.high;
+    rows[bars + i] = best.low;
 }
 
-// Joins to it, for each bar from e to `last`, the best of the bars from e on.
-fn join_from(cells: &[f64], high: bool, n: usize, e: usize, last: usize, out: &mut [f64])
-    requires { ⌜ Windows (now cells) n e last (length (now out)) ⌝ }
-    requires { ⌜ Replacing e (last + 1) (UpTo high (now cells) n e) (now out) (now out) ⌝ }
-    ensures { λ _. ⌜ Replacing e (last + 1) (Whole high (now (cells .entry)) n) (now (out .entry)) (now (out .exit)) ⌝ }
+// Joins to it, for each bar from e to `last`, the range of the bars from e on.
+fn join_from(cells: &[f64], n: usize, e: usize, last: usize, rows: &mut [f64])
+    requires { ⌜ Windows (now cells) n e last (length (now rows)) ⌝ }
+    requires { ⌜ Replacing (length (now cells)) e (last + 1) (UpTo (now cells) n e) (now rows) (now rows) ⌝ }
+    ensures { λ _. ⌜ Replacing (length (now (cells .entry))) e (last + 1) (Whole (now (cells .entry)) n) (now (rows .entry)) (now (rows .exit)) ⌝ }
 {
+    let bars = cells.len();
     let mut i = e;
-    let mut best = cells[e];
+    let mut best = of_one(cells[e]);
     while i < last {
         i += 1;
-        best = pick(high, best, cells[i]);
-        out[i] = pick(high, out[i], best);
+        best = join(best, of_one(cells[i]));
+        let up_to = Range {
+            high: rows[i],
+            low: rows[bars + i],
+        };
+        let whole = join(up_to, best);
+        rows[i] = whole.high;
+        rows[bars + i] = whole.low;
     }
 }
 
-// Writes the best of the windows that end at bars e to `last`.
-fn write_block(cells: &[f64], high: bool, n: usize, e: usize, last: usize, out: &mut [f64])
-    requires { ⌜ Windows (now cells) n e last (length (now out)) ⌝ }
-    ensures { λ _. ⌜ Replacing e (last + 1) (Whole high (now (cells .entry)) n) (now (out .entry)) (now (out .exit)) ⌝ }
+// Writes the ranges of the windows that end at bars e to `last`.
+fn write_block(cells: &[f64], n: usize, e: usize, last: usize, rows: &mut [f64])
+    requires { ⌜ Windows (now cells) n e last (length (now rows)) ⌝ }
+    ensures { λ _. ⌜ Replacing (length (now (cells .entry))) e (last + 1) (Whole (now (cells .entry)) n) (now (rows .entry)) (now (rows .exit)) ⌝ }
 {
-    write_up_to(cells, high, n, e, last, out);
-    join_from(cells, high, n, e, last, out);
+    write_up_to(cells, n, e, last, rows);
+    join_from(cells, n, e, last, rows);
 }
 
 // The last of n bars from e on, or the last of all.
@@ -82,39 +120,66 @@ fn last_of(e: usize, n: usize, bars: usize) -> usize
     if e + n < bars { e + n - 1 } else { bars - 1 }
 }
 
-// Writes the best of every window, block after block.
-fn write_blocks(cells: &[f64], high: bool, n: usize, out: &mut [f64])
-    requires { ⌜ Begun high (now cells) n (now out) ⌝ }
-    ensures { λ _. ⌜ Writing (length (now (cells .entry))) (extreme (pickOf high) n (line (now (cells .entry)))) (now (out .entry)) (now (out .exit)) ⌝ }
+// Writes the range of every whole window, block after block.
+fn write_blocks(cells: &[f64], n: usize, rows: &mut [f64])
+    requires { ⌜ Begun (now cells) n (now rows) ⌝ }
+    ensures { λ _. ⌜ Replacing (length (now (cells .entry))) 0 (length (now (cells .entry))) (Whole (now (cells .entry)) n) (now (rows .entry)) (now (rows .exit)) ⌝ }
 {
     let mut e = n - 1;
     while e < cells.len() {
-        write_block(cells, high, n, e, last_of(e, n, cells.len()), out);
+        write_block(cells, n, e, last_of(e, n, cells.len()), rows);
         e += n;
     }
 }
 
-// The same, each window by itself: for short ones.
-fn write_each(cells: &[f64], high: bool, n: usize, out: &mut [f64])
-    requires { ⌜ Begun high (now cells) n (now out) ⌝ }
-    ensures { λ _. ⌜ Writing (length (now (cells .entry))) (extreme (pickOf high) n (line (now (cells .entry)))) (now (out .entry)) (now (out .exit)) ⌝ }
+// The same of windows of one or two bars, each by itself.
+fn write_pairs(cells: &[f64], n: usize, rows: &mut [f64])
+    requires { ⌜ (n ≤ 2) × Begun (now cells) n (now rows) ⌝ }
+    ensures { λ _. ⌜ Replacing (length (now (cells .entry))) 0 (length (now (cells .entry))) (Whole (now (cells .entry)) n) (now (rows .entry)) (now (rows .exit)) ⌝ }
 {
+    let bars = cells.len();
     let mut i = n - 1;
-    while i < cells.len() {
-        out[i] = best_of(cells, high, i + 1 - n, i);
+    while i < bars {
+        let whole = join(of_one(cells[i + 1 - n]), of_one(cells[i]));
+        rows[i] = whole.high;
+        rows[bars + i] = whole.low;
         i += 1;
     }
 }
 
-// Writes the highest, or the lowest, of the last n cells of each bar, 0.0 before the first whole window.
-pub fn write_extremes(cells: &[f64], high: bool, n: usize, out: &mut [f64])
-    requires { ⌜ Room (now cells) n (length (now out)) ⌝ }
-    ensures { λ _. ⌜ Writing (length (now (cells .entry))) (extreme (pickOf high) n (line (now (cells .entry)))) (now (out .entry)) (now (out .exit)) ⌝ }
+// The first bar with a whole window, or the end.
+fn first_whole(n: usize, bars: usize) -> usize
+    requires { ⌜ 0 < n ⌝ }
+    ensures { λ r. ⌜ r ≡ min (n - 1) bars ⌝ }
 {
-    calls::fill_lead(out, n - 1, cells.len(), 0.0);
-    if n > 8 {
-        write_blocks(cells, high, n, out);
+    if n <= bars { n - 1 } else { bars }
+}
+
+// Writes 0.0 to both rows before the first whole window.
+fn write_lead(cells: &[f64], n: usize, first: usize, rows: &mut [f64])
+    requires { ⌜ Room (now cells) n (length (now rows)) × (first ≡ min (n - 1) (length (now cells))) ⌝ }
+    ensures { λ _. ⌜ Replacing (length (now (cells .entry))) 0 first (Whole (now (cells .entry)) n) (now (rows .entry)) (now (rows .exit)) ⌝ }
+{
+    let bars = cells.len();
+    let mut i = 0;
+    while i < first {
+        rows[i] = 0.0;
+        rows[bars + i] = 0.0;
+        i += 1;
+    }
+}
+
+// Writes the highest of the last n cells of each bar to one row and the lowest to the next, 0.0 before the first whole window.
+pub fn write_ranges(cells: &[f64], n: usize, rows: &mut [f64])
+    requires { ⌜ Room (now cells) n (length (now rows)) ⌝ }
+    ensures { λ _. ⌜ Writing (length (now (cells .entry)) + length (now (cells .entry)))
+        (beside (length (now (cells .entry))) (extreme larger n (line (now (cells .entry)))) (extreme smaller n (line (now (cells .entry)))))
+        (now (rows .entry)) (now (rows .exit)) ⌝ }
+{
+    write_lead(cells, n, first_whole(n, cells.len()), rows);
+    if n > 2 {
+        write_blocks(cells, n, rows);
     } else {
-        write_each(cells, high, n, out);
+        write_pairs(cells, n, rows);
     }
 }

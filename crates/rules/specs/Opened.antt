@@ -2,7 +2,7 @@
 use mathlib.Core.Path.{_≡_, refl, sym, _∙_}
 use mathlib.Core.Bool.{true, false, _&&_, _||_}
 use mathlib.Core.List.{List, [], _∷_}
-use Prim.Native.Nat.{ℕ, _*_, _<_, _≤_}
+use Prim.Native.Nat.{ℕ, _+_, _*_, _<_, _≤_}
 use native.Mathlib.Omega.{arith}
 use borrow.Author.Tests.{leb-true, ltb-true}
 use lib.Dec.{leb, ltb, eqb}
@@ -67,7 +67,7 @@ module _ (s : List Float) (n out work : ℕ) {r : Answer} {k : ℕ} (e : r ≡ a
 
 -- its means, in the first part of a slice, are numbers with a window
 pub means-room : {n : ℕ} {s : List Float} {out work cells : ℕ} {old mid : List Float} → Priced n s out work
-    → Writing (length s) (mean n (line s)) old mid → length s ≤ length old → length s ≤ cells → Extremes.Room (take (length s) mid) n cells
+    → Writing (length s) (mean n (line s)) old mid → length s ≤ length old → length s + length s ≤ cells → Extremes.Room (take (length s) mid) n cells
 means-room {n} {s} p w h l =
     let long = part-long w h in
     record {

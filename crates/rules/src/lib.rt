@@ -215,8 +215,7 @@ fn write_ranges(series: &[f64], n: usize, out: &mut [f64], work: &mut [f64])
 {
     let bars = series.len();
     write_means_of_prices(series, n, out);
-    extremes::write_extremes(&out[..bars], true, n, work);
-    extremes::write_extremes(&out[..bars], false, n, &mut work[bars..]);
+    extremes::write_ranges(&out[..bars], n, work);
 }
 
 // Writes each bar's position over the mean that stands in its cell.

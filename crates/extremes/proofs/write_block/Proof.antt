@@ -1,5 +1,6 @@
 -- `write_block` meets its contract: the second pass writes over the first. Assumes nothing.
 use Rattle.extremes.specs.Part.{stays, replaced-again}
+use native.Mathlib.Omega.{arith}
 use borrow.Author.Needs.{needs}
 use Rattle.extremes.proofs.write_block.Statement.{statement}
 use Rattle.extremes.proofs.write_block.Tie as tie
@@ -7,7 +8,7 @@ use Rattle.extremes.proofs.write_block.Tie as tie
 returns : tie.Need-returns
 returns c =
     let second = c .before .before in
-    replaced-again (second .before .before .before .before .write-up-to .ensures) (second .join-from .ensures)
+    replaced-again (second .before .before .before .before .write-up-to .ensures) (second .join-from .ensures) (omega arith)
 
 pub write-block-spec : {M : Type 1} → statement M
 write-block-spec =

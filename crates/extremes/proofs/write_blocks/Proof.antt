@@ -1,8 +1,6 @@
 -- `write_blocks` meets its contract: each turn writes a block's windows after those before. Assumes nothing.
-use Rattle.calls.specs.Line.{line}
-use Rattle.calls.specs.Written.{Writing, ends}
-use Rattle.extremes.specs.Extreme.{pickOf, extreme}
-use Rattle.extremes.specs.Part.{goes-on}
+use Rattle.extremes.specs.Blocks.{Whole}
+use Rattle.extremes.specs.Part.{Replacing, goes-on, part-ends}
 use Prim.Native.Nat.{_+_, _-_, _≤_, min}
 use native.Mathlib.Omega.{arith}
 use lib.ListN.{length}
@@ -11,19 +9,19 @@ use Rattle.extremes.proofs.write_blocks.Statement.{statement}
 use Rattle.extremes.proofs.write_blocks.Tie as tie
 
 abbrev Inv-loop : tie.InvT-loop
-Inv-loop cells high n out₀ e₀ out e =
-    (n ≤ e + 1) × (length cells ≤ length out₀) × Writing (min e (length cells)) (extreme (pickOf high) n (line cells)) out₀ out
+Inv-loop cells n rows₀ e₀ rows e =
+    (n ≤ e + 1) × (length cells + length cells ≤ length rows₀) × Replacing (length cells) 0 (min e (length cells)) (Whole cells n) rows₀ rows
 
 abbrev μ-loop : tie.MeasureT-loop
-μ-loop cells high n out₀ e₀ out e = length cells - e
+μ-loop cells n rows₀ e₀ rows e = length cells - e
 
 loop-again : tie.Need-loop-again Inv-loop μ-loop
 loop-again c =
     let block = c .before .before in
     let last = block .before .before .last-of .ensures in
     let at = block .before .before .before .before .loop in
-    let on = goes-on (ends (at .inv .2) (omega arith)) (block .write-block .ensures) (omega arith) in
-    (omega arith, omega arith, ends on (omega arith))
+    let on = goes-on (part-ends (at .inv .2) (omega arith)) (block .write-block .ensures) (omega arith) in
+    (omega arith, omega arith, part-ends on (omega arith))
 
 pub write-blocks-spec : {M : Type 1} → statement M
 write-blocks-spec =
@@ -39,5 +37,5 @@ write-blocks-spec =
     (λ c. search needs)  -- loop-less
     loop-again
     (λ c. search needs)  -- same-length
-    (λ c. ends (c .before .loop .inv .2) (omega arith))  -- returns
+    (λ c. part-ends (c .before .loop .inv .2) (omega arith))  -- returns
     )

@@ -1,57 +1,36 @@
--- `write_ranges` meets its contract: the extremes of the means that stand in `out`, in one row after the other. Assumes nothing.
-use Rattle.calls.specs.Rows.{lent-on}
+-- `write_ranges` meets its contract: the ranges of the means that stand in `out`. Assumes nothing.
 use Rattle.extremes.specs.Extreme.{larger, smaller, extreme, causal-extreme}
 use Rattle.rules.specs.Opened.{means-room}
-use Rattle.rules.specs.Stages.{part-long, through}
+use Rattle.rules.specs.Stages.{part-long, both-through}
 use mathlib.Core.Path.{sym}
 use native.Mathlib.Omega.{arith}
-use lib.ListN.{length-take, length-drop}
 use borrow.Author.Needs.{needs}
 use Rattle.rules.proofs.write_ranges.Statement.{statement}
 use Rattle.rules.proofs.write_ranges.Tie as tie
 
-write-extremes-requires : tie.Need-write-extremes-requires
-write-extremes-requires c κs =
+write-ranges-requires : tie.Need-write-ranges-requires
+write-ranges-requires c κs =
     let means = c .before .before .before .before in
     let pre = means .before .before .before .before .before .pre in
     means-room pre (means .write-means-of-prices .ensures) (omega arith) (omega arith)
 
-slice-aggregate-write-extremes-2 : tie.Need-slice-aggregate-write-extremes-2
-slice-aggregate-write-extremes-2 c =
-    let means = c .before .before .before .before .before .before .before .before in
-    sym (part-long (means .write-means-of-prices .ensures) (omega arith))
-
-write-extremes-requires-2 : tie.Need-write-extremes-requires-2
-write-extremes-requires-2 c κs =
-    let means = c .before .before .before .before .before .before .before .before .before in
-    let pre = means .before .before .before .before .before .pre in
-    means-room pre (means .write-means-of-prices .ensures) (omega arith) (simp (length-take, length-drop) (omega arith))
-
 returns : tie.Need-returns
 returns c =
-    let low = c .before .before in
-    let high = low .before .before .before .before .before in
-    let means = high .before .before .before .before .before .write-means-of-prices .ensures in
-    let pre = high .before .before .before .before .before .before .before .before .before .before .pre in
-    let highs = through means (omega arith) (extreme larger _) (causal-extreme larger _ (pre .some)) (high .write-extremes .ensures) in
-    let lows = through means (omega arith) (extreme smaller _) (causal-extreme smaller _ (pre .some)) (low .write-extremes2 .ensures) in
-    (means, lent-on highs lows (omega arith))
+    let ranges = c .before .before in
+    let means = ranges .before .before .before .before .before .write-means-of-prices .ensures in
+    let pre = ranges .before .before .before .before .before .before .before .before .before .before .pre in
+    let high = causal-extreme larger _ (pre .some) in
+    let low = causal-extreme smaller _ (pre .some) in
+    (means, both-through means (omega arith) (extreme larger _) (extreme smaller _) high low (ranges .write-ranges .ensures))
 
 pub write-ranges-spec : {M : Type 1} → statement M
 write-ranges-spec =
     tie.close
     (tie.spec
     (λ c κs. search needs)  -- write-means-of-prices-requires
-    (λ c. search needs)  -- slice-reshare-prefix-write-extremes
-    (λ c. sym (part-long (c .before .before .before .write-means-of-prices .ensures) (omega arith)))  -- slice-aggregate-write-extremes
-    write-extremes-requires
-    (λ c. search needs)  -- slice-reshare-prefix-write-extremes-2
-    slice-aggregate-write-extremes-2
-    (λ c. search needs)  -- mul-write-extremes
-    (λ c. search needs)  -- sub-write-extremes
-    (λ c. search needs)  -- part-write-extremes-start
-    (λ c. search needs)  -- part-write-extremes-end
-    write-extremes-requires-2
+    (λ c. search needs)  -- slice-reshare-prefix-write-ranges
+    (λ c. sym (part-long (c .before .before .before .write-means-of-prices .ensures) (omega arith)))  -- slice-aggregate-write-ranges
+    write-ranges-requires
     (λ c. search needs)  -- same-length
     (λ c. search needs)  -- same-length-2
     returns
