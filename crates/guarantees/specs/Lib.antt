@@ -3,6 +3,8 @@ pub mod Calls
 pub mod OnTicks
 pub mod NoLookAhead
 pub mod Starred
+pub mod Positions
 pub mod Series
+pub mod Bounds
 pub mod Double
 pub mod Middle

@@ -95,7 +95,7 @@ module _ (n : ℕ) (M : n ≤ 4096) where
 
 -- ---- the rule
 
-two-is : two ≡ ofInt binary64 (pos 2)
+pub two-is : two ≡ ofInt binary64 (pos 2)
 unfolding ofInt
 two-is = refl
 

@@ -1,0 +1,111 @@
+-- Positions: every cell of an answered call of the sheet's rules is +1.0, -1.0 or +0.0, and so none is a NaN. Assumes nothing.
+use mathlib.Core.Path.{_≡_, refl, sym}
+use mathlib.Core.Logic.{_⊎_, inl, inr}
+use mathlib.Core.Bool.{Bool, true, false, cond, _||_}
+use mathlib.Core.List.{List, [], _∷_}
+use Prim.Native.Nat.{ℕ, _-_, _*_, _^_, _<_, _≤_}
+use native.Mathlib.Nat.{le-refl}
+use native.Mathlib.Omega.{arith}
+use lib.ListN.{length, getD}
+use lib.Ieee.{Float, nan, binary64, add, sub, div, eq, isNan}
+use Rattle.rounding.specs.Leaves.{one, plusOne, minusOne, signOf}
+use Rattle.calls.specs.declared.Answer.the-variants.{Cells}
+use Rattle.calls.specs.Accepted.{accepted}
+use Rattle.calls.specs.Answer.{checked}
+use Rattle.calls.specs.Line.{Line, plusZero, line}
+use Rattle.calls.specs.Room.{Room, andThen-cells, checked-room, room}
+use Rattle.calls.specs.Written.{getD-written}
+use Rattle.averages.specs.Averages.{two}
+use Rattle.averages.specs.Window.{mean}
+use Rattle.extremes.specs.Extreme.{larger, smaller, extreme}
+use Rattle.rules.specs.Opened.{double-opened}
+use Rattle.rules.specs.Rules.{singleLine, runningMean, doubleLine, doubleAnswer, midLine}
+use Rattle.guarantees.specs.Bounds.{AtMost, add-at-most, div-at-most, sub-at-most, from-bar-holds, Bounded, prices-bounded, mean-bounded, running-mean-bounded, highest-bounded, lowest-bounded}
+use Rattle.guarantees.specs.Calls.{DoubleCall, SingleCall, MidCall}
+use Rattle.guarantees.specs.Middle.{two-is}
+use Rattle.guarantees.specs.Series.{bar}
+
+-- long, short or flat
+abbrev pub Position : Float → Type 0
+Position x = (x ≡ plusOne) ⊎ ((x ≡ minusOne) ⊎ (x ≡ plusZero))
+
+pub no-nan : {x : Float} → Position x → isNan x ≡ false
+unfolding isNan
+no-nan (inl e) = rw e
+no-nan (inr (inl e)) = rw e
+no-nan (inr (inr e)) = rw e
+
+-- ---- the lines
+
+-- a finite number has a sign
+sign-position : {b : ℕ} {x : Float} → AtMost b x → Position (signOf x)
+unfolding signOf
+sign-position p = rw (p .is) (go (p .sign))
+  where
+    go : (s : Bool) → Position (one s)
+    go true = inr (inl refl)
+    go false = inl refl
+
+flat-or : (t : Bool) (x : Float) → Position x → Position (cond t plusZero x)
+flat-or true x p = inr (inr refl)
+flat-or false x p = p
+
+module _ (f : Line) (i : ℕ) (h : Bounded (2 ^ 30) f i) where
+  single-position : (n : ℕ) → 0 < n → n ≤ 4096 → Position (singleLine n f i)
+  unfolding singleLine
+  single-position n N M =
+      let average = mean-bounded n N M (mean n f) i (mean-bounded n N M f i h) i (le-refl i) in
+      let gap : AtMost (2 ^ 31) (sub binary64 (f i) (mean n (mean n f) i)) = sub-at-most (h i (le-refl i)) average (omega arith) in
+      from-bar-holds Position (2 * n - 2) _ i (inr (inr refl)) (λ k. flat-or (eq (mean n (mean n f) i) plusZero) _ (sign-position gap))
+
+  double-position : (n m : ℕ) → 0 < n → n < m → m ≤ 4096 → i < 65536 → Position (doubleLine n m f i)
+  unfolding doubleLine
+  double-position n m N L M l =
+      from-bar-holds Position (m - 1) _ i (inr (inr refl))
+      (λ k.
+      let short = running-mean-bounded n N (omega arith) f i h (omega arith) l in
+      let long = running-mean-bounded m (omega arith) M f i h (omega arith) l in
+      let gap : AtMost (2 ^ 48) (sub binary64 (runningMean n f i) (runningMean m f i)) = sub-at-most short long (omega arith) in
+      sign-position gap)
+
+  mid-position : (n : ℕ) → 0 < n → n ≤ 4096 → Position (midLine n f i)
+  unfolding midLine
+  mid-position n N M =
+      let average = mean n f i in
+      let high = extreme larger n (mean n f) i in
+      let low = extreme smaller n (mean n f) i in
+      let means = mean-bounded n N M f i h in
+      let both : AtMost (2 ^ 31) (add binary64 high low) = add-at-most (highest-bounded n N M (mean n f) i means) (lowest-bounded n N M (mean n f) i means) (omega arith) in
+      let middle : AtMost (2 ^ 30) (div binary64 (add binary64 high low) two) = rw two-is (div-at-most both 2 (omega arith)) in
+      let gap : AtMost (2 ^ 31) (sub binary64 average (div binary64 (add binary64 high low) two)) = sub-at-most (means i (le-refl i)) middle (omega arith) in
+      from-bar-holds Position (2 * n - 2) _ i (inr (inr refl)) (λ k. flat-or (eq high plusZero || eq low plusZero) _ (sign-position gap))
+
+-- ---- the statements
+
+double-room : (s : List Float) (n m out k : ℕ) → doubleAnswer s n m out ≡ Cells k → Room accepted s out []
+unfolding doubleAnswer
+double-room s n m out k e = checked-room accepted s out [] _ (andThen-cells (checked accepted (s ∷ []) (out ∷ []) []) _ k e .0)
+
+module _ (n : ℕ) (s : List Float) {out₀ out₁ : List Float} {k : ℕ} where
+  -- Double: each of its cells is a position.
+  pub double-writes-positions : (m : ℕ) → DoubleCall n m s out₀ (Cells k) out₁ → (i : ℕ) → i < k → Position (getD out₁ i nan)
+  double-writes-positions m c i h =
+      let o = double-opened s n m (length out₀) k (sym (c .answer)) (omega arith) in
+      let r = double-room s n m (length out₀) k (sym (c .answer)) in
+      rw (c .cells, getD-written k (doubleLine n m (line s)) out₀ i nan h (omega (arith, o .whole, o .room)))
+      (double-position (line s) i (prices-bounded s i (r .values) (omega (arith, o .whole))) n m (o .some) (o .order) (o .narrow) (omega (arith, o .whole, r .short)))
+
+  module _ {work₀ work₁ : List Float} where
+    -- One average: likewise.
+    pub single-writes-positions : SingleCall n s out₀ work₀ (Cells k) out₁ work₁ → (i : ℕ) → i < k → Position (getD out₁ i nan)
+    single-writes-positions c i h =
+        let b = bar n s out₀ (length work₀ ∷ []) k i (sym (c .answer)) (c .cells) h in
+        let r = room accepted s (n ∷ []) (length out₀) (length work₀ ∷ []) k (sym (c .answer)) in
+        rw (b .cell) (single-position (line s) i (prices-bounded s i (r .values) (b .inside)) n (b .some) (b .narrow))
+
+    -- Middle: likewise.
+    pub mid-writes-positions : MidCall n s out₀ work₀ (Cells k) out₁ work₁ → (i : ℕ) → i < k → Position (getD out₁ i nan)
+    mid-writes-positions c i h =
+        let b = bar n s out₀ (length work₀ ∷ []) k i (sym (c .answer)) (c .cells) h in
+        let r = room accepted s (n ∷ []) (length out₀) (length work₀ ∷ []) k (sym (c .answer)) in
+        rw (b .cell) (mid-position (line s) i (prices-bounded s i (r .values) (b .inside)) n (b .some) (b .narrow))
