@@ -15,7 +15,7 @@ use Rattle.calls.specs.Answer.{checked, andThen, unless}
 use Rattle.calls.specs.Line.{Line, fromBar, Same, Causal, causal-from}
 use Rattle.calls.specs.Recur.{recur, recur-same}
 use Rattle.rounding.specs.Leaves.{plusOne}
-use Rattle.averages.specs.Window.{mean, causal-mean, over, runningSum, runningSum-same}
+use Rattle.windows.specs.Window.{mean, causal-mean, over, runningSum, runningSum-same}
 
 -- ---- sma: TA-Lib's SMA, with the difference of the new price and the old one added to the running sum in one step
 

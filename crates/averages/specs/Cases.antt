@@ -13,7 +13,7 @@ use Rattle.calls.specs.Answer.{slices, checked, windowed, answered}
 use Rattle.calls.specs.Line.{Line, line, fromBar}
 use Rattle.calls.specs.Recur.{recur}
 use Rattle.calls.specs.Written.{written}
-use Rattle.averages.specs.Window.{sumFrom, windowSum, mean, runningSum}
+use Rattle.windows.specs.Window.{sumFrom, windowSum, mean, runningSum}
 use Rattle.averages.specs.Averages.{smaLine, smoothLine, emaLine, exponentialLine, exponentialAnswer, tickSum, toTick, tickMeanLine}
 
 -- 1, 2, 4, and 2, 4, 6, 10

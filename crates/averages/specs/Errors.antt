@@ -9,7 +9,7 @@ use Rattle.rounding.specs.Integers.{total, total-size}
 use Rattle.rounding.specs.About.{About, about-weaken, about-minus-zero, about-add, about-div}
 use Rattle.rounding.specs.Quotient.{about-quotient}
 use Rattle.calls.specs.Line.{Line, plusZero, minusZero, from-bar}
-use Rattle.averages.specs.Window.{sumFrom, windowSum, mean}
+use Rattle.windows.specs.Window.{sumFrom, windowSum, mean}
 use Rattle.averages.specs.Exact.{TickLine, window-size, window-whole, mean-exact}
 
 -- the cells of f from bar a on stand for the fractions z / c, of size at most b / c, within e

@@ -11,7 +11,7 @@ use Rattle.rounding.specs.Whole.{add-whole, sub-whole, add-first}
 use Rattle.rounding.specs.Quotient.{quotient, Whole}
 use Rattle.calls.specs.Line.{Line, plusZero, minusZero, from-bar}
 use Rattle.calls.specs.Recur.{recur}
-use Rattle.averages.specs.Window.{sumFrom, runningSum, windowSum, mean}
+use Rattle.windows.specs.Window.{sumFrom, runningSum, windowSum, mean}
 use Rattle.averages.specs.Averages.{addDifference, smaLine}
 
 -- the first l cells of f are whole numbers, t, of magnitude at most b

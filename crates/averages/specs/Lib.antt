@@ -1,7 +1,5 @@
 -- Averages: what each of them is, as a line of cells made of a line of prices.
-pub mod Window
 pub mod Averages
-pub mod Eight
 pub mod Whole
 pub mod Ticks
 pub mod Stages

@@ -15,8 +15,8 @@ use Rattle.calls.specs.Call.{Call, counted}
 use Rattle.calls.specs.Line.{Line, line, from-bar, Led, lead-stands}
 use Rattle.calls.specs.Recur.{recur}
 use Rattle.calls.specs.Written.{Writing, none-written, step, ends, then-written}
-use Rattle.averages.specs.Window.{windowSum, over, Running, first-running}
-use Rattle.averages.specs.Eight.{WindowRoom}
+use Rattle.windows.specs.Window.{windowSum, over, Running, first-running}
+use Rattle.windows.specs.Eight.{WindowRoom}
 use Rattle.averages.specs.Ticks.{Ticks, TickRoom}
 use Rattle.averages.specs.Averages.{addDifference, smaLine, blend, smoothLine}
 

@@ -22,7 +22,7 @@ use Rattle.calls.specs.Accepted.{within, accepted, all}
 use Rattle.calls.specs.Line.{Line, line, plusZero, minusZero, fromBar}
 use Rattle.calls.specs.Recur.{recur}
 use Rattle.calls.specs.Room.{and-parts}
-use Rattle.averages.specs.Window.{sumFrom, windowSum, over, mean, runningSum}
+use Rattle.windows.specs.Window.{sumFrom, windowSum, over, mean, runningSum}
 use Rattle.extremes.specs.Extreme.{larger, smaller, pickFrom, extreme}
 use Rattle.rules.specs.Numbers.{all-at}
 use Rattle.rules.specs.Rules.{addThenSubtract, runningMean}

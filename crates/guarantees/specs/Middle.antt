@@ -15,7 +15,7 @@ use Rattle.rounding.specs.About.{About, about-weaken, about-add, about-div, abo
 use Rattle.rounding.specs.Quotient.{quotient, Whole, quotient-lt, quotient-worth, about-quotient}
 use Rattle.calls.specs.Line.{Line, plusZero, from-bar}
 use Rattle.averages.specs.Averages.{two}
-use Rattle.averages.specs.Window.{mean}
+use Rattle.windows.specs.Window.{mean}
 use Rattle.averages.specs.Exact.{TickLine, window-whole, mean-exact}
 use Rattle.averages.specs.Errors.{windowTotal, products, window-total-size}
 use Rattle.rules.specs.TickPositions.{some-abs}

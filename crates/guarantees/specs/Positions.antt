@@ -16,7 +16,7 @@ use Rattle.calls.specs.Line.{Line, plusZero, line}
 use Rattle.calls.specs.Room.{Room, andThen-cells, checked-room, room}
 use Rattle.calls.specs.Written.{getD-written}
 use Rattle.averages.specs.Averages.{two}
-use Rattle.averages.specs.Window.{mean}
+use Rattle.windows.specs.Window.{mean}
 use Rattle.extremes.specs.Extreme.{larger, smaller, extreme}
 use Rattle.rules.specs.Opened.{double-opened}
 use Rattle.rules.specs.Rules.{singleLine, runningMean, doubleLine, doubleAnswer, midLine}

@@ -13,7 +13,7 @@ use Rattle.calls.specs.Accepted.{accepted, tick}
 use Rattle.calls.specs.Answer.{slices, checked, windowed, answered, countOf}
 use Rattle.calls.specs.Line.{line, fromBar}
 use Rattle.calls.specs.Recur.{recur}
-use Rattle.averages.specs.Window.{sumFrom, windowSum, mean, runningSum}
+use Rattle.windows.specs.Window.{sumFrom, windowSum, mean, runningSum}
 use Rattle.averages.specs.Averages.{smaLine, smoothLine, emaLine, tickSum, toTick, tickMeanLine}
 use Rattle.rules.specs.Rules.{singleLine, runningMean, doubleLine, doubleAnswer}
 

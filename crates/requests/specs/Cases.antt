@@ -8,7 +8,7 @@ use Rattle.calls.specs.Accepted.{accepted}
 use Rattle.calls.specs.Answer.{slices, checked, windowed, answered}
 use Rattle.calls.specs.Line.{fromBar}
 use Rattle.calls.specs.Recur.{recur}
-use Rattle.averages.specs.Window.{sumFrom, windowSum, mean, runningSum}
+use Rattle.windows.specs.Window.{sumFrom, windowSum, mean, runningSum}
 use Rattle.extremes.specs.Extreme.{pickFrom, extreme}
 use Rattle.rules.specs.Rules.{singleLine, runningMean, doubleLine, doubleAnswer, midLine}
 use Rattle.columns.specs.Text.{bytes}

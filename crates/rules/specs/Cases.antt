@@ -14,7 +14,7 @@ use Rattle.calls.specs.Answer.{slices, checked, windowed, answered}
 use Rattle.calls.specs.Line.{Line, line, plusZero, fromBar}
 use Rattle.calls.specs.Recur.{recur}
 use Rattle.calls.specs.Written.{written}
-use Rattle.averages.specs.Window.{sumFrom, windowSum, mean, runningSum}
+use Rattle.windows.specs.Window.{sumFrom, windowSum, mean, runningSum}
 use Rattle.extremes.specs.Extreme.{pickFrom, extreme}
 use Rattle.rules.specs.Rules.{singleLine, runningMean, doubleLine, doubleAnswer, midLine}
 

@@ -16,7 +16,7 @@ use lib.Ieee.Positive.{positive, positive-of-value}
 use Rattle.calls.specs.Accepted.{accepted, finite, all}
 use Rattle.calls.specs.Line.{Line, line, plusZero, minusZero, fromBar}
 use Rattle.calls.specs.Room.{and-parts}
-use Rattle.averages.specs.Window.{sumFrom, windowSum, over, mean}
+use Rattle.windows.specs.Window.{sumFrom, windowSum, over, mean}
 use Rattle.extremes.specs.Best.{Numbers}
 
 -- ---- the operations

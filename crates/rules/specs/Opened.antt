@@ -16,7 +16,7 @@ use Rattle.calls.specs.Call.{WorkCall, work-counted}
 use Rattle.calls.specs.Line.{Line, line, plusZero}
 use Rattle.calls.specs.Room.{Room, Open, and-parts, or-parts, unless-cells, andThen-cells, emptyIf-cells, nonzero, same-count, checked-room, room, opened}
 use Rattle.calls.specs.Written.{Writing, none-written, ends}
-use Rattle.averages.specs.Window.{mean}
+use Rattle.windows.specs.Window.{mean}
 use Rattle.extremes.specs.Blocks as Extremes
 use Rattle.rules.specs.Numbers.{means-are-numbers}
 use Rattle.rules.specs.Stages.{part-long, part-numbers}

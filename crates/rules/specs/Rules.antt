@@ -17,7 +17,7 @@ use Rattle.calls.specs.Answer.{checked, andThen, unless, windowed}
 use Rattle.calls.specs.Line.{Line, plusZero, fromBar, Causal, causal-self, causal-then, causal-with, causal-from}
 use Rattle.rounding.specs.Leaves.{signOf}
 use Rattle.averages.specs.Averages.{two}
-use Rattle.averages.specs.Window.{mean, causal-mean, over, runningSum, runningSum-same}
+use Rattle.windows.specs.Window.{mean, causal-mean, over, runningSum, runningSum-same}
 use Rattle.extremes.specs.Extreme.{larger, smaller, extreme, causal-extreme}
 
 -- ---- single_sma_positions: one average

@@ -10,7 +10,7 @@ use Rattle.calls.specs.Line.{Line, line, plusZero, from-bar, Causal}
 use Rattle.calls.specs.Rows.{beside}
 use Rattle.calls.specs.Written.{Writing, getD-untouched, read-back, ends, writing-same}
 use Rattle.rounding.specs.Leaves.{signOf}
-use Rattle.averages.specs.Window.{mean, over, Running}
+use Rattle.windows.specs.Window.{mean, over, Running}
 use Rattle.extremes.specs.Best.{Numbers}
 use Rattle.extremes.specs.Extreme.{larger, smaller, extreme}
 use Rattle.rules.specs.Rules.{againstMean, singleLine, addThenSubtract, runningMean, doubleLine, againstMiddle, midLine}

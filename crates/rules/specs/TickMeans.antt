@@ -15,7 +15,7 @@ use Rattle.calls.specs.Ticks.{ticked}
 use Rattle.calls.specs.Written.{written, Writing, written-same}
 use Rattle.averages.specs.Averages.{smaLine}
 use Rattle.averages.specs.Exact.{TickLine, mean-exact, sma-exact}
-use Rattle.averages.specs.Window.{mean}
+use Rattle.windows.specs.Window.{mean}
 use Rattle.rules.specs.Numbers.{all-at}
 
 -- a series of floats that are whole ticks, as a line of whole numbers

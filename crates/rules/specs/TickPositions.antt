@@ -26,7 +26,7 @@ use Rattle.averages.specs.Averages.{addDifference}
 use Rattle.averages.specs.Exact.{WholeLine, TickLine, window-size, difference-slides, running-whole}
 use Rattle.averages.specs.Errors.{windowTotal, mean-of-means-about}
 use Rattle.averages.specs.Whole.{size-neg}
-use Rattle.averages.specs.Window.{mean, causal-mean, runningSum, Running, runningSum-same}
+use Rattle.windows.specs.Window.{mean, causal-mean, runningSum, Running, runningSum-same}
 use Rattle.rules.specs.Rules.{againstMean, singleLine}
 use Rattle.rules.specs.Stages.{single-at}
 use Rattle.rules.specs.TickMeans.{tick-line}

@@ -14,8 +14,8 @@ ghost use Rattle.calls.specs.Call.{Call, WorkCall};
 ghost use Rattle.calls.specs.Line.{line, plusZero};
 ghost use Rattle.calls.specs.Written.{Writing};
 ghost use mathlib.Core.Bool.{true};
-ghost use Rattle.averages.specs.Eight.{WindowRoom};
-ghost use Rattle.averages.specs.Window.{mean, Running};
+ghost use Rattle.windows.specs.Eight.{WindowRoom};
+ghost use Rattle.windows.specs.Window.{mean, Running};
 ghost use Rattle.rules.specs.Opened.{Priced};
 ghost use Rattle.rules.specs.TickPositions.{runs, Opening, tie, TickRows};
 ghost use Rattle.rules.specs.Rules.{againstMean, singleLine, againstMiddle, midLine, addThenSubtract, doubleLine, doubleAnswer};
@@ -42,7 +42,7 @@ fn write_means_of_prices(series: &[f64], n: usize, means: &mut [f64])
             return;
         }
     }
-    windows::write_means(series, n, means);
+    means::write_means(series, n, means);
 }
 
 // The sign of a price less its average, 0 where that average is 0.0.
@@ -73,7 +73,7 @@ fn slide_sums(series: &[f64], n: usize, sums: &mut [f64])
     requires { ⌜ Opening n (now series) (now sums) ⌝ }
     ensures { λ _. ⌜ Writing (length (now (series .entry))) (runs n (line (now (series .entry)))) (now (sums .entry)) (now (sums .exit)) ⌝ }
 {
-    let mut sum = averages::sum_at(series, n, n - 1);
+    let mut sum = windows::sum_at(series, n, n - 1);
     let mut i = n - 1;
     while i + 1 < series.len() {
         sums[i] = sum;
@@ -110,7 +110,7 @@ fn tick_position(series: &[f64], work: &[f64], n: usize, i: usize) -> f64
     let scaled = series[i] * ((n * n) as f64);
     let total = work[series.len() + i];
     if is_tie(scaled, total) {
-        against_mean(series[i], averages::mean_at(work, n, i))
+        against_mean(series[i], windows::mean_at(work, n, i))
     } else if scaled < total {
         -1.0
     } else {
@@ -154,7 +154,7 @@ fn write_single_of_prices(series: &[f64], n: usize, out: &mut [f64], work: &mut 
 {
     let bars = series.len();
     write_means_of_prices(series, n, work);
-    windows::write_means(&work[..bars], n, out);
+    means::write_means(&work[..bars], n, out);
     write_against_means(series, n, out);
     calls::clear(work, 8 * bars);
 }
@@ -274,7 +274,7 @@ fn running_sum(series: &[f64], n: usize, i: usize) -> f64
     requires { ⌜ (0 < n) × (n ≤ 4096) × (n ≤ i) × (i ≤ length (now series)) ⌝ }
     ensures { λ r. ⌜ Running addThenSubtract n (line (now (series .entry))) i r ⌝ }
 {
-    let mut sum = averages::sum_at(series, n, n - 1);
+    let mut sum = windows::sum_at(series, n, n - 1);
     let mut j = n;
     while j < i {
         sum = sum + series[j] - series[j - n];

@@ -1,2 +1,3 @@
--- Window means, sixteen bars side by side.
-pub mod Sixteen
+-- Sums and means of windows, of one bar and of eight bars side by side.
+pub mod Window
+pub mod Eight

@@ -1,27 +1,44 @@
-// Window means, sixteen bars side by side.
-use averages::Lanes;
-ghost use Prim.Native.Nat.{_+_, _≤_};
+// Sums and means of windows, each summed afresh from left to right: of one bar, and of eight bars side by side.
 ghost use mathlib.Core.Path.{_≡_};
+ghost use Prim.Native.Nat.{_≤_};
 ghost use lib.ListN.{length};
 ghost use Rattle.calls.specs.Line.{line};
-ghost use Rattle.calls.specs.Written.{Writing};
-ghost use Rattle.averages.specs.Window.{windowSum, mean};
-ghost use Rattle.averages.specs.Eight.{Windows, WindowRoom, Begun, Reached};
-ghost use Rattle.windows.specs.Sixteen.{SixteenOf, eachOver, storeEight};
+ghost use Rattle.windows.specs.Window.{windowSum, mean};
+ghost use Rattle.windows.specs.Eight.{Windows, Eight, eachOver};
 
-// A number for each of sixteen bars side by side.
-pub struct Sixteen {
-    pub low: Lanes,
-    pub high: Lanes,
+// A number for each of eight bars side by side.
+pub struct Lanes {
+    pub a: f64,
+    pub b: f64,
+    pub c: f64,
+    pub d: f64,
+    pub e: f64,
+    pub f: f64,
+    pub g: f64,
+    pub h: f64,
 }
 
-// The sums of the n prices up to each of the sixteen bars from i on.
-pub fn sums_of_sixteen(series: &[f64], n: usize, i: usize) -> Sixteen
-    requires { ⌜ Windows n i 16 (length (now series)) ⌝ }
-    ensures { λ r. ⌜ SixteenOf (windowSum n (line (now (series .entry)))) i r ⌝ }
+// The sum of the n prices up to bar i.
+pub fn sum_at(series: &[f64], n: usize, i: usize) -> f64
+    requires { ⌜ Windows n i 1 (length (now series)) ⌝ }
+    ensures { λ r. ⌜ r ≡ windowSum n (line (now (series .entry))) i ⌝ }
 {
     let at = i + 1 - n;
-    let up = at + 8;
+    let mut sum = -0.0;
+    let mut k = 0;
+    while k < n {
+        sum = sum + series[at + k];
+        k += 1;
+    }
+    sum
+}
+
+// The same for the eight bars from i on, each with a sum of its own.
+pub fn sums_at(series: &[f64], n: usize, i: usize) -> Lanes
+    requires { ⌜ Windows n i 8 (length (now series)) ⌝ }
+    ensures { λ r. ⌜ Eight (windowSum n (line (now (series .entry)))) i r ⌝ }
+{
+    let at = i + 1 - n;
     let mut a = -0.0;
     let mut b = -0.0;
     let mut c = -0.0;
@@ -30,14 +47,6 @@ pub fn sums_of_sixteen(series: &[f64], n: usize, i: usize) -> Sixteen
     let mut f = -0.0;
     let mut g = -0.0;
     let mut h = -0.0;
-    let mut p = -0.0;
-    let mut q = -0.0;
-    let mut r = -0.0;
-    let mut s = -0.0;
-    let mut t = -0.0;
-    let mut u = -0.0;
-    let mut v = -0.0;
-    let mut w = -0.0;
     let mut k = 0;
     while k < n {
         a = a + series[at + k];
@@ -48,42 +57,22 @@ pub fn sums_of_sixteen(series: &[f64], n: usize, i: usize) -> Sixteen
         f = f + series[at + 5 + k];
         g = g + series[at + 6 + k];
         h = h + series[at + 7 + k];
-        p = p + series[up + k];
-        q = q + series[up + 1 + k];
-        r = r + series[up + 2 + k];
-        s = s + series[up + 3 + k];
-        t = t + series[up + 4 + k];
-        u = u + series[up + 5 + k];
-        v = v + series[up + 6 + k];
-        w = w + series[up + 7 + k];
         k += 1;
     }
-    Sixteen {
-        low: Lanes {
-            a,
-            b,
-            c,
-            d,
-            e,
-            f,
-            g,
-            h,
-        },
-        high: Lanes {
-            a: p,
-            b: q,
-            c: r,
-            d: s,
-            e: t,
-            f: u,
-            g: v,
-            h: w,
-        },
+    Lanes {
+        a,
+        b,
+        c,
+        d,
+        e,
+        f,
+        g,
+        h,
     }
 }
 
 // Each lane divided by n.
-fn divided(sums: Lanes, n: usize) -> Lanes
+pub fn divided(sums: Lanes, n: usize) -> Lanes
     requires { ⌜ n ≤ 4096 ⌝ }
     ensures { λ r. ⌜ r ≡ eachOver n sums ⌝ }
 {
@@ -100,80 +89,18 @@ fn divided(sums: Lanes, n: usize) -> Lanes
     }
 }
 
-// The means of the n prices up to each of the sixteen bars from i on.
-pub fn means_of_sixteen(series: &[f64], n: usize, i: usize) -> Sixteen
-    requires { ⌜ Windows n i 16 (length (now series)) ⌝ }
-    ensures { λ r. ⌜ SixteenOf (mean n (line (now (series .entry)))) i r ⌝ }
+// The mean of the n prices up to bar i.
+pub fn mean_at(series: &[f64], n: usize, i: usize) -> f64
+    requires { ⌜ Windows n i 1 (length (now series)) ⌝ }
+    ensures { λ r. ⌜ r ≡ mean n (line (now (series .entry))) i ⌝ }
 {
-    let sums = sums_of_sixteen(series, n, i);
-    Sixteen {
-        low: divided(sums.low, n),
-        high: divided(sums.high, n),
-    }
+    sum_at(series, n, i) / (n as f64)
 }
 
-// Stores the eight lanes from cell i on.
-fn store_eight(means: &mut [f64], i: usize, eight: Lanes)
-    requires { ⌜ i + 8 ≤ length (now means) ⌝ }
-    ensures { λ _. ⌜ now (means .exit) ≡ storeEight (now (means .entry)) i eight ⌝ }
+// The same for the eight bars from i on.
+pub fn means_at(series: &[f64], n: usize, i: usize) -> Lanes
+    requires { ⌜ Windows n i 8 (length (now series)) ⌝ }
+    ensures { λ r. ⌜ Eight (mean n (line (now (series .entry)))) i r ⌝ }
 {
-    means[i] = eight.a;
-    means[i + 1] = eight.b;
-    means[i + 2] = eight.c;
-    means[i + 3] = eight.d;
-    means[i + 4] = eight.e;
-    means[i + 5] = eight.f;
-    means[i + 6] = eight.g;
-    means[i + 7] = eight.h;
-}
-
-// Writes the means from bar `from` on, sixteen at a time, and gives the bar where fewer than sixteen are left.
-fn means_by_sixteen(series: &[f64], n: usize, from: usize, means: &mut [f64]) -> usize
-    requires { ⌜ Begun (now series) n from (now means) ⌝ }
-    ensures { λ r. ⌜ Reached (now (series .entry)) n from r (now (means .entry)) (now (means .exit)) ⌝ }
-{
-    let mut i = from;
-    while i + 16 <= series.len() {
-        let sixteen = means_of_sixteen(series, n, i);
-        store_eight(means, i, sixteen.low);
-        store_eight(means, i + 8, sixteen.high);
-        i += 16;
-    }
-    i
-}
-
-// Writes eight more means where eight bars are left, and gives the bar after them.
-fn means_of_eight(series: &[f64], n: usize, from: usize, means: &mut [f64]) -> usize
-    requires { ⌜ Begun (now series) n from (now means) ⌝ }
-    ensures { λ r. ⌜ Reached (now (series .entry)) n from r (now (means .entry)) (now (means .exit)) ⌝ }
-{
-    if from + 8 <= series.len() {
-        store_eight(means, from, averages::means_at(series, n, from));
-        from + 8
-    } else {
-        from
-    }
-}
-
-// Writes the means from bar `from` to the last.
-fn means_by_one(series: &[f64], n: usize, from: usize, means: &mut [f64])
-    requires { ⌜ Begun (now series) n from (now means) ⌝ }
-    ensures { λ _. ⌜ Writing (length (now (series .entry))) (mean n (line (now (series .entry)))) (now (means .entry)) (now (means .exit)) ⌝ }
-{
-    let mut i = from;
-    while i < series.len() {
-        means[i] = averages::mean_at(series, n, i);
-        i += 1;
-    }
-}
-
-// Writes the mean of each bar's window, and 0.0 before the first whole one.
-pub fn write_means(series: &[f64], n: usize, means: &mut [f64])
-    requires { ⌜ WindowRoom n (length (now series)) (length (now means)) ⌝ }
-    ensures { λ _. ⌜ Writing (length (now (series .entry))) (mean n (line (now (series .entry)))) (now (means .entry)) (now (means .exit)) ⌝ }
-{
-    let first = calls::fill_lead(means, n - 1, series.len(), 0.0);
-    let fewer = means_by_sixteen(series, n, first, means);
-    let few = means_of_eight(series, n, fewer, means);
-    means_by_one(series, n, few, means);
+    divided(sums_at(series, n, i), n)
 }

@@ -5,7 +5,7 @@ use native.Mathlib.Omega.{arith}
 use lib.ListN.{length, length-set}
 use Rattle.calls.specs.Line.{line}
 use Rattle.calls.specs.Written.{Writing, one-more, step, ends}
-use Rattle.averages.specs.Window.{Running, next-running, same-bar, count-is-float}
+use Rattle.windows.specs.Window.{Running, next-running, same-bar, count-is-float}
 use Rattle.averages.specs.Averages.{addDifference, smaLine}
 use Rattle.averages.specs.Stages.{sma-cell}
 use borrow.Author.Needs.{needs}

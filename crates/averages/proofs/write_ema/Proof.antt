@@ -3,7 +3,7 @@ use native.Mathlib.Omega.{arith}
 use lib.Ieee.{ofBits}
 use Rattle.calls.specs.Line.{lead-stands}
 use Rattle.calls.specs.Written.{then-written, ends}
-use Rattle.averages.specs.Window.{count-is-float}
+use Rattle.windows.specs.Window.{count-is-float}
 use Rattle.averages.specs.Averages.{smoothLine}
 use borrow.Author.Needs.{needs}
 use Rattle.averages.proofs.write_ema.Statement.{statement}

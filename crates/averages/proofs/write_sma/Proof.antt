@@ -5,7 +5,7 @@ use lib.ListN.{length-set}
 use denote.Ref.{now}
 use Rattle.calls.specs.Line.{lead-stands}
 use Rattle.calls.specs.Written.{stands, then-written, ends}
-use Rattle.averages.specs.Window.{first-running, count-is-float}
+use Rattle.windows.specs.Window.{first-running, count-is-float}
 use Rattle.averages.specs.Averages.{smaLine}
 use Rattle.averages.specs.Stages.{first-mean}
 use borrow.Author.Needs.{needs}

@@ -1,5 +1,5 @@
 -- `cross` meets its contract: it computes what `crossing` says. Assumes nothing.
-use Rattle.averages.specs.Window.{count-is-float}
+use Rattle.windows.specs.Window.{count-is-float}
 use native.Mathlib.Omega.{arith}
 use borrow.Author.Needs.{needs}
 use Rattle.rules.proofs.cross.Statement.{statement}

@@ -1,6 +1,6 @@
 -- `running_sum` meets its contract: it begins with a window summed afresh, and each turn slides it. Assumes nothing.
 use Rattle.calls.specs.Line.{line}
-use Rattle.averages.specs.Window.{Running, first-running, next-running}
+use Rattle.windows.specs.Window.{Running, first-running, next-running}
 use Rattle.rules.specs.Rules.{addThenSubtract}
 use mathlib.Core.Path.{_≡_}
 use Prim.Native.Nat.{_-_, _≤_}

@@ -2,7 +2,7 @@
 use Rattle.calls.specs.Line.{line}
 use Rattle.calls.specs.Written.{Writing, one-more, ends}
 use Rattle.averages.specs.Averages.{addDifference}
-use Rattle.averages.specs.Window.{Running, first-running, next-running, same-bar}
+use Rattle.windows.specs.Window.{Running, first-running, next-running, same-bar}
 use Rattle.rules.specs.TickPositions.{runs, run-at}
 use Prim.Native.Nat.{_+_, _-_, _≤_, _<_}
 use native.Mathlib.Omega.{arith}

@@ -2,7 +2,7 @@
 use Rattle.calls.specs.Line.{line}
 use Rattle.calls.specs.Written.{Writing, one-more, ends}
 use Rattle.rules.specs.Rules.{doubleLine}
-use Rattle.averages.specs.Window.{next-running}
+use Rattle.windows.specs.Window.{next-running}
 use Rattle.rules.specs.Stages.{Sum, double-at}
 use mathlib.Core.Path.{_≡_, _∙_}
 use Prim.Native.Nat.{_+_, _-_, _≤_, _<_}

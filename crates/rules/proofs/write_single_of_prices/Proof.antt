@@ -1,6 +1,6 @@
 -- `write_single_of_prices` meets its contract: the means, their means, the positions over these, and the clearing over the first. Assumes nothing.
 use Rattle.calls.specs.Written.{stands, then-written}
-use Rattle.averages.specs.Window.{mean, causal-mean}
+use Rattle.windows.specs.Window.{mean, causal-mean}
 use Rattle.rules.specs.Stages.{part-long, through}
 use mathlib.Core.Path.{sym}
 use native.Mathlib.Omega.{arith}

@@ -1,0 +1,2 @@
+-- Window means, sixteen bars side by side.
+pub mod Sixteen

@@ -1,0 +1,84 @@
+-- What the functions that sum windows afresh ask and promise. Assumes nothing.
+use mathlib.Core.Path.{_≡_}
+use Prim.Native.Nat.{ℕ, _+_, _<_, _≤_}
+use native.Mathlib.Omega.{arith}
+use lib.Ieee.{binary64, add}
+use Rattle.calls.specs.Line.{Line, minusZero}
+use Rattle.windows.specs.declared.Lanes.{Lanes}
+use Rattle.windows.specs.Window.{Summing, none-summed, one-added, window-sum, windowSum, over, mean, mean-of}
+
+-- a whole window of n bars ends at each of `count` bars from i on
+pub record Windows (n i count bars : ℕ) : Type 0 where
+  pub some : 0 < n
+  pub short : n ≤ 4096
+  pub full : n ≤ i + 1
+  pub inside : i + count ≤ bars
+
+-- a window that is not empty, and a cell for each bar
+pub record WindowRoom (n bars cells : ℕ) : Type 0 where
+  pub some : 0 < n
+  pub short : n ≤ 4096
+  pub room : bars ≤ cells
+
+-- the cells of a line at the eight bars from i on
+pub record Eight (line : Line) (i : ℕ) (r : Lanes) : Type 0 where
+  pub first : r .a ≡ line i
+  pub second : r .b ≡ line (i + 1)
+  pub third : r .c ≡ line (i + 2)
+  pub fourth : r .d ≡ line (i + 3)
+  pub fifth : r .e ≡ line (i + 4)
+  pub sixth : r .f ≡ line (i + 5)
+  pub seventh : r .g ≡ line (i + 6)
+  pub eighth : r .h ≡ line (i + 7)
+
+-- each lane divided by the window's length
+abbrev pub eachOver : ℕ → Lanes → Lanes
+eachOver n r = record { a = over n (r .a); b = over n (r .b); c = over n (r .c); d = over n (r .d); e = over n (r .e); f = over n (r .f); g = over n (r .g); h = over n (r .h) }
+
+-- eight sums side by side, each k cells long: what the loop that sums keeps of eight of its lanes
+pub record Summed (f : Line) (a k : ℕ) (r : Lanes) : Type 0 where
+  pub first : Summing minusZero f a k (r .a)
+  pub second : Summing minusZero f (a + 1) k (r .b)
+  pub third : Summing minusZero f (a + 2) k (r .c)
+  pub fourth : Summing minusZero f (a + 3) k (r .d)
+  pub fifth : Summing minusZero f (a + 4) k (r .e)
+  pub sixth : Summing minusZero f (a + 5) k (r .f)
+  pub seventh : Summing minusZero f (a + 6) k (r .g)
+  pub eighth : Summing minusZero f (a + 7) k (r .h)
+
+-- none is summed yet
+pub none-of-eight : {f : Line} {a : ℕ} → Summed f a 0 (record { a = minusZero; b = minusZero; c = minusZero; d = minusZero; e = minusZero; f = minusZero; g = minusZero; h = minusZero })
+none-of-eight = record { first = none-summed; second = none-summed; third = none-summed; fourth = none-summed; fifth = none-summed; sixth = none-summed; seventh = none-summed; eighth = none-summed }
+
+-- one more cell in each
+pub each-added : {f : Line} {a k : ℕ} {r : Lanes} → Summed f a k r
+    → Summed f a (k + 1) (record { a = add binary64 (r .a) (f (a + k)); b = add binary64 (r .b) (f (a + 1 + k)); c = add binary64 (r .c) (f (a + 2 + k)); d = add binary64 (r .d) (f (a + 3 + k)); e = add binary64 (r .e) (f (a + 4 + k)); f = add binary64 (r .f) (f (a + 5 + k)); g = add binary64 (r .g) (f (a + 6 + k)); h = add binary64 (r .h) (f (a + 7 + k)) })
+each-added s = record { first = one-added (s .first); second = one-added (s .second); third = one-added (s .third); fourth = one-added (s .fourth); fifth = one-added (s .fifth); sixth = one-added (s .sixth); seventh = one-added (s .seventh); eighth = one-added (s .eighth) }
+
+-- the windows' sums at the eight bars from i on, the first of which starts at bar a
+pub eight-sums : (n i a : ℕ) {f : Line} {k : ℕ} {r : Lanes} → Summed f a k r → (k ≡ n) × (a + n ≡ i + 1) → Eight (windowSum n f) i r
+eight-sums n i a s (p, q) =
+    record {
+      first = window-sum n _ (s .first) (omega arith);
+      second = window-sum n _ (s .second) (omega arith);
+      third = window-sum n _ (s .third) (omega arith);
+      fourth = window-sum n _ (s .fourth) (omega arith);
+      fifth = window-sum n _ (s .fifth) (omega arith);
+      sixth = window-sum n _ (s .sixth) (omega arith);
+      seventh = window-sum n _ (s .seventh) (omega arith);
+      eighth = window-sum n _ (s .eighth) (omega arith);
+    }
+
+-- the means at those bars, from the sums
+pub eight-means : (n i : ℕ) (f : Line) {r : Lanes} → Eight (windowSum n f) i r → n ≤ i + 1 → Eight (mean n f) i (eachOver n r)
+eight-means n i f s h =
+    record {
+      first = mean-of n _ f (s .first) (omega arith);
+      second = mean-of n _ f (s .second) (omega arith);
+      third = mean-of n _ f (s .third) (omega arith);
+      fourth = mean-of n _ f (s .fourth) (omega arith);
+      fifth = mean-of n _ f (s .fifth) (omega arith);
+      sixth = mean-of n _ f (s .sixth) (omega arith);
+      seventh = mean-of n _ f (s .seventh) (omega arith);
+      eighth = mean-of n _ f (s .eighth) (omega arith);
+    }
