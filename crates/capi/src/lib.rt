@@ -11,7 +11,7 @@ ghost use Rattle.smoothers.specs.Coefficients.{coefficients};
 ghost use Rattle.smoothers.specs.Period.{wholePart};
 ghost use Rattle.smoothers.specs.Range.{trueRangeLine};
 ghost use Rattle.smoothers.specs.Smoother.{smooth, smootherAnswer};
-ghost use Rattle.rules.specs.Rules.{singleLine, doubleLine, doubleAnswer, midLine};
+ghost use Rattle.positions.specs.Rules.{singleLine, doubleLine, doubleAnswer, midLine};
 ghost use Rattle.capi.specs.Numbers.{Numbers, CCall, CWorkCall};
 
 // An answer in numbers: the refusal, or 0, and how many cells were written.

@@ -24,8 +24,8 @@ use Rattle.calls.specs.Recur.{recur}
 use Rattle.calls.specs.Room.{and-parts}
 use Rattle.windows.specs.Window.{sumFrom, windowSum, over, mean, runningSum}
 use Rattle.extremes.specs.Extreme.{larger, smaller, pickFrom, extreme}
-use Rattle.rules.specs.Numbers.{all-at}
-use Rattle.rules.specs.Rules.{addThenSubtract, runningMean}
+use Rattle.positions.specs.Numbers.{all-at}
+use Rattle.positions.specs.Rules.{addThenSubtract, runningMean}
 
 -- x is finite, and its magnitude is at most b
 pub record AtMost (b : ℕ) (x : Float) : Type 0 where

@@ -15,7 +15,7 @@ use Rattle.smoothers.specs.Coefficients.{coefficients}
 use Rattle.smoothers.specs.Period.{wholePart}
 use Rattle.smoothers.specs.Range.{trueRangeLine}
 use Rattle.smoothers.specs.Smoother.{smooth, smootherAnswer}
-use Rattle.rules.specs.Rules.{singleLine, doubleLine, doubleAnswer, midLine}
+use Rattle.positions.specs.Rules.{singleLine, doubleLine, doubleAnswer, midLine}
 
 abbrev pub SmaCall : ℕ → List Float → List Float → Answer → List Float → Type 0
 SmaCall n s out₀ r out₁ = Call (answered accepted s (n ∷ []) (length out₀) []) (smaLine n (line s)) out₀ r out₁

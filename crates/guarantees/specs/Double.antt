@@ -13,7 +13,7 @@ use Rattle.rounding.specs.Quotient.{quotient, quotient-sign}
 use Rattle.calls.specs.Line.{Line, plusZero, from-bar}
 use Rattle.averages.specs.Exact.{TickLine, Slides, running-exact, window-size, window-whole}
 use Rattle.averages.specs.Errors.{windowTotal, products}
-use Rattle.rules.specs.Rules.{addThenSubtract, runningMean, doubleLine}
+use Rattle.positions.specs.Rules.{addThenSubtract, runningMean, doubleLine}
 
 -- the new price added, and then the old one subtracted
 subtract-slides : Slides addThenSubtract

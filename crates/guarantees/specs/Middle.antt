@@ -18,9 +18,9 @@ use Rattle.averages.specs.Averages.{two}
 use Rattle.windows.specs.Window.{mean}
 use Rattle.averages.specs.Exact.{TickLine, window-whole, mean-exact}
 use Rattle.averages.specs.Errors.{windowTotal, products, window-total-size}
-use Rattle.rules.specs.TickPositions.{some-abs}
+use Rattle.single.specs.TickPositions.{some-abs}
 use Rattle.extremes.specs.Extreme.{larger, smaller, pickFrom, extreme}
-use Rattle.rules.specs.Rules.{midLine}
+use Rattle.positions.specs.Rules.{midLine}
 
 -- ---- the highest and the lowest of a run of integers
 

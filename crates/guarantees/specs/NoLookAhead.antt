@@ -20,8 +20,8 @@ use Rattle.smoothers.specs.Coefficients.{coefficients}
 use Rattle.smoothers.specs.Period.{wholePart}
 use Rattle.smoothers.specs.Range.{causal-range}
 use Rattle.smoothers.specs.Smoother.{smootherAnswer, causal-smooth}
-use Rattle.rules.specs.Opened.{double-opened}
-use Rattle.rules.specs.Rules.{causal-single, causal-double, causal-mid}
+use Rattle.positions.specs.Opened.{double-opened}
+use Rattle.positions.specs.Rules.{causal-single, causal-double, causal-mid}
 use Rattle.guarantees.specs.Calls.{SmaCall, EmaCall, ExponentialCall, TickMeanCall, SmootherCall, TrueRangeCall, DoubleCall, SingleCall, MidCall}
 
 -- both series have more than b bars, and the same values at bars 0 to b

@@ -18,8 +18,8 @@ use Rattle.calls.specs.Written.{getD-written}
 use Rattle.averages.specs.Averages.{two}
 use Rattle.windows.specs.Window.{mean}
 use Rattle.extremes.specs.Extreme.{larger, smaller, extreme}
-use Rattle.rules.specs.Opened.{double-opened}
-use Rattle.rules.specs.Rules.{singleLine, runningMean, doubleLine, doubleAnswer, midLine}
+use Rattle.positions.specs.Opened.{double-opened}
+use Rattle.positions.specs.Rules.{singleLine, runningMean, doubleLine, doubleAnswer, midLine}
 use Rattle.guarantees.specs.Bounds.{AtMost, add-at-most, div-at-most, sub-at-most, from-bar-holds, Bounded, prices-bounded, mean-bounded, running-mean-bounded, highest-bounded, lowest-bounded}
 use Rattle.guarantees.specs.Calls.{DoubleCall, SingleCall, MidCall}
 use Rattle.guarantees.specs.Middle.{two-is}

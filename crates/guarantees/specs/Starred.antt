@@ -15,7 +15,7 @@ use Rattle.calls.specs.Line.{line, fromBar}
 use Rattle.calls.specs.Recur.{recur}
 use Rattle.windows.specs.Window.{sumFrom, windowSum, mean, runningSum}
 use Rattle.averages.specs.Averages.{smaLine, smoothLine, emaLine, tickSum, toTick, tickMeanLine}
-use Rattle.rules.specs.Rules.{singleLine, runningMean, doubleLine, doubleAnswer}
+use Rattle.positions.specs.Rules.{singleLine, runningMean, doubleLine, doubleAnswer}
 
 -- a cell of an output: an f64 or a whole number
 pub data Cell : Type 0 where

@@ -15,7 +15,7 @@ use Rattle.calls.specs.Accepted.{accepted, all}
 use Rattle.calls.specs.Answer.{anyZero, countOf, unless, andThen, emptyIf, checked, windowed, answered}
 use Rattle.calls.specs.Line.{Line, line}
 use Rattle.calls.specs.Written.{written, getD-written}
-use Rattle.rules.specs.Rules.{doubleAnswer}
+use Rattle.positions.specs.Rules.{doubleAnswer}
 use Rattle.requests.specs.declared.Request.{Request}
 use Rattle.requests.specs.Answer.{byRule, ruleAnswer, answerText}
 use Rattle.requests.proofs.Positions.{positions-same}

@@ -9,7 +9,7 @@ use Rattle.calls.specs.declared.Answer.the-variants.{Cells, Refused}
 use Rattle.calls.specs.Accepted as calls
 use Rattle.calls.specs.Answer.{refusalOf, countOf, answered}
 use Rattle.calls.specs.Line.{Line, line, plusZero}
-use Rattle.rules.specs.Rules.{singleLine, doubleLine, doubleAnswer, midLine}
+use Rattle.positions.specs.Rules.{singleLine, doubleLine, doubleAnswer, midLine}
 use Rattle.columns.specs.Print.{printField}
 use Rattle.requests.specs.declared.Request.{Request}
 

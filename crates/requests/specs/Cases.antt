@@ -10,7 +10,7 @@ use Rattle.calls.specs.Line.{fromBar}
 use Rattle.calls.specs.Recur.{recur}
 use Rattle.windows.specs.Window.{sumFrom, windowSum, mean, runningSum}
 use Rattle.extremes.specs.Extreme.{pickFrom, extreme}
-use Rattle.rules.specs.Rules.{singleLine, runningMean, doubleLine, doubleAnswer, midLine}
+use Rattle.positions.specs.Rules.{singleLine, runningMean, doubleLine, doubleAnswer, midLine}
 use Rattle.columns.specs.Text.{bytes}
 use Rattle.columns.specs.Read.{number, readField, signed, readPrice}
 use Rattle.columns.specs.Print.{printField}

@@ -1,5 +1,5 @@
 -- `answer_double` meets its contract: a refusal of the check stands, and else the windows' answer does. Assumes nothing.
-use Rattle.rules.specs.Rules.{doubleAnswer}
+use Rattle.positions.specs.Rules.{doubleAnswer}
 use borrow.Author.Needs.{needs}
 use Rattle.rules.proofs.answer_double.Statement.{statement}
 use Rattle.rules.proofs.answer_double.Tie as tie

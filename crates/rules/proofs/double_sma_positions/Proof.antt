@@ -1,7 +1,7 @@
 -- `double_sma_positions` meets its contract: the answer is the table's, and a count is what was written. Assumes nothing.
 use Rattle.calls.specs.Call.{refused, counted}
 use Rattle.calls.specs.Written.{none-written, ends}
-use Rattle.rules.specs.Opened.{double-opened}
+use Rattle.positions.specs.Opened.{double-opened}
 use mathlib.Core.Path.{sym, _∙_}
 use native.Mathlib.Omega.{arith}
 use borrow.Author.Needs.{needs}

@@ -2,7 +2,7 @@
 use native.Mathlib.Omega.{arith}
 use borrow.Author.Needs.{needs}
 use Rattle.calls.specs.Call.{work-refused}
-use Rattle.rules.specs.Opened.{clearable, priced, all-called, none-called}
+use Rattle.positions.specs.Opened.{clearable, priced, all-called, none-called}
 use Rattle.rules.proofs.mid_positions.Statement.{statement}
 use Rattle.rules.proofs.mid_positions.Tie as tie
 

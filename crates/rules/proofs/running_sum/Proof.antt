@@ -1,7 +1,7 @@
 -- `running_sum` meets its contract: it begins with a window summed afresh, and each turn slides it. Assumes nothing.
 use Rattle.calls.specs.Line.{line}
 use Rattle.windows.specs.Window.{Running, first-running, next-running}
-use Rattle.rules.specs.Rules.{addThenSubtract}
+use Rattle.positions.specs.Rules.{addThenSubtract}
 use mathlib.Core.Path.{_≡_}
 use Prim.Native.Nat.{_-_, _≤_}
 use native.Mathlib.Omega.{arith}

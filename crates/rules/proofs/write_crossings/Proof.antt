@@ -1,9 +1,9 @@
 -- `write_crossings` meets its contract: each turn writes a cell from the two sums and slides them. Assumes nothing.
 use Rattle.calls.specs.Line.{line}
 use Rattle.calls.specs.Written.{Writing, one-more, ends}
-use Rattle.rules.specs.Rules.{doubleLine}
+use Rattle.positions.specs.Rules.{doubleLine}
 use Rattle.windows.specs.Window.{next-running}
-use Rattle.rules.specs.Stages.{Sum, double-at}
+use Rattle.positions.specs.Stages.{Sum, double-at}
 use mathlib.Core.Path.{_≡_, _∙_}
 use Prim.Native.Nat.{_+_, _-_, _≤_, _<_}
 use native.Mathlib.Omega.{arith}

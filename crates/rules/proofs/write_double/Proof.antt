@@ -2,7 +2,7 @@
 use lib.Ieee.{ofBits}
 use Rattle.calls.specs.Line.{lead-stands}
 use Rattle.calls.specs.Written.{then-written, ends}
-use Rattle.rules.specs.Rules.{doubleLine}
+use Rattle.positions.specs.Rules.{doubleLine}
 use native.Mathlib.Omega.{arith}
 use borrow.Author.Needs.{needs}
 use Rattle.rules.proofs.write_double.Statement.{statement}

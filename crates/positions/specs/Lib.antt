@@ -1,0 +1,6 @@
+-- The position rules: what each of them answers and writes.
+pub mod Rules
+pub mod Numbers
+pub mod Stages
+pub mod Opened
+pub mod Cases

@@ -1,0 +1,1 @@
+// What the position rules answer and write: see specs/.

@@ -1,0 +1,2 @@
+-- The means of whole ticks.
+pub mod TickMeans

@@ -1,0 +1,54 @@
+-- `write_tick_positions` meets its contract: each turn writes the bar's cell. Assumes nothing.
+use lib.Ieee.{ofBits}
+use Rattle.calls.specs.Line.{line, lead-stands}
+use Rattle.calls.specs.Written.{Writing, one-more, then-written, ends}
+use Rattle.positions.specs.Rules.{singleLine}
+use Prim.Native.Nat.{_-_, _*_, _≤_, min}
+use native.Mathlib.Omega.{arith}
+use lib.ListN.{length}
+use borrow.Author.Needs.{needs}
+use Rattle.single.proofs.write_tick_positions.Statement.{statement}
+use Rattle.single.proofs.write_tick_positions.Tie as tie
+
+abbrev Inv-loop : tie.InvT-loop
+Inv-loop series work n out₀ i₀ out i =
+    (min (2 * n - 2) (length series) ≤ i) × (i ≤ length series) × Writing i (singleLine n (line series)) out₀ out
+
+abbrev μ-loop : tie.MeasureT-loop
+μ-loop series work n out₀ i₀ out i = length series - i
+
+loop-holds : tie.Need-loop-holds Inv-loop μ-loop
+unfolding singleLine ofBits
+loop-holds c =
+    let lead = c .before .before .fill-lead .ensures in
+    (omega arith, omega arith, lead-stands _ lead)
+
+loop-again : tie.Need-loop-again Inv-loop μ-loop
+loop-again c =
+    let at = c .before .before in
+    (omega arith, omega arith, one-more (at .loop .inv .2) (c .tick-position .ensures) (omega arith))
+
+returns : tie.Need-returns Inv-loop μ-loop
+returns c =
+    let lead = c .before .before .before .before .fill-lead .ensures in
+    ends (then-written (lead .lead) (c .before .loop .inv .2) (omega arith)) (omega arith)
+
+pub write-tick-positions-spec : {M : Type 1} → statement M
+write-tick-positions-spec =
+    tie.close
+    (tie.spec
+    Inv-loop
+    μ-loop
+    (λ c. search needs)  -- mul-fill-lead
+    (λ c. search needs)  -- sub-fill-lead
+    (λ c κs. search needs)  -- fill-lead-requires
+    loop-holds
+    (λ c κs. search needs)  -- tick-position-requires
+    (λ c. search needs)  -- mul-out
+    (λ c. search needs)  -- slice-write-out
+    (λ c. search needs)  -- add-i
+    (λ c. search needs)  -- loop-less
+    loop-again
+    (λ c. search needs)  -- same-length
+    returns
+    )

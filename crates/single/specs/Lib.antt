@@ -1,0 +1,2 @@
+-- The one-average rule on whole ticks.
+pub mod TickPositions
