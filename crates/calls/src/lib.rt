@@ -7,7 +7,7 @@ ghost use lib.Dec.{leb, eqb};
 ghost use lib.ListN.{length};
 ghost use lib.Ieee.{binary64, toBits};
 ghost use Rattle.calls.specs.Accepted.{within, accepted, tick, finite, all};
-ghost use Rattle.calls.specs.Quick.{cappedBits, NoneAbove};
+ghost use Rattle.calls.specs.Quick.{capped, NoneAbove};
 ghost use Rattle.calls.specs.Answer.{number, refusalOf, countOf, unless, andThen, slices, checked, windowed, answered};
 ghost use Rattle.calls.specs.Line.{plusZero, Led};
 ghost use Rattle.calls.specs.Written.{Writing};
@@ -111,22 +111,21 @@ pub fn is_finite(x: f64) -> bool
     if x < infinity { -infinity < x } else { false }
 }
 
-// The bits of x, or those of 2^31 where x is not below it, as a NaN is not.
-fn capped_bits(x: f64) -> u64
-    ensures { λ r. ⌜ r ≡ cappedBits x ⌝ }
+// x, or 2^31 where x is not below it, as a NaN is not.
+fn cap(x: f64) -> f64
+    ensures { λ r. ⌜ r ≡ capped x ⌝ }
 {
-    let low = if x < 2147483648.0 { x } else { 2147483648.0 };
-    f64::to_bits(low)
+    if x < 2147483648.0 { x } else { 2147483648.0 }
 }
 
-// The bits of all numbers of s, one upon the other: those of no number are larger.
+// The bits of all numbers of s, one upon the other: those of no number are larger. What is not below 2^31 counts as that.
 fn bits_together(s: &[f64]) -> u64
     ensures { λ r. ⌜ NoneAbove r (now (s .entry)) ⌝ }
 {
     let mut together = 0;
     let mut i = 0;
     while i < s.len() {
-        together = together | capped_bits(s[i]);
+        together = together | f64::to_bits(cap(s[i]));
         i += 1;
     }
     together
