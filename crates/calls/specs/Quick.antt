@@ -98,12 +98,14 @@ low-end k (fin false m e) n v = rw (lt-ltb 0 (1 * 2 ^ k * down e + m * up e * 1)
     some : (p d a : ℕ) → 0 < p * d → 0 < 1 * p * d + a
     some p d a h = rw (one-mul p) (omega arith)
 
-pub up-to-within : (k : ℕ) (x : Float) → UpTo k x → within k x ≡ true
-up-to-within k x u =
-    let high : T (le x (fin false 1 (pos k))) =
-    le-of-values x (fin false 1 (pos k)) (u .count) (2 ^ 1074) (2 ^ k) 1 (pow-pos 1074) (pow-pos 0) (u .value) (refl, rw (one-mul (2 ^ k)))
-    (rw (mul-one (u .count), ← pow-add 2 k 1074) (u .at-most)) in
-    rw (low-end k x (u .count) (u .value), is-true (le x (fin false 1 (pos k))) high)
+pub up-to-end : (k : ℕ) (x : Float) → UpTo k x → le x (fin false 1 (pos k)) ≡ true
+up-to-end k x u =
+    is-true (le x (fin false 1 (pos k)))
+    (le-of-values x (fin false 1 (pos k)) (u .count) (2 ^ 1074) (2 ^ k) 1 (pow-pos 1074) (pow-pos 0) (u .value) (refl, rw (one-mul (2 ^ k)))
+    (rw (mul-one (u .count), ← pow-add 2 k 1074) (u .at-most)))
+
+up-to-within : (k : ℕ) (x : Float) → UpTo k x → within k x ≡ true
+up-to-within k x u = rw (low-end k x (u .count) (u .value), up-to-end k x u)
 
 limit : toBits binary64 (fin false 1 (pos 31)) ≡ powerBits 31
 unfolding toBits
@@ -118,10 +120,10 @@ own-bits k x n h = go (lt x (fin false 1 (pos 31))) h
     go true h = h
     go false h = absurd (omega (arith, limit))
 
-pub quick : (k : ℕ) (x : Float) → k ≤ 30 → T (fits binary64 x) → toBits binary64 (capped x) ≤ powerBits k → UpTo k x
+quick : (k : ℕ) (x : Float) → k ≤ 30 → T (fits binary64 x) → toBits binary64 (capped x) ≤ powerBits k → UpTo k x
 quick k x n f h = by-bits k x n f (own-bits k x n h)
 
-pub quick-accepted : (x : Float) → T (fits binary64 x) → toBits binary64 (capped x) ≤ powerBits 30 → accepted x ≡ true
+quick-accepted : (x : Float) → T (fits binary64 x) → toBits binary64 (capped x) ≤ powerBits 30 → accepted x ≡ true
 unfolding accepted
 quick-accepted x f h =
     let own = own-bits 30 x (omega arith) h in
@@ -129,9 +131,17 @@ quick-accepted x f h =
 
 -- ---- every number of a list
 
+-- each lies from 0.0 to 2 ^ k
+abbrev pub EachUpTo : ℕ → List Float → Type 0
+EachUpTo k s = (i : ℕ) → i < length s → UpTo k (getD s i nan)
+
 all-of : (p : Float → Bool) (s : List Float) → ((i : ℕ) → i < length s → p (getD s i nan) ≡ true) → all p s ≡ true
 all-of p [] h = refl
 all-of p (x ∷ s) h = rw (h 0 (zero-lt-suc _), all-of p s (λ i l. h (suc i) (suc-le-suc l)))
 
-pub quick-all : {b : ℕ} (s : List Float) → NoneAbove b s → ((i : ℕ) → T (fits binary64 (getD s i nan))) → b ≤ powerBits 30 → all accepted s ≡ true
-quick-all s none f h = all-of accepted s (λ i l. quick-accepted (getD s i nan) (f i) (le-trans (none i l) h))
+module _ {b : ℕ} (s : List Float) (none : NoneAbove b s) (fit : (i : ℕ) → T (fits binary64 (getD s i nan))) where
+  pub quick-all : b ≤ powerBits 30 → all accepted s ≡ true
+  quick-all h = all-of accepted s (λ i l. quick-accepted (getD s i nan) (fit i) (le-trans (none i l) h))
+
+  pub quick-up-to : (k : ℕ) → k ≤ 30 → b ≤ powerBits k → EachUpTo k s
+  quick-up-to k n h i l = quick k (getD s i nan) n (fit i) (le-trans (none i l) h)
