@@ -1,4 +1,4 @@
--- `is_whole` meets its contract. Assumes nothing.
+-- `is_whole` meets its contract: what comes back beside 2 ^ 52 is a whole number. Assumes nothing.
 use lib.Ieee.{ofBits}
 use Rattle.calls.specs.Fraction.{whole-tick}
 use Rattle.calls.proofs.is_whole.Statement.{statement}
