@@ -6,6 +6,7 @@ pub mod Recur
 pub mod Accepted
 pub mod Ticks
 pub mod Quick
+pub mod Fraction
 pub mod Answer
 pub mod Room
 pub mod Call

@@ -1,6 +1,6 @@
 -- Why the quick test is right: a number whose bits are at most those of 2 ^ k lies from 0.0 to 2 ^ k. Assumes nothing.
 use mathlib.Core.Path.{_≡_, refl, sym, _∙_, subst}
-use mathlib.Core.Bool.{Bool, true, false, cond, true≢false}
+use mathlib.Core.Bool.{Bool, true, false, not, cond, true≢false}
 use mathlib.Core.List.{List, [], _∷_}
 use Prim.Native.Nat.{ℕ, zero, suc, _+_, _*_, _/_, _%_, _^_, _<_, _≤_, suc-le-suc}
 use native.Mathlib.Nat.{le-trans, le-of-lt, le-of-eq, mul-one, one-mul, mul-pos, mod-lt, mod-eq-of-lt, div-add-mod', zero-lt-suc}
@@ -10,20 +10,32 @@ use lib.Dec.{T, ltb}
 use lib.IntN.{pos}
 use lib.Pow.{pow-add, pow-pos, pow-mono, shl-lt}
 use lib.ListN.{length, getD}
-use lib.Ieee.{Float, nan, inf, fin, binary64, up, down, lt, eq, le, fits, ofFields, ofBits, toBits}
+use lib.Ieee.{Float, nan, inf, fin, binary64, up, down, lt, eq, le, fits, isNan, ofFields, ofBits, toBits}
 use lib.Ieee.Bits.{ofBits-toBits, is-true}
 use lib.Ieee.Exact.{HasValue, odd-sign}
 use lib.Ieee.Fits.{down-pos}
 use lib.Ieee.Order.{le-of-values}
 use Rattle.calls.specs.Accepted.{within, accepted, all}
 
--- The bits of x, where x is below 2 ^ 31. What is not, a NaN too, has those of 2 ^ 31.
-unfoldable pub cappedBits : Float → ℕ
-cappedBits x = toBits binary64 (cond (lt x (fin false 1 (pos 31))) x (fin false 1 (pos 31)))
+-- x, where it is below 2 ^ 31. What is not, a NaN too, counts as 2 ^ 31.
+unfoldable pub capped : Float → Float
+capped x = cond (lt x (fin false 1 (pos 31))) x (fin false 1 (pos 31))
 
 -- no number has larger bits than b
 abbrev pub NoneAbove : ℕ → List Float → Type 0
-NoneAbove b s = (i : ℕ) → i < length s → cappedBits (getD s i nan) ≤ b
+NoneAbove b s = (i : ℕ) → i < length s → toBits binary64 (capped (getD s i nan)) ≤ b
+
+-- only a number is below another
+pub capped-number : (x : Float) → T (not (isNan (capped x)))
+unfolding capped lt isNan
+capped-number nan = tt
+capped-number (inf true) = tt
+capped-number (inf false) = tt
+capped-number (fin s m e) = go (lt (fin s m e) (fin false 1 (pos 31)))
+  where
+    go : (t : Bool) → T (not (isNan (cond t (fin s m e) (fin false 1 (pos 31)))))
+    go true = tt
+    go false = tt
 
 -- ---- a number by its bits
 
@@ -86,30 +98,32 @@ low-end k (fin false m e) n v = rw (lt-ltb 0 (1 * 2 ^ k * down e + m * up e * 1)
     some : (p d a : ℕ) → 0 < p * d → 0 < 1 * p * d + a
     some p d a h = rw (one-mul p) (omega arith)
 
-pub up-to-within : (k : ℕ) (x : Float) → UpTo k x → within k x ≡ true
-up-to-within k x u =
-    let high : T (le x (fin false 1 (pos k))) =
-    le-of-values x (fin false 1 (pos k)) (u .count) (2 ^ 1074) (2 ^ k) 1 (pow-pos 1074) (pow-pos 0) (u .value) (refl, rw (one-mul (2 ^ k)))
-    (rw (mul-one (u .count), ← pow-add 2 k 1074) (u .at-most)) in
-    rw (low-end k x (u .count) (u .value), is-true (le x (fin false 1 (pos k))) high)
+pub up-to-end : (k : ℕ) (x : Float) → UpTo k x → le x (fin false 1 (pos k)) ≡ true
+up-to-end k x u =
+    is-true (le x (fin false 1 (pos k)))
+    (le-of-values x (fin false 1 (pos k)) (u .count) (2 ^ 1074) (2 ^ k) 1 (pow-pos 1074) (pow-pos 0) (u .value) (refl, rw (one-mul (2 ^ k)))
+    (rw (mul-one (u .count), ← pow-add 2 k 1074) (u .at-most)))
+
+up-to-within : (k : ℕ) (x : Float) → UpTo k x → within k x ≡ true
+up-to-within k x u = rw (low-end k x (u .count) (u .value), up-to-end k x u)
 
 limit : toBits binary64 (fin false 1 (pos 31)) ≡ powerBits 31
 unfolding toBits
 limit = refl
 
 -- bits below those of 2 ^ 31 are the number's own
-own-bits : (k : ℕ) (x : Float) → k ≤ 30 → cappedBits x ≤ powerBits k → toBits binary64 x ≤ powerBits k
-unfolding cappedBits
+own-bits : (k : ℕ) (x : Float) → k ≤ 30 → toBits binary64 (capped x) ≤ powerBits k → toBits binary64 x ≤ powerBits k
+unfolding capped
 own-bits k x n h = go (lt x (fin false 1 (pos 31))) h
   where
     go : (t : Bool) → toBits binary64 (cond t x (fin false 1 (pos 31))) ≤ powerBits k → toBits binary64 x ≤ powerBits k
     go true h = h
     go false h = absurd (omega (arith, limit))
 
-pub quick : (k : ℕ) (x : Float) → k ≤ 30 → T (fits binary64 x) → cappedBits x ≤ powerBits k → UpTo k x
+quick : (k : ℕ) (x : Float) → k ≤ 30 → T (fits binary64 x) → toBits binary64 (capped x) ≤ powerBits k → UpTo k x
 quick k x n f h = by-bits k x n f (own-bits k x n h)
 
-pub quick-accepted : (x : Float) → T (fits binary64 x) → cappedBits x ≤ powerBits 30 → accepted x ≡ true
+quick-accepted : (x : Float) → T (fits binary64 x) → toBits binary64 (capped x) ≤ powerBits 30 → accepted x ≡ true
 unfolding accepted
 quick-accepted x f h =
     let own = own-bits 30 x (omega arith) h in
@@ -117,9 +131,17 @@ quick-accepted x f h =
 
 -- ---- every number of a list
 
+-- each lies from 0.0 to 2 ^ k
+abbrev pub EachUpTo : ℕ → List Float → Type 0
+EachUpTo k s = (i : ℕ) → i < length s → UpTo k (getD s i nan)
+
 all-of : (p : Float → Bool) (s : List Float) → ((i : ℕ) → i < length s → p (getD s i nan) ≡ true) → all p s ≡ true
 all-of p [] h = refl
 all-of p (x ∷ s) h = rw (h 0 (zero-lt-suc _), all-of p s (λ i l. h (suc i) (suc-le-suc l)))
 
-pub quick-all : {b : ℕ} (s : List Float) → NoneAbove b s → ((i : ℕ) → T (fits binary64 (getD s i nan))) → b ≤ powerBits 30 → all accepted s ≡ true
-quick-all s none f h = all-of accepted s (λ i l. quick-accepted (getD s i nan) (f i) (le-trans (none i l) h))
+module _ {b : ℕ} (s : List Float) (none : NoneAbove b s) (fit : (i : ℕ) → T (fits binary64 (getD s i nan))) where
+  pub quick-all : b ≤ powerBits 30 → all accepted s ≡ true
+  quick-all h = all-of accepted s (λ i l. quick-accepted (getD s i nan) (fit i) (le-trans (none i l) h))
+
+  pub quick-up-to : (k : ℕ) → k ≤ 30 → b ≤ powerBits k → EachUpTo k s
+  quick-up-to k n h i l = quick k (getD s i nan) n (fit i) (le-trans (none i l) h)

@@ -25,11 +25,11 @@ or-true : (t : Bool) → t || true ≡ true
 or-true true = refl
 or-true false = refl
 
-and-true : (t : Bool) → t && true ≡ t
+pub and-true : (t : Bool) → t && true ≡ t
 and-true true = refl
 and-true false = refl
 
-eqb-iff : (a b c d : ℕ) → (a ≡ b → c ≡ d) → (c ≡ d → a ≡ b) → eqb a b ≡ eqb c d
+pub eqb-iff : (a b c d : ℕ) → (a ≡ b → c ≡ d) → (c ≡ d → a ≡ b) → eqb a b ≡ eqb c d
 eqb-iff a b c d f g = go (eqb c d) refl
   where
     go : (t : Bool) → eqb c d ≡ t → eqb a b ≡ t
@@ -70,7 +70,7 @@ at-most a b u = go (ltb a b) (eqb a b) refl refl
     go false true p q e = let l = eqb-true a b q in omega arith
     go false false p q e = let z : _≡_ {A = ℕ} 0 1 = cc in absurd (omega arith)
 
-small : (m : ℕ) (e : ℤ) → le (fin false m e) (fin false 1 (pos 24)) ≡ true → m * up e ≤ 2 ^ 24 * down e
+pub small : (m : ℕ) (e : ℤ) → le (fin false m e) (fin false 1 (pos 24)) ≡ true → m * up e ≤ 2 ^ 24 * down e
 unfolding le lt eq
 small m e q = let l = at-most (m * up e * 1) (2 ^ 24 * down e) _ q in omega arith
 
@@ -157,6 +157,10 @@ module _ (s : Bool) (m : ℕ) (e : ℤ) (w : le (fin false m e) (fin false 1 (po
   tick-is t u p q =
       let h = near in
       rw (← size-within (fin s m e), w, p, q, le-leb (cut m e) (2 ^ 53) (omega arith), and-true t)
+
+-- without a sign it is a tick if it is whole
+pub tick-rest : (m : ℕ) (e : ℤ) → le (fin false m e) (fin false 1 (pos 24)) ≡ true → tick (fin false m e) ≡ eqb (m * up e % down e) 0
+tick-rest m e w = tick-is false m e w _ _ refl refl ∙ and-true (eqb (m * up e % down e) 0)
 
 pub tried : (x : Float) → le (magnitudeOf x) (fin false 1 (pos 24)) ≡ true → Tried x
 unfolding le lt eq magnitudeOf

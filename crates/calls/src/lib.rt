@@ -7,7 +7,7 @@ ghost use lib.Dec.{leb, eqb};
 ghost use lib.ListN.{length};
 ghost use lib.Ieee.{binary64, toBits};
 ghost use Rattle.calls.specs.Accepted.{within, accepted, tick, finite, all};
-ghost use Rattle.calls.specs.Quick.{cappedBits, NoneAbove};
+ghost use Rattle.calls.specs.Quick.{capped, NoneAbove, UpTo, EachUpTo};
 ghost use Rattle.calls.specs.Answer.{number, refusalOf, countOf, unless, andThen, slices, checked, windowed, answered};
 ghost use Rattle.calls.specs.Line.{plusZero, Led};
 ghost use Rattle.calls.specs.Written.{Writing};
@@ -111,22 +111,21 @@ pub fn is_finite(x: f64) -> bool
     if x < infinity { -infinity < x } else { false }
 }
 
-// The bits of x, or those of 2^31 where x is not below it, as a NaN is not.
-fn capped_bits(x: f64) -> u64
-    ensures { λ r. ⌜ r ≡ cappedBits x ⌝ }
+// x, or 2^31 where x is not below it, as a NaN is not.
+fn cap(x: f64) -> f64
+    ensures { λ r. ⌜ r ≡ capped x ⌝ }
 {
-    let low = if x < 2147483648.0 { x } else { 2147483648.0 };
-    f64::to_bits(low)
+    if x < 2147483648.0 { x } else { 2147483648.0 }
 }
 
-// The bits of all numbers of s, one upon the other: those of no number are larger.
+// The bits of all numbers of s, one upon the other: those of no number are larger. What is not below 2^31 counts as that.
 fn bits_together(s: &[f64]) -> u64
     ensures { λ r. ⌜ NoneAbove r (now (s .entry)) ⌝ }
 {
     let mut together = 0;
     let mut i = 0;
     while i < s.len() {
-        together = together | capped_bits(s[i]);
+        together = together | f64::to_bits(cap(s[i]));
         i += 1;
     }
     together
@@ -158,8 +157,29 @@ pub fn all_accepted(s: &[f64]) -> bool
     }
 }
 
-// Whether every number of s is a whole tick.
-pub fn all_ticks(s: &[f64]) -> bool
+// Whether x, which lies from 0.0 to 2^24, is whole: beside 2^52 there is no room for a fraction.
+fn is_whole(x: f64) -> bool
+    ensures { λ r. ⌜ (UpTo 24 x → r ≡ tick x) ⌝ }
+{
+    (x + 4503599627370496.0) - 4503599627370496.0 == x
+}
+
+// Whether every number of s, where each lies from 0.0 to 2^24, is a whole tick. All are looked at, so that the loop takes several at a time.
+fn all_whole(s: &[f64]) -> bool
+    requires { ⌜ EachUpTo 24 (now s) ⌝ }
+    ensures { λ r. ⌜ r ≡ all tick (now (s .entry)) ⌝ }
+{
+    let mut whole = true;
+    let mut i = 0;
+    while i < s.len() {
+        whole = whole & is_whole(s[i]);
+        i += 1;
+    }
+    whole
+}
+
+// Whether every number of s is a whole tick, one after the other.
+fn each_tick(s: &[f64]) -> bool
     ensures { λ r. ⌜ r ≡ all tick (now (s .entry)) ⌝ }
 {
     let mut i = 0;
@@ -171,6 +191,23 @@ pub fn all_ticks(s: &[f64]) -> bool
         }
     }
     true
+}
+
+// Whether every number of s is a whole tick. Where prices have fractions the first one mostly shows it; where all bits together are at most
+// those of 2^24, every number lies from 0.0 to 2^24.
+pub fn all_ticks(s: &[f64]) -> bool
+    ensures { λ r. ⌜ r ≡ all tick (now (s .entry)) ⌝ }
+{
+    if s.len() == 0 {
+        return true;
+    }
+    if is_tick(s[0]) {
+        if bits_together(s) <= 4715268809856909312 {
+            return all_whole(s);
+        }
+        return each_tick(s);
+    }
+    false
 }
 
 // The first refusal by the lengths of a series and its output; else the series' length.

@@ -1,42 +1,32 @@
--- `all_ticks` meets its contract: what holds of the whole series holds of the rest of it. Assumes nothing.
-use mathlib.Core.Path.{_≡_}
-use Prim.Native.Nat.{_+_, _-_, _≤_}
-use lib.ListN.{length, drop}
-use denote.Ref.{now}
-use mathlib.Core.Bool.{Bool, true, false, _&&_}
-use Rattle.calls.specs.Accepted.{tick, all, all-next, all-none}
+-- `all_ticks` meets its contract: the first number decides, or the quick test, or each number is tested. Assumes nothing.
+use mathlib.Core.Path.{sym}
+use native.Mathlib.Omega.{arith}
 use borrow.Author.Needs.{needs}
+use denote.Ref.{now}
+use Rattle.calls.specs.Accepted.{tick, all-next, all-none}
+use Rattle.calls.specs.Quick.{quick-up-to}
 use Rattle.calls.proofs.all_ticks.Statement.{statement}
 use Rattle.calls.proofs.all_ticks.Tie as tie
 
-abbrev Inv-loop : tie.InvT-loop
-Inv-loop s i₀ i = (i ≤ length s) × (all tick s ≡ all tick (drop i s))
+all-whole-requires : tie.Need-all-whole-requires
+all-whole-requires c κs =
+    let known = c .before .before .before .before in
+    quick-up-to (now (known .before .before .before .args .s)) (c .before .bits-together .ensures) (known .shared-slice-known2 .given) 24 (omega arith) (omega arith)
 
-abbrev μ-loop : tie.MeasureT-loop
-μ-loop s i₀ i = length s - i
-
--- the next number's test, and then the rest
-next : (c : tie.After-is-tick Inv-loop μ-loop) (r : Bool) → c .is-tick .result ≡ r
-    → let at-loop = c .before .before .before in
-    let s = now (at-loop .before .before .args .s) in
-    all tick s ≡ r && all tick (drop (at-loop .loop .i + 1) s)
-next c r e =
-    let in-loop = c .before .before in
-    rw (in-loop .before .loop .inv .1, all-next tick _ _ (in-loop .loop-test .taken), ← c .is-tick .ensures, e)
+returns-4 : tie.Need-returns-4
+returns-4 c = rw (all-next tick (now (c .before .before .before .before .before .args .s)) 0 (omega arith), ← c .before .is-tick .ensures, c .if2 .left)
 
 pub all-ticks-spec : {M : Type 1} → statement M
 all-ticks-spec =
     tie.close
     (tie.spec
-    Inv-loop
-    μ-loop
-    (λ c. search needs)  -- loop-holds
-    (λ c. search needs)  -- mul-is-tick
+    (λ c. sym (all-none tick (now (c .before .before .args .s)) 0 (omega arith)))  -- returns
     (λ c. search needs)  -- shared-slice-read-is-tick
     (λ c κs. search needs)  -- is-tick-requires
-    (λ c. search needs)  -- add-i
-    (λ c. search needs)  -- loop-less
-    (λ c. (search needs, next (c .before) true (c .if1 .taken)))  -- loop-again
-    (λ c. rw (next (c .before) false (c .if1 .left)))  -- returns
-    (λ c. rw (c .before .loop .inv .1, all-none tick _ _ (c .loop-test .left)))  -- returns-2
+    (λ c κs. search needs)  -- bits-together-requires
+    all-whole-requires
+    (λ c. search needs)  -- returns-2
+    (λ c κs. search needs)  -- each-tick-requires
+    (λ c. search needs)  -- returns-3
+    returns-4
     )
