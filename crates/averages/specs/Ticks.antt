@@ -1,22 +1,22 @@
--- The running sum of whole ticks: it is the sum of the window, and an i64 holds it. Assumes nothing.
+-- Sums of whole ticks, as the loops of `tick_mean` make them: one tick in, one out, and an i64 holds them. Assumes nothing.
 use mathlib.Core.Path.{_≡_, refl, sym, ap, _∙_}
-use mathlib.Core.Bool.{Bool, true, false, _&&_, cond}
+use mathlib.Core.Bool.{Bool, true, false, _&&_}
 use mathlib.Core.List.{List, [], _∷_}
 use Prim.Native.Nat.{ℕ, zero, suc, _+_, _-_, _*_, _^_, _<_, _≤_}
 use native.Mathlib.Nat.{not-suc-le-zero, le-of-suc-le-suc}
+use native.Mathlib.Numerals.{add-one}
 use native.Mathlib.Omega.{arith}
-use borrow.Author.Tests.{leb-true}
-use lib.Dec.{leb}
-use lib.IntN.{ℤ, pos, negℤ, natAbs, _+ℤ_, _-ℤ_, +ℤ-idl, +ℤ-idr, +ℤ-assoc, +ℤ-comm, +ℤ-negℤ-cancel}
+use lib.IntN.{ℤ, pos, natAbs, _+ℤ_, _-ℤ_, +ℤ-idl, +ℤ-idr, +ℤ-assoc, +ℤ-comm, +ℤ-negℤ-cancel}
 use lib.ListN.{length, getD}
 use lib.Ieee.{Float, nan, toSigned}
 use mir.Syntax.{w64}
 use mir.Val.{SFits}
 use Rattle.calls.specs.Accepted.{tick, all}
-use Rattle.calls.specs.Line.{Line, line, fromBar}
+use Rattle.calls.specs.Line.{Line, line, before-bar, from-bar}
 use Rattle.calls.specs.Ticks.{ticked}
+use Rattle.calls.specs.Written.{Writing, writing-same}
 use Rattle.averages.specs.Averages.{tickSum, toTick, tickMeanLine}
-use Rattle.averages.specs.Whole.{in-i64, held, kept, size-sum, size-neg}
+use Rattle.averages.specs.Whole.{in-i64, held, kept, size-sum}
 
 -- a series of whole ticks
 pub record Ticks (s : List Float) : Type 0 where
@@ -60,99 +60,63 @@ first-apart f a (suc k) =
     let bar : a + suc k ≡ a + 1 + k = omega arith in
     rw (first-apart f a k, bar) (+ℤ-assoc (toSigned 63 (f a)) (tickSum f (a + 1) k) (toSigned 63 (f (a + 1 + k))))
 
--- z is the sum of the last n ticks before bar i, or of all of them where there are fewer: what the loop keeps
-pub record TickRunning (n : ℕ) (s : List Float) (i : ℕ) (z : ℤ) : Type 0 where
-  pub is : z ≡ tickSum (line s) (i - n) (i - (i - n))
+-- z is the sum of the k ticks from bar a on: what the loops keep
+pub record TickSum (s : List Float) (a k : ℕ) (z : ℤ) : Type 0 where
+  pub is : z ≡ tickSum (line s) a k
 
-module _ {n : ℕ} {s : List Float} where
-  pub no-ticks : TickRunning n s 0 (pos 0)
+-- an i64 holds z, and there it is that sum
+pub record HeldSum (s : List Float) (a k : ℕ) (z : ℤ) : Type 0 where
+  pub fits : SFits w64 z
+  pub sum : TickSum s a k (held z)
+
+module _ {s : List Float} where
+  pub no-ticks : (a : ℕ) → TickSum s a 0 (pos 0)
   unfolding tickSum
-  no-ticks =
-      let none : 0 - (0 - n) ≡ 0 = omega arith in
-      record { is = rw none }
+  no-ticks a = record { is = refl }
 
-  module _ {i : ℕ} {z : ℤ} (r : TickRunning n s i z) where
-    -- bar i comes in
-    pub tick-in : i < n → TickRunning n s (i + 1) (z +ℤ toSigned 63 (line s i))
-    unfolding tickSum
-    tick-in h =
-        let start : i - n ≡ 0 = omega arith in
-        let again : i + 1 - n ≡ 0 = omega arith in
-        let so-far : i - 0 ≡ i = omega arith in
-        let one : i + 1 - 0 ≡ suc i = omega arith in
-        let bar : 0 + i ≡ i = omega arith in
-        record { is = rw (r .is, start, again, so-far, one, bar) }
+  -- the same, counted in another way
+  pub ticks-same : {a k b l : ℕ} {z : ℤ} → TickSum s a k z → (a ≡ b) × (k ≡ l) → TickSum s b l z
+  ticks-same r (p, q) = rw (← p, ← q) r
 
-    -- and bar i - n goes out
-    pub tick-in-out : n ≤ i → TickRunning n s (i + 1) (z +ℤ toSigned 63 (line s i) -ℤ toSigned 63 (line s (i - n)))
-    unfolding tickSum
-    tick-in-out h =
-        let a = i - n in
-        let all-n : i - (i - n) ≡ n = omega arith in
-        let start : i + 1 - n ≡ i - n + 1 = omega arith in
-        let still-n : i + 1 - (i - n + 1) ≡ n = omega arith in
-        let bar : i ≡ i - n + n = omega arith in
-        let both-in : z +ℤ toSigned 63 (line s i) ≡ tickSum (line s) a (suc n) = rw (r .is, all-n) (ap (λ (j : ℕ). tickSum (line s) a n +ℤ toSigned 63 (line s j)) bar) in
-        let turned = both-in ∙ first-apart (line s) a n ∙ +ℤ-comm (toSigned 63 (line s a)) (tickSum (line s) (a + 1) n) in
-        record { is = rw (turned, +ℤ-negℤ-cancel (tickSum (line s) (a + 1) n) (toSigned 63 (line s a)), start, still-n) }
+  -- the next tick comes in
+  tick-in : {a k : ℕ} {z : ℤ} (i : ℕ) → TickSum s a k z → i ≡ a + k → TickSum s a (k + 1) (z +ℤ toSigned 63 (line s i))
+  unfolding tickSum
+  tick-in i r e = rw (add-one, e) (record { is = rw (r .is) })
 
-    module _ (t : Ticks s) (h : n ≤ 4096) where
-      -- it is small
-      pub running-near : natAbs z ≤ 2 ^ 36
-      running-near =
-          let size = sum-near s (i - n) (i - (i - n)) (t .each) in
-          let few : i - (i - n) ≤ n = omega arith in
-          rw (r .is) (omega arith)
+  -- the first one goes out
+  tick-out : {a k : ℕ} {z : ℤ} → TickSum s a (k + 1) z → TickSum s (a + 1) k (z -ℤ toSigned 63 (line s a))
+  tick-out {a} {k} {z} r =
+      let all : z ≡ tickSum (line s) a (suc k) = rw add-one at (r .is) in
+      let turned = all ∙ first-apart (line s) a k ∙ +ℤ-comm (toSigned 63 (line s a)) (tickSum (line s) (a + 1) k) in
+      record { is = rw (turned, +ℤ-negℤ-cancel (tickSum (line s) (a + 1) k) (toSigned 63 (line s a))) }
 
-      same-at : (j : ℕ) → held (toSigned 63 (line s j)) ≡ toSigned 63 (line s j)
-      same-at j = let new = near-at s j (t .each) in kept (toSigned 63 (line s j)) (omega arith)
+  module _ (t : Ticks s) where
+    -- the sum is small
+    pub sum-small : {a k : ℕ} {z : ℤ} → TickSum s a k z → natAbs z ≤ k * 16777216
+    sum-small {a} {k} r = let size = sum-near s a k (t .each) in rw (r .is) (omega arith)
 
-      same-in : held z +ℤ held (toSigned 63 (line s i)) ≡ z +ℤ toSigned 63 (line s i)
-      same-in = let old = running-near in rw (kept z (omega arith), same-at i)
+    -- so an i64 holds it
+    pub hold : {a k : ℕ} {z : ℤ} → TickSum s a k z → k ≤ 4096 → HeldSum s a k z
+    hold {z = z} r h =
+        let l = sum-small r in
+        record { fits = in-i64 z (omega arith); sum = rw (kept z (omega arith)) r }
 
-      near-in : natAbs (z +ℤ toSigned 63 (line s i)) ≤ 2 ^ 37
-      near-in =
-          let old = running-near in
-          let new = near-at s i (t .each) in
-          let join = size-sum z (toSigned 63 (line s i)) in
-          omega arith
+    same-at : (j : ℕ) → held (toSigned 63 (line s j)) ≡ toSigned 63 (line s j)
+    same-at j = let l = near-at s j (t .each) in kept (toSigned 63 (line s j)) (omega arith)
 
-      near-in-out : natAbs (z +ℤ toSigned 63 (line s i) -ℤ toSigned 63 (line s (i - n))) ≤ 2 ^ 40
-      near-in-out =
-          let old = near-in in
-          let gone = near-at s (i - n) (t .each) in
-          let sign = size-neg (toSigned 63 (line s (i - n))) in
-          let join = size-sum (z +ℤ toSigned 63 (line s i)) (negℤ (toSigned 63 (line s (i - n)))) in
-          omega arith
+    -- with the tick of bar i
+    pub hold-in : {a k l : ℕ} {z : ℤ} (i : ℕ) → TickSum s a k z → (i ≡ a + k) × (k + 1 ≡ l) × (l ≤ 4096)
+        → HeldSum s a l (z +ℤ held (toSigned 63 (line s i)))
+    hold-in i r (e, p, h) = rw (same-at i, ← p) (hold (tick-in i r e) (omega arith))
 
-      -- so an i64 holds the sum with bar i in it
-      pub fits-in : SFits w64 (held z +ℤ held (toSigned 63 (line s i)))
-      fits-in = rw same-in (in-i64 (z +ℤ toSigned 63 (line s i)) (let l = near-in in omega arith))
+    -- and without that of bar a
+    pub hold-out : {a b k l : ℕ} {z : ℤ} → TickSum s a l z → (a + 1 ≡ b) × (k + 1 ≡ l) × (l ≤ 4096)
+        → HeldSum s b k (z -ℤ held (toSigned 63 (line s a)))
+    hold-out {a} {k = k} {z = z} r (e, p, h) =
+        let all : TickSum s a (k + 1) z = rw p r in
+        rw (same-at a, ← e) (hold (tick-out all) (omega arith))
 
-      pub held-in : held (held z +ℤ held (toSigned 63 (line s i))) ≡ z +ℤ toSigned 63 (line s i)
-      held-in = rw same-in (kept (z +ℤ toSigned 63 (line s i)) (let l = near-in in omega arith))
-
-      -- and with bar i - n out of it
-      pub fits-in-out : SFits w64 (held (held z +ℤ held (toSigned 63 (line s i))) -ℤ held (toSigned 63 (line s (i - n))))
-      fits-in-out = rw (held-in, same-at (i - n)) (in-i64 (z +ℤ toSigned 63 (line s i) -ℤ toSigned 63 (line s (i - n))) near-in-out)
-
-      pub held-in-out : held (held (held z +ℤ held (toSigned 63 (line s i))) -ℤ held (toSigned 63 (line s (i - n))))
-          ≡ z +ℤ toSigned 63 (line s i) -ℤ toSigned 63 (line s (i - n))
-      held-in-out = rw (held-in, same-at (i - n)) (kept (z +ℤ toSigned 63 (line s i) -ℤ toSigned 63 (line s (i - n))) near-in-out)
-
--- the cell of bar i, from the running sum with that bar in it
-pub tick-cell : (n : ℕ) (s : List Float) (i : ℕ) {z : ℤ} → TickRunning n s (i + 1) z → fromBar (n - 1) (pos 0) (λ j. toTick z n) i ≡ tickMeanLine n (line s) i
-unfolding fromBar tickMeanLine
-tick-cell n s i {z} r = go (leb (n - 1) i) refl
-  where
-    go : (t : Bool) → leb (n - 1) i ≡ t → cond t (toTick z n) (pos 0) ≡ cond t (toTick (tickSum (line s) (i + 1 - n) n) n) (pos 0)
-    go true e =
-        let l = leb-true (n - 1) i e in
-        let all-n : i + 1 - (i + 1 - n) ≡ n = omega arith in
-        rw (r .is, all-n)
-    go false e = refl
-
--- ---- what the functions under `tick_mean` ask
+-- ---- what the functions under `tick_mean` ask and give
 
 -- a series of ticks, a window, and a cell for each bar
 pub record TickRoom (s : List Float) (n cells : ℕ) : Type 0 where
@@ -161,9 +125,35 @@ pub record TickRoom (s : List Float) (n cells : ℕ) : Type 0 where
   pub room : length s ≤ cells
   pub ticks : Ticks s
 
--- bar i is next, and z is the sum before it
-pub record Passed (s : List Float) (n i : ℕ) (z : ℤ) : Type 0 where
-  pub short : n ≤ 4096
-  pub inside : i < length s
+-- the first bars of such a series
+pub record LeadRoom (s : List Float) (first cells : ℕ) : Type 0 where
+  pub short : first ≤ 4096
+  pub inside : first ≤ length s
+  pub room : length s ≤ cells
   pub ticks : Ticks s
-  pub running : TickRunning n s i z
+
+-- their sum, and a 0 for each
+pub record Summed (s : List Float) (first : ℕ) (z : ℤ) (old now : List ℤ) : Type 0 where
+  pub sum : TickSum s 0 first z
+  pub lead : Writing first (λ i. pos 0) old now
+
+-- the cells before bar n - 1 stand in `now`, which has room for the rest, and z is the sum of those bars
+pub record TickSliding (s : List Float) (n : ℕ) (z : ℤ) (now : List ℤ) : Type 0 where
+  pub some : 0 < n
+  pub short : n ≤ 4096
+  pub inside : n ≤ length s
+  pub room : length s ≤ length now
+  pub ticks : Ticks s
+  pub sum : TickSum s 0 (n - 1) z
+  pub cells : Writing (n - 1) (tickMeanLine n (line s)) now now
+
+-- the cells before bar n - 1
+pub lead-cells : {s : List Float} {first : ℕ} {z : ℤ} {old now : List ℤ} (n : ℕ) → Summed s first z old now → first ≤ n - 1
+    → Writing first (tickMeanLine n (line s)) old now
+unfolding tickMeanLine
+lead-cells n r h = writing-same (r .lead) (λ i l. sym (before-bar (n - 1) (pos 0) _ i (omega arith)))
+
+-- the cell of bar i, from the sum of its window
+pub tick-cell : {s : List Float} {z : ℤ} (n i : ℕ) → TickSum s (i + 1 - n) n z → n ≤ i + 1 → toTick z n ≡ tickMeanLine n (line s) i
+unfolding tickMeanLine
+tick-cell n i r h = rw (r .is, from-bar (n - 1) (pos 0) _ i (omega arith))

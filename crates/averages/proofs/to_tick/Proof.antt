@@ -1,16 +1,25 @@
 -- `to_tick` meets its contract: the size is rounded, and the sign put back. Assumes nothing.
-use mathlib.Core.Path.{_≡_, sym, ap, _∙_}
+use mathlib.Core.Path.{_≡_, ap, _∙_}
 use Prim.Native.Nat.{ℕ, _+_, _*_, _/_, _^_, _≤_}
 use native.Mathlib.Nat.{div-le-self}
 use native.Mathlib.Omega.{arith}
 use lib.IntN.{pos, negℤ, natAbs, +ℤ-idl}
+use Rattle.averages.specs.Share.{Shared, sum-near}
 use Rattle.averages.specs.Whole.{in-i64, kept, size-neg, tick-below, tick-above}
-use borrow.Author.Needs.{needs}
 use Rattle.averages.proofs.to_tick.Statement.{statement}
 use Rattle.averages.proofs.to_tick.Tie as tie
 
+near : {size n share : ℕ} → Shared size n share → size ≤ 2 ^ 40
+near h = let l = sum-near h in omega arith
+
+size-of-requires : tie.Need-size-of-requires
+size-of-requires c κs = rw (kept (c .args .sum) (near (c .pre))) (sum-near (c .pre))
+
 size-is : (c : tie.After-size-of) → c .size-of .result ≡ natAbs (c .before .args .sum)
-size-is c = c .size-of .ensures ∙ ap natAbs (kept (c .before .args .sum) (omega arith))
+size-is c = c .size-of .ensures ∙ ap natAbs (kept (c .before .args .sum) (near (c .before .pre)))
+
+half-up-requires : tie.Need-half-up-requires
+half-up-requires c κs = rw (size-is c) (c .before .pre)
 
 -- the rounded size, and that it is small
 rounded : (c : tie.After-half-up)
@@ -23,6 +32,7 @@ small c =
     let a = c .before .before .args in
     let same = rounded c in
     let cut = div-le-self (2 * natAbs (a .sum) + a .n) (2 * a .n) in
+    let size = sum-near (c .before .before .pre) in
     omega arith
 
 sub-result : tie.Need-sub-result
@@ -41,7 +51,7 @@ returns c =
       +ℤ-idl (negℤ (pos size)),
       kept (negℤ (pos size)) (rw (size-neg (pos size)) h),
       rounded (c .before),
-      tick-below (a .sum) (a .n) (rw (kept (a .sum) (omega arith)) at (c .if1 .taken)),
+      tick-below (a .sum) (a .n) (rw (kept (a .sum) (near (c .before .before .before .pre))) at (c .if1 .taken)),
     )
 
 returns-2 : tie.Need-returns-2
@@ -50,15 +60,15 @@ returns-2 c =
     rw (
       kept (pos (c .before .half-up .result)) (small (c .before)),
       rounded (c .before),
-      tick-above (a .sum) (a .n) (rw (kept (a .sum) (omega arith)) at (c .if1 .left)),
+      tick-above (a .sum) (a .n) (rw (kept (a .sum) (near (c .before .before .before .pre))) at (c .if1 .left)),
     )
 
 pub to-tick-spec : {M : Type 1} → statement M
 to-tick-spec =
     tie.close
     (tie.spec
-    (λ c κs. search needs)  -- size-of-requires
-    (λ c κs. let same = size-is c in omega arith)  -- half-up-requires
+    size-of-requires
+    half-up-requires
     (λ c. in-i64 (pos (c .half-up .result)) (small c))  -- cast-size
     sub-result
     returns
