@@ -10,10 +10,10 @@ use lib.Ieee.{Float, nan, fin, binary64, add, sub, mul, div, ofInt, toSigned}
 use Rattle.calls.specs.declared.Refusal.the-variants.{ParameterNotFinite}
 use Rattle.calls.specs.declared.Answer.{Answer}
 use Rattle.calls.specs.declared.Answer.the-variants.{Cells}
-use Rattle.calls.specs.Accepted.{accepted, finite}
+use Rattle.values.specs.Accepted.{accepted, finite}
 use Rattle.calls.specs.Answer.{checked, andThen, unless}
-use Rattle.calls.specs.Line.{Line, fromBar, Same, Causal, causal-from}
-use Rattle.calls.specs.Recur.{recur, recur-same}
+use Rattle.cells.specs.Line.{Line, fromBar, Same, Causal, causal-from}
+use Rattle.cells.specs.Recur.{recur, recur-same}
 use Rattle.rounding.specs.Leaves.{plusOne}
 use Rattle.windows.specs.Window.{mean, causal-mean, over, runningSum, runningSum-same}
 

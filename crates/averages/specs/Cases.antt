@@ -8,11 +8,11 @@ use lib.ListN.{replicate}
 use lib.Ieee.{Float, nan, inf, fin, round, add, sub, mul, div, ofInt, lt, eq, le, toBits, toSigned, whole}
 use Rattle.calls.specs.declared.Refusal.the-variants.{OutputTooShort, ValueNotAccepted, ParameterNotFinite, WindowTooLong}
 use Rattle.calls.specs.declared.Answer.the-variants.{Cells, Refused}
-use Rattle.calls.specs.Accepted.{accepted, tick, finite}
+use Rattle.values.specs.Accepted.{accepted, tick, finite}
 use Rattle.calls.specs.Answer.{slices, checked, windowed, answered}
-use Rattle.calls.specs.Line.{Line, line, fromBar}
-use Rattle.calls.specs.Recur.{recur}
-use Rattle.calls.specs.Written.{written}
+use Rattle.cells.specs.Line.{Line, line, fromBar}
+use Rattle.cells.specs.Recur.{recur}
+use Rattle.cells.specs.Written.{written}
 use Rattle.windows.specs.Window.{sumFrom, windowSum, mean, runningSum}
 use Rattle.averages.specs.Averages.{smaLine, smoothLine, emaLine, exponentialLine, exponentialAnswer, tickSum, toTick, tickMeanLine}
 

@@ -9,8 +9,8 @@ use lib.Ieee.{Float, nan, binary64, ofInt}
 use Rattle.rounding.specs.Integers.{total, total-size, total-slides, abs-minus}
 use Rattle.rounding.specs.Whole.{add-whole, sub-whole, add-first}
 use Rattle.rounding.specs.Quotient.{quotient, Whole}
-use Rattle.calls.specs.Line.{Line, plusZero, minusZero, from-bar}
-use Rattle.calls.specs.Recur.{recur}
+use Rattle.cells.specs.Line.{Line, plusZero, minusZero, from-bar}
+use Rattle.cells.specs.Recur.{recur}
 use Rattle.windows.specs.Window.{sumFrom, runningSum, windowSum, mean}
 use Rattle.averages.specs.Averages.{addDifference, smaLine}
 

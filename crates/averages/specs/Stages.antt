@@ -8,13 +8,13 @@ use lib.ListN.{length, set}
 use lib.Ieee.{Float, nan}
 use Rattle.calls.specs.declared.Answer.{Answer}
 use Rattle.calls.specs.declared.Answer.the-variants.{Cells}
-use Rattle.calls.specs.Accepted.{tick}
+use Rattle.values.specs.Accepted.{tick}
 use Rattle.calls.specs.Answer.{answered}
 use Rattle.calls.specs.Room.{room, opened}
 use Rattle.calls.specs.Call.{Call, counted}
-use Rattle.calls.specs.Line.{Line, line, from-bar, Led, lead-stands}
-use Rattle.calls.specs.Recur.{recur}
-use Rattle.calls.specs.Written.{Writing, none-written, step, ends, then-written}
+use Rattle.cells.specs.Line.{Line, line, from-bar, Led, lead-stands}
+use Rattle.cells.specs.Recur.{recur}
+use Rattle.cells.specs.Written.{Writing, none-written, step, ends, then-written}
 use Rattle.windows.specs.Window.{windowSum, over, Running, first-running}
 use Rattle.windows.specs.Eight.{WindowRoom}
 use Rattle.averages.specs.Ticks.{Ticks, TickRoom}

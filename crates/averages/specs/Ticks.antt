@@ -11,10 +11,10 @@ use lib.ListN.{length, getD}
 use lib.Ieee.{Float, nan, toSigned}
 use mir.Syntax.{w64}
 use mir.Val.{SFits}
-use Rattle.calls.specs.Accepted.{tick, all}
-use Rattle.calls.specs.Line.{Line, line, before-bar, from-bar}
-use Rattle.calls.specs.Ticks.{ticked}
-use Rattle.calls.specs.Written.{Writing, writing-same}
+use Rattle.values.specs.Accepted.{tick, all}
+use Rattle.cells.specs.Line.{Line, line, before-bar, from-bar}
+use Rattle.values.specs.Ticks.{ticked}
+use Rattle.cells.specs.Written.{Writing, writing-same}
 use Rattle.averages.specs.Averages.{tickSum, toTick, tickMeanLine}
 use Rattle.averages.specs.Whole.{in-i64, held, kept, size-sum}
 

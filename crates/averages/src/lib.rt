@@ -7,11 +7,11 @@ ghost use Prim.Native.Nat.{_+_, _-_, _*_, _/_, _<_, _≤_};
 ghost use lib.ListN.{length};
 ghost use lib.IntN.{pos, natAbs};
 ghost use lib.Ieee.{nan};
-ghost use Rattle.calls.specs.Accepted.{accepted, tick};
+ghost use Rattle.values.specs.Accepted.{accepted, tick};
 ghost use Rattle.calls.specs.Answer.{answered};
 ghost use Rattle.calls.specs.Call.{Call};
-ghost use Rattle.calls.specs.Line.{line, Led};
-ghost use Rattle.calls.specs.Written.{Writing};
+ghost use Rattle.cells.specs.Line.{line, Led};
+ghost use Rattle.cells.specs.Written.{Writing};
 ghost use Rattle.windows.specs.Eight.{WindowRoom};
 ghost use Rattle.averages.specs.Averages.{smaLine, blend, emaLine, exponentialLine, exponentialAnswer, toTick, tickMeanLine};
 ghost use Rattle.averages.specs.Share.{shareOf, Shared};
@@ -43,7 +43,7 @@ fn fill_nan(out: &mut [f64], n: usize, bars: usize) -> usize
     requires { ⌜ WindowRoom n bars (length (now out)) ⌝ }
     ensures { λ r. ⌜ Led (n - 1) bars nan r (now (out .entry)) (now (out .exit)) ⌝ }
 {
-    calls::fill_lead(out, n - 1, bars, 0.0 / 0.0)
+    cells::fill_lead(out, n - 1, bars, 0.0 / 0.0)
 }
 
 // Writes the cells of `sma`.
@@ -139,7 +139,7 @@ pub fn exponential_smoothing(series: &[f64], alpha: f64, out: &mut [f64]) -> Ans
     if let Answer::Refused(_) = due {
         return due;
     }
-    if calls::is_finite(alpha) {
+    if values::is_finite(alpha) {
         if series.len() > 0 {
             write_smooth(series, alpha, 0, series[0], out);
         }

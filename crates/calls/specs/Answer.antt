@@ -19,7 +19,7 @@ use Rattle.calls.specs.declared.Refusal.the-variants.{
 }
 use Rattle.calls.specs.declared.Answer.{Answer}
 use Rattle.calls.specs.declared.Answer.the-variants.{Cells, Refused}
-use Rattle.calls.specs.Accepted.{all}
+use Rattle.values.specs.Accepted.{all}
 
 -- document 01's number of a refusal
 abbrev pub number : Refusal → ℕ

@@ -7,8 +7,8 @@ use Rattle.calls.specs.declared.Refusal.{Refusal}
 use Rattle.calls.specs.declared.Answer.{Answer}
 use Rattle.calls.specs.declared.Answer.the-variants.{Cells, Refused}
 use Rattle.calls.specs.Answer.{countOf, clearedOf}
-use Rattle.calls.specs.Line.{plusZero}
-use Rattle.calls.specs.Written.{written, Writing}
+use Rattle.cells.specs.Line.{plusZero}
+use Rattle.cells.specs.Written.{written, Writing}
 
 module _ {A : Type 0} (due : Answer) (f : ℕ → A) (out₀ : List A) where
   -- one output and no work slice: with count 0 no cell changes, and the cells from the count on stay

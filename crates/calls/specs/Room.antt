@@ -12,7 +12,7 @@ use Rattle.calls.specs.declared.Refusal.{Refusal}
 use Rattle.calls.specs.declared.Refusal.the-variants.{SeriesTooLong, LengthsDiffer, OutputTooShort, WorkTooShort, ValueNotAccepted, WindowTooLong}
 use Rattle.calls.specs.declared.Answer.{Answer}
 use Rattle.calls.specs.declared.Answer.the-variants.{Cells, Refused}
-use Rattle.calls.specs.Accepted.{all}
+use Rattle.values.specs.Accepted.{all}
 use Rattle.calls.specs.Answer.{countOf, first, unless, andThen, emptyIf, slices, checked, anyZero, windowed, answered}
 
 -- ---- the table for one series

@@ -6,8 +6,8 @@ use lib.Ieee.{Float}
 use Rattle.calls.specs.declared.Answer.{Answer}
 use Rattle.calls.specs.Answer.{refusalOf, countOf, clearedOf}
 use Rattle.calls.specs.Call.{Call, WorkCall}
-use Rattle.calls.specs.Line.{plusZero}
-use Rattle.calls.specs.Written.{written}
+use Rattle.cells.specs.Line.{plusZero}
+use Rattle.cells.specs.Written.{written}
 use Rattle.capi.specs.declared.CAnswer.{CAnswer}
 
 -- r holds the numbers of an answer

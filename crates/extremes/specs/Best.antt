@@ -6,7 +6,7 @@ use Prim.Native.Nat.{ℕ, zero, suc, _+_, _-_, _<_, _≤_}
 use native.Mathlib.Nat.{add-zero, sub-self}
 use native.Mathlib.Omega.{arith}
 use lib.Ieee.{Float, lt, isNan}
-use Rattle.calls.specs.Line.{Line, plusZero, from-bar}
+use Rattle.cells.specs.Line.{Line, plusZero, from-bar}
 use Rattle.extremes.specs.Extreme.{pickOf, pickFrom, extreme}
 use Rattle.extremes.specs.Order.{lt-between}
 

@@ -4,7 +4,7 @@ use mathlib.Core.Bool.{Bool, true, false, cond}
 use Prim.Native.Nat.{ℕ, zero, suc, _+_, _-_, _<_, _≤_}
 use native.Mathlib.Omega.{arith}
 use lib.Ieee.{Float, lt}
-use Rattle.calls.specs.Line.{Line, plusZero, fromBar, Causal, causal-from}
+use Rattle.cells.specs.Line.{Line, plusZero, fromBar, Causal, causal-from}
 
 -- the larger of two, the first of equals; and the smaller
 abbrev pub larger : Float → Float → Float

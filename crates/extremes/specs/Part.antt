@@ -12,9 +12,9 @@ use lib.Dec.{ltb}
 use lib.ListN.{length, set, length-set}
 use lib.Seq.{getD-set-same, getD-set-other, ext-getD}
 use lib.Ieee.{Float, nan}
-use Rattle.calls.specs.Line.{Line, line}
-use Rattle.calls.specs.Rows.{beside, beside-first, beside-second}
-use Rattle.calls.specs.Written.{written, Writing, length-written, getD-written, getD-untouched}
+use Rattle.cells.specs.Line.{Line, line}
+use Rattle.cells.specs.Rows.{beside, beside-first, beside-second}
+use Rattle.cells.specs.Written.{written, Writing, length-written, getD-written, getD-untouched}
 use Rattle.extremes.specs.declared.Range.{Range}
 
 before-or-not : (i k : ℕ) → (i < k) ⊎ (k ≤ i)

@@ -6,7 +6,7 @@ use Prim.Native.Nat.{ℕ, _+_, _-_, _<_, _≤_}
 use native.Mathlib.Nat.{eq-or-lt-of-le}
 use native.Mathlib.Omega.{arith}
 use lib.Ieee.{Float}
-use Rattle.calls.specs.Line.{Line, plusZero, before-bar}
+use Rattle.cells.specs.Line.{Line, plusZero, before-bar}
 use Rattle.extremes.specs.declared.Range.{Range}
 use Rattle.extremes.specs.Extreme.{larger, smaller, extreme}
 use Rattle.extremes.specs.Best as Best

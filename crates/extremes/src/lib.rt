@@ -3,9 +3,9 @@
 ghost use mathlib.Core.Path.{_≡_};
 ghost use Prim.Native.Nat.{_+_, _-_, _<_, _≤_, min};
 ghost use lib.ListN.{length};
-ghost use Rattle.calls.specs.Line.{line};
-ghost use Rattle.calls.specs.Rows.{beside};
-ghost use Rattle.calls.specs.Written.{Writing};
+ghost use Rattle.cells.specs.Line.{line};
+ghost use Rattle.cells.specs.Rows.{beside};
+ghost use Rattle.cells.specs.Written.{Writing};
 ghost use Rattle.extremes.specs.Extreme.{larger, smaller, extreme};
 ghost use Rattle.extremes.specs.Best.{Numbers};
 ghost use Rattle.extremes.specs.Range.{alone, joined, RangeOf};

@@ -18,9 +18,9 @@ use lib.Ieee.Scale.{grid, overflow, round-val}
 use Rattle.rounding.specs.Error.{grid-range}
 use Rattle.rounding.specs.Units.{round-worth}
 use Rattle.rounding.specs.Value.{shape, div-at}
-use Rattle.calls.specs.Accepted.{within, accepted, all}
-use Rattle.calls.specs.Line.{Line, line, plusZero, minusZero, fromBar}
-use Rattle.calls.specs.Recur.{recur}
+use Rattle.values.specs.Accepted.{within, accepted, all}
+use Rattle.cells.specs.Line.{Line, line, plusZero, minusZero, fromBar}
+use Rattle.cells.specs.Recur.{recur}
 use Rattle.calls.specs.Room.{and-parts}
 use Rattle.windows.specs.Window.{sumFrom, windowSum, over, mean, runningSum}
 use Rattle.extremes.specs.Extreme.{larger, smaller, pickFrom, extreme}

@@ -6,10 +6,10 @@ use lib.IntN.{ℤ}
 use lib.ListN.{length}
 use lib.Ieee.{Float}
 use Rattle.calls.specs.declared.Answer.{Answer}
-use Rattle.calls.specs.Accepted.{accepted, tick}
+use Rattle.values.specs.Accepted.{accepted, tick}
 use Rattle.calls.specs.Answer.{checked, answered}
 use Rattle.calls.specs.Call.{Call, WorkCall}
-use Rattle.calls.specs.Line.{line}
+use Rattle.cells.specs.Line.{line}
 use Rattle.averages.specs.Averages.{smaLine, emaLine, exponentialLine, exponentialAnswer, tickMeanLine}
 use Rattle.smoothers.specs.Coefficients.{coefficients}
 use Rattle.smoothers.specs.Period.{wholePart}

@@ -10,7 +10,7 @@ use Rattle.rounding.specs.Leaves.{plusOne, minusOne}
 use Rattle.rounding.specs.Integers.{abs-add}
 use Rattle.rounding.specs.Whole.{add-whole, sub-whole}
 use Rattle.rounding.specs.Quotient.{quotient, quotient-sign}
-use Rattle.calls.specs.Line.{Line, plusZero, from-bar}
+use Rattle.cells.specs.Line.{Line, plusZero, from-bar}
 use Rattle.averages.specs.Exact.{TickLine, Slides, running-exact, window-size, window-whole}
 use Rattle.averages.specs.Errors.{windowTotal, products}
 use Rattle.positions.specs.Rules.{addThenSubtract, runningMean, doubleLine}

@@ -13,12 +13,12 @@ use Rattle.rounding.specs.Integers.{above, below, abs-add, parts-lt, parts-time
 use Rattle.rounding.specs.Units.{worth-negative}
 use Rattle.rounding.specs.About.{About, about-weaken, about-add, about-div, about-sign, about-order, about-some}
 use Rattle.rounding.specs.Quotient.{quotient, Whole, quotient-lt, quotient-worth, about-quotient}
-use Rattle.calls.specs.Line.{Line, plusZero, from-bar}
+use Rattle.cells.specs.Line.{Line, plusZero, from-bar}
 use Rattle.averages.specs.Averages.{two}
 use Rattle.windows.specs.Window.{mean}
 use Rattle.averages.specs.Exact.{TickLine, window-whole, mean-exact}
 use Rattle.averages.specs.Errors.{windowTotal, products, window-total-size}
-use Rattle.single.specs.TickPositions.{some-abs}
+use Rattle.positions.specs.TickPositions.{some-abs}
 use Rattle.extremes.specs.Extreme.{larger, smaller, pickFrom, extreme}
 use Rattle.positions.specs.Rules.{midLine}
 

@@ -10,11 +10,11 @@ use lib.IntN.{ℤ, pos}
 use lib.ListN.{length, getD}
 use lib.Ieee.{Float, nan}
 use Rattle.calls.specs.declared.Answer.the-variants.{Cells}
-use Rattle.calls.specs.Accepted.{accepted, tick}
+use Rattle.values.specs.Accepted.{accepted, tick}
 use Rattle.calls.specs.Answer.{checked, answered}
-use Rattle.calls.specs.Line.{Line, line, Same, Causal, causal-same}
+use Rattle.cells.specs.Line.{Line, line, Same, Causal, causal-same}
 use Rattle.calls.specs.Room.{Three, room, opened, andThen-cells, checked-room, checked-three-room}
-use Rattle.calls.specs.Written.{written, getD-written}
+use Rattle.cells.specs.Written.{written, getD-written}
 use Rattle.averages.specs.Averages.{causal-sma, causal-ema, causal-exponential, causal-tick-mean, exponentialAnswer}
 use Rattle.smoothers.specs.Coefficients.{coefficients}
 use Rattle.smoothers.specs.Period.{wholePart}

@@ -15,8 +15,8 @@ use Rattle.rounding.specs.Whole.{isNegative}
 use Rattle.rounding.specs.Nearest.{NearestTo}
 use Rattle.rounding.specs.Quotient.{quotient, Whole, quotient-is, quotient-nearest, quotient-zero}
 use Rattle.calls.specs.declared.Answer.the-variants.{Cells}
-use Rattle.calls.specs.Line.{plusZero, minusZero, line}
-use Rattle.calls.specs.Written.{getD-written}
+use Rattle.cells.specs.Line.{plusZero, minusZero, line}
+use Rattle.cells.specs.Written.{getD-written}
 use Rattle.positions.specs.Opened.{double-opened}
 use Rattle.positions.specs.Rules.{doubleLine}
 use Rattle.averages.specs.Exact.{window-whole, sma-exact}
@@ -24,7 +24,7 @@ use Rattle.averages.specs.Errors.{windowTotal}
 use Rattle.guarantees.specs.Calls.{SmaCall, DoubleCall, SingleCall, MidCall}
 use Rattle.guarantees.specs.Series.{WholeTicks, price, whole-ticks, bar}
 use Rattle.guarantees.specs.Double.{double-exact}
-use Rattle.single.specs.TickPositions.{single-exact}
+use Rattle.positions.specs.TickPositions.{single-exact}
 use Rattle.guarantees.specs.Middle.{highest, lowest, middle-exact}
 
 -- the sum of the last n prices at bar i: its window sum

@@ -10,11 +10,11 @@ use lib.ListN.{length, getD}
 use lib.Ieee.{Float, nan, binary64, add, sub, div, eq, isNan}
 use Rattle.rounding.specs.Leaves.{one, plusOne, minusOne, signOf}
 use Rattle.calls.specs.declared.Answer.the-variants.{Cells}
-use Rattle.calls.specs.Accepted.{accepted}
+use Rattle.values.specs.Accepted.{accepted}
 use Rattle.calls.specs.Answer.{checked}
-use Rattle.calls.specs.Line.{Line, plusZero, line}
+use Rattle.cells.specs.Line.{Line, plusZero, line}
 use Rattle.calls.specs.Room.{Room, andThen-cells, checked-room, room}
-use Rattle.calls.specs.Written.{getD-written}
+use Rattle.cells.specs.Written.{getD-written}
 use Rattle.averages.specs.Averages.{two}
 use Rattle.windows.specs.Window.{mean}
 use Rattle.extremes.specs.Extreme.{larger, smaller, extreme}

@@ -11,12 +11,12 @@ use lib.ListN.{length, getD}
 use lib.Ieee.{Float, nan, binary64, toSigned, fits}
 use lib.Ieee.Back.{float-back-signed}
 use Rattle.calls.specs.declared.Answer.the-variants.{Cells}
-use Rattle.calls.specs.Accepted.{accepted, tick, all}
+use Rattle.values.specs.Accepted.{accepted, tick, all}
 use Rattle.calls.specs.Answer.{answered}
 use Rattle.calls.specs.Room.{room, opened}
-use Rattle.calls.specs.Written.{written, getD-written}
-use Rattle.calls.specs.Line.{Line, line}
-use Rattle.calls.specs.Ticks.{ticked}
+use Rattle.cells.specs.Written.{written, getD-written}
+use Rattle.cells.specs.Line.{Line, line}
+use Rattle.values.specs.Ticks.{ticked}
 use Rattle.averages.specs.Exact.{TickLine}
 
 -- each is an f64, and a whole tick: a whole number from -16,777,216 to 16,777,216, and not -0.0

@@ -9,10 +9,10 @@ use lib.Ieee.{Float, nan, fin, binary64, add, sub, mul, div, ofInt, toSigned, wh
 use Rattle.rounding.specs.Leaves.{signOf}
 use Rattle.calls.specs.declared.Answer.{Answer}
 use Rattle.calls.specs.declared.Answer.the-variants.{Cells}
-use Rattle.calls.specs.Accepted.{accepted, tick}
+use Rattle.values.specs.Accepted.{accepted, tick}
 use Rattle.calls.specs.Answer.{slices, checked, windowed, answered, countOf}
-use Rattle.calls.specs.Line.{line, fromBar}
-use Rattle.calls.specs.Recur.{recur}
+use Rattle.cells.specs.Line.{line, fromBar}
+use Rattle.cells.specs.Recur.{recur}
 use Rattle.windows.specs.Window.{sumFrom, windowSum, mean, runningSum}
 use Rattle.averages.specs.Averages.{smaLine, smoothLine, emaLine, tickSum, toTick, tickMeanLine}
 use Rattle.positions.specs.Rules.{singleLine, runningMean, doubleLine, doubleAnswer}

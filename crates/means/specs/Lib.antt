@@ -1,2 +1,2 @@
--- Window means, sixteen bars side by side.
-pub mod Sixteen
+-- Writing the mean of each bar's window.
+pub mod Storing

@@ -2,8 +2,8 @@
 ghost use mathlib.Core.Path.{_≡_};
 ghost use Prim.Native.Nat.{_+_, _*_, _<_, _≤_};
 ghost use lib.ListN.{length};
-ghost use Rattle.calls.specs.Line.{line, plusZero};
-ghost use Rattle.calls.specs.Written.{Writing};
+ghost use Rattle.cells.specs.Line.{line, plusZero};
+ghost use Rattle.cells.specs.Written.{Writing};
 ghost use Rattle.windows.specs.Window.{mean};
 ghost use Rattle.positions.specs.Opened.{Priced};
 ghost use Rattle.positions.specs.Rules.{againstMiddle, midLine};
@@ -40,7 +40,7 @@ fn write_against_middles(series: &[f64], n: usize, out: &mut [f64], work: &[f64]
     ensures { λ _. ⌜ Writing (length (now (series .entry))) (midLine n (line (now (series .entry)))) (now (out .entry)) (now (out .exit)) ⌝ }
 {
     let bars = series.len();
-    let mut i = calls::fill_lead(out, 2 * n - 2, bars, 0.0);
+    let mut i = cells::fill_lead(out, 2 * n - 2, bars, 0.0);
     while i < bars {
         out[i] = against_middle(out[i], work[i], work[bars + i]);
         i += 1;
@@ -55,5 +55,5 @@ pub fn write_mid(series: &[f64], n: usize, out: &mut [f64], work: &mut [f64])
 {
     write_ranges(series, n, out, work);
     write_against_middles(series, n, out, work);
-    calls::clear(work, 8 * series.len());
+    cells::clear(work, 8 * series.len());
 }

@@ -9,11 +9,11 @@ use lib.Ieee.{Float, nan, fin, binary64, round, add, sub, div, ofInt, lt, eq, le
 use Rattle.rounding.specs.Leaves.{one, signOf}
 use Rattle.calls.specs.declared.Refusal.the-variants.{OutputTooShort, WorkTooShort, ValueNotAccepted, WindowTooLong, WindowsOutOfOrder}
 use Rattle.calls.specs.declared.Answer.the-variants.{Cells, Refused}
-use Rattle.calls.specs.Accepted.{accepted}
+use Rattle.values.specs.Accepted.{accepted}
 use Rattle.calls.specs.Answer.{slices, checked, windowed, answered}
-use Rattle.calls.specs.Line.{Line, line, plusZero, fromBar}
-use Rattle.calls.specs.Recur.{recur}
-use Rattle.calls.specs.Written.{written}
+use Rattle.cells.specs.Line.{Line, line, plusZero, fromBar}
+use Rattle.cells.specs.Recur.{recur}
+use Rattle.cells.specs.Written.{written}
 use Rattle.windows.specs.Window.{sumFrom, windowSum, mean, runningSum}
 use Rattle.extremes.specs.Extreme.{pickFrom, extreme}
 use Rattle.positions.specs.Rules.{singleLine, runningMean, doubleLine, doubleAnswer, midLine}

@@ -13,8 +13,8 @@ use lib.ListN.{length, getD}
 use lib.Ieee.{Float, nan, inf, fin, Format, binary64, up, down, unlike, low, prec, emax, odd, units, round, sum, add, div, lt, eq, le, ofInt, isNan, toBits}
 use lib.Ieee.Back.{round-whole}
 use lib.Ieee.Positive.{positive, positive-of-value}
-use Rattle.calls.specs.Accepted.{accepted, finite, all}
-use Rattle.calls.specs.Line.{Line, line, plusZero, minusZero, fromBar}
+use Rattle.values.specs.Accepted.{accepted, finite, all}
+use Rattle.cells.specs.Line.{Line, line, plusZero, minusZero, fromBar}
 use Rattle.calls.specs.Room.{and-parts}
 use Rattle.windows.specs.Window.{sumFrom, windowSum, over, mean}
 use Rattle.extremes.specs.Best.{Numbers}

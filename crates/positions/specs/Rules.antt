@@ -12,9 +12,9 @@ use lib.Ieee.{Float, fin, binary64, add, sub, div, eq}
 use Rattle.calls.specs.declared.Refusal.the-variants.{WindowsOutOfOrder}
 use Rattle.calls.specs.declared.Answer.{Answer}
 use Rattle.calls.specs.declared.Answer.the-variants.{Cells}
-use Rattle.calls.specs.Accepted.{accepted}
+use Rattle.values.specs.Accepted.{accepted}
 use Rattle.calls.specs.Answer.{checked, andThen, unless, windowed}
-use Rattle.calls.specs.Line.{Line, plusZero, fromBar, Causal, causal-self, causal-then, causal-with, causal-from}
+use Rattle.cells.specs.Line.{Line, plusZero, fromBar, Causal, causal-self, causal-then, causal-with, causal-from}
 use Rattle.rounding.specs.Leaves.{signOf}
 use Rattle.averages.specs.Averages.{two}
 use Rattle.windows.specs.Window.{mean, causal-mean, over, runningSum, runningSum-same}

@@ -6,9 +6,9 @@ use native.Mathlib.Omega.{arith}
 use lib.ListN.{length, take, length-take}
 use lib.Seq.{getD-take}
 use lib.Ieee.{Float, nan, binary64, sub}
-use Rattle.calls.specs.Line.{Line, line, plusZero, from-bar, Causal}
-use Rattle.calls.specs.Rows.{beside}
-use Rattle.calls.specs.Written.{Writing, getD-untouched, read-back, ends, writing-same}
+use Rattle.cells.specs.Line.{Line, line, plusZero, from-bar, Causal}
+use Rattle.cells.specs.Rows.{beside}
+use Rattle.cells.specs.Written.{Writing, getD-untouched, read-back, ends, writing-same}
 use Rattle.rounding.specs.Leaves.{signOf}
 use Rattle.windows.specs.Window.{mean, over, Running}
 use Rattle.extremes.specs.Best.{Numbers}

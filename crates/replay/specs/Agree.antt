@@ -4,7 +4,7 @@ use mathlib.Core.Path.{_≡_}
 use Prim.Native.Nat.{ℕ, _+_, _<_, _≤_}
 use lib.ListN.{length}
 use lib.Ieee.{Float}
-use Rattle.calls.specs.Line.{line}
+use Rattle.cells.specs.Line.{line}
 use Rattle.same.specs.Agree.{Same, floats, worked}
 use Rattle.replay.specs.declared.Call.{Call}
 use Rattle.replay.specs.declared.Step.{Step}

@@ -10,7 +10,7 @@ ghost use mathlib.Core.Bool.{true, cond};
 ghost use Prim.Native.Nat.{_+_, _%_, _^_, _<_, _≤_};
 ghost use lib.ListN.{length, getD, set};
 ghost use Rattle.calls.specs.Answer.{refusalOf, countOf};
-ghost use Rattle.calls.specs.Written.{Writing};
+ghost use Rattle.cells.specs.Written.{Writing};
 ghost use Rattle.same.specs.Agree.{Decides, Same, floats, words};
 ghost use Rattle.replay.specs.Agree.{Left, Runs, wordsOf, Given, Counted};
 

@@ -11,10 +11,10 @@ use Rattle.calls.specs.declared.Refusal.{Refusal}
 use Rattle.calls.specs.declared.Refusal.the-variants.{WindowTooLong, WindowsOutOfOrder}
 use Rattle.calls.specs.declared.Answer.{Answer}
 use Rattle.calls.specs.declared.Answer.the-variants.{Cells, Refused}
-use Rattle.calls.specs.Accepted.{accepted, all}
+use Rattle.values.specs.Accepted.{accepted, all}
 use Rattle.calls.specs.Answer.{anyZero, countOf, unless, andThen, emptyIf, checked, windowed, answered}
-use Rattle.calls.specs.Line.{Line, line}
-use Rattle.calls.specs.Written.{written, getD-written}
+use Rattle.cells.specs.Line.{Line, line}
+use Rattle.cells.specs.Written.{written, getD-written}
 use Rattle.positions.specs.Rules.{doubleAnswer}
 use Rattle.requests.specs.declared.Request.{Request}
 use Rattle.requests.specs.Answer.{byRule, ruleAnswer, answerText}

@@ -6,7 +6,7 @@ use native.Mathlib.Nat.{add-zero}
 use native.Mathlib.Numerals.{add-one}
 use native.Mathlib.Omega.{arith}
 use lib.Ieee.{Float}
-use Rattle.calls.specs.Line.{Line}
+use Rattle.cells.specs.Line.{Line}
 use Rattle.columns.specs.Print.{Adds}
 use Rattle.columns.proofs.Printing.{add-none, add-more}
 use Rattle.requests.specs.Answer.{positionLine, positionLines}

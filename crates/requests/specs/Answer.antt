@@ -6,9 +6,9 @@ use lib.Dec.{ltb, eqb}
 use lib.Ieee.{Float, lt}
 use Rattle.calls.specs.declared.Answer.{Answer}
 use Rattle.calls.specs.declared.Answer.the-variants.{Cells, Refused}
-use Rattle.calls.specs.Accepted as calls
+use Rattle.values.specs.Accepted as calls
 use Rattle.calls.specs.Answer.{refusalOf, countOf, answered}
-use Rattle.calls.specs.Line.{Line, line, plusZero}
+use Rattle.cells.specs.Line.{Line, line, plusZero}
 use Rattle.positions.specs.Rules.{singleLine, doubleLine, doubleAnswer, midLine}
 use Rattle.columns.specs.Print.{printField}
 use Rattle.requests.specs.declared.Request.{Request}

@@ -4,10 +4,10 @@ use mathlib.Core.List.{List, [], _∷_, map}
 use lib.ListN.{replicate}
 use lib.Ieee.{add, sub, div, ofInt, lt, eq, le, toBits}
 use Rattle.rounding.specs.Leaves.{signOf}
-use Rattle.calls.specs.Accepted.{accepted}
+use Rattle.values.specs.Accepted.{accepted}
 use Rattle.calls.specs.Answer.{slices, checked, windowed, answered}
-use Rattle.calls.specs.Line.{fromBar}
-use Rattle.calls.specs.Recur.{recur}
+use Rattle.cells.specs.Line.{fromBar}
+use Rattle.cells.specs.Recur.{recur}
 use Rattle.windows.specs.Window.{sumFrom, windowSum, mean, runningSum}
 use Rattle.extremes.specs.Extreme.{pickFrom, extreme}
 use Rattle.positions.specs.Rules.{singleLine, runningMean, doubleLine, doubleAnswer, midLine}

@@ -9,7 +9,7 @@ ghost use lib.ListN.{length, take};
 ghost use lib.Seq.{slice};
 ghost use Rattle.calls.specs.Answer.{countOf};
 ghost use Rattle.calls.specs.Call.{Call};
-ghost use Rattle.calls.specs.Line.{line};
+ghost use Rattle.cells.specs.Line.{line};
 ghost use Rattle.columns.specs.Print.{Adds};
 ghost use Rattle.requests.specs.Header.{requestOf, readHeader, readPriceLine};
 ghost use Rattle.requests.specs.Answer.{ruleAnswer, ruleLine, headLine, positionLine, positionLines, answerText, lastLine, oneMore, refusedAfter};

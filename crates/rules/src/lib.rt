@@ -9,10 +9,10 @@ ghost use lib.ListN.{length};
 ghost use Rattle.calls.specs.declared.Refusal.the-variants.{WindowsOutOfOrder};
 ghost use Rattle.calls.specs.declared.Answer.the-variants.{Cells};
 ghost use Rattle.calls.specs.Answer.{unless, windowed, answered};
-ghost use Rattle.calls.specs.Accepted.{accepted};
+ghost use Rattle.values.specs.Accepted.{accepted};
 ghost use Rattle.calls.specs.Call.{Call, WorkCall};
-ghost use Rattle.calls.specs.Line.{line};
-ghost use Rattle.calls.specs.Written.{Writing};
+ghost use Rattle.cells.specs.Line.{line};
+ghost use Rattle.cells.specs.Written.{Writing};
 ghost use Rattle.windows.specs.Window.{mean, Running};
 ghost use Rattle.positions.specs.Rules.{singleLine, midLine, addThenSubtract, doubleLine, doubleAnswer};
 ghost use Rattle.positions.specs.Stages.{Started, crossing};
@@ -29,7 +29,7 @@ pub fn single_sma_positions(series: &[f64], n: usize, out: &mut [f64], work: &mu
         if count > 0 {
             single::write_single(series, n, out, work);
         } else {
-            calls::clear(work, 8 * series.len());
+            cells::clear(work, 8 * series.len());
         }
     }
     due
@@ -47,7 +47,7 @@ pub fn mid_positions(series: &[f64], n: usize, out: &mut [f64], work: &mut [f64]
         if count > 0 {
             middle::write_mid(series, n, out, work);
         } else {
-            calls::clear(work, 8 * series.len());
+            cells::clear(work, 8 * series.len());
         }
     }
     due
@@ -97,7 +97,7 @@ fn write_double(series: &[f64], n: usize, m: usize, out: &mut [f64])
     requires { ⌜ (0 < n) × (n < m) × (m ≤ 4096) × (length (now series) ≤ length (now out)) ⌝ }
     ensures { λ _. ⌜ Writing (length (now (series .entry))) (doubleLine n m (line (now (series .entry)))) (now (out .entry)) (now (out .exit)) ⌝ }
 {
-    let first = calls::fill_lead(out, m - 1, series.len(), 0.0);
+    let first = cells::fill_lead(out, m - 1, series.len(), 0.0);
     if first < series.len() {
         write_crossings(series, n, m, out);
     }

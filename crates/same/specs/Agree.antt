@@ -7,7 +7,7 @@ use lib.Dec.{ltb}
 use lib.IntN.{ℤ, pos, negsuc}
 use lib.ListN.{getD}
 use lib.Ieee.{binary64, ofBits}
-use Rattle.calls.specs.Line.{Line}
+use Rattle.cells.specs.Line.{Line}
 
 -- r says whether P holds
 pub record Decides (P : Type 0) (r : Bool) : Type 0 where

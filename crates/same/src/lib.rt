@@ -1,7 +1,7 @@
 // Whether cells are those that were recorded.
 ghost use mathlib.Core.Path.{_≡_};
 ghost use lib.ListN.{length, getD};
-ghost use Rattle.calls.specs.Line.{line};
+ghost use Rattle.cells.specs.Line.{line};
 ghost use Rattle.same.specs.Agree.{Agree, floats, twosComplement, words, workWord, worked};
 
 // What every output and work cell holds before a call: the pattern of -987654321.125, and a whole number where cells are.

@@ -2,14 +2,14 @@
 ghost use mathlib.Core.Path.{_≡_};
 ghost use Prim.Native.Nat.{_+_, _*_, _<_, _≤_};
 ghost use lib.ListN.{length};
-ghost use Rattle.calls.specs.Accepted.{tick, all};
-ghost use Rattle.calls.specs.Line.{line, plusZero};
-ghost use Rattle.calls.specs.Written.{Writing};
+ghost use Rattle.values.specs.Accepted.{tick, all};
+ghost use Rattle.cells.specs.Line.{line, plusZero};
+ghost use Rattle.cells.specs.Written.{Writing};
 ghost use mathlib.Core.Bool.{true};
 ghost use Rattle.windows.specs.Eight.{WindowRoom};
 ghost use Rattle.windows.specs.Window.{mean, Running};
 ghost use Rattle.positions.specs.Opened.{Priced};
-ghost use Rattle.single.specs.TickPositions.{runs, Opening, tie, TickRows};
+ghost use Rattle.positions.specs.TickPositions.{runs, Opening, tie, TickRows};
 ghost use Rattle.positions.specs.Rules.{againstMean, singleLine};
 ghost use Rattle.positions.specs.Stages.{Averaged};
 
@@ -29,7 +29,7 @@ fn write_against_means(series: &[f64], n: usize, out: &mut [f64])
     requires { ⌜ Averaged n (now series) (mean n (mean n (line (now series)))) (now out) ⌝ }
     ensures { λ _. ⌜ Writing (length (now (series .entry))) (singleLine n (line (now (series .entry)))) (now (out .entry)) (now (out .exit)) ⌝ }
 {
-    let mut i = calls::fill_lead(out, 2 * n - 2, series.len(), 0.0);
+    let mut i = cells::fill_lead(out, 2 * n - 2, series.len(), 0.0);
     while i < series.len() {
         out[i] = against_mean(series[i], out[i]);
         i += 1;
@@ -56,7 +56,7 @@ fn write_sums(series: &[f64], n: usize, sums: &mut [f64])
     requires { ⌜ WindowRoom n (length (now series)) (length (now sums)) ⌝ }
     ensures { λ _. ⌜ Writing (length (now (series .entry))) (runs n (line (now (series .entry)))) (now (sums .entry)) (now (sums .exit)) ⌝ }
 {
-    let first = calls::fill_lead(sums, n - 1, series.len(), 0.0);
+    let first = cells::fill_lead(sums, n - 1, series.len(), 0.0);
     if first < series.len() {
         slide_sums(series, n, sums);
     }
@@ -92,7 +92,7 @@ fn write_tick_positions(series: &[f64], work: &[f64], n: usize, out: &mut [f64])
     requires { ⌜ length (now series) ≤ length (now out) ⌝ }
     ensures { λ _. ⌜ Writing (length (now (series .entry))) (singleLine n (line (now (series .entry)))) (now (out .entry)) (now (out .exit)) ⌝ }
 {
-    let mut i = calls::fill_lead(out, 2 * n - 2, series.len(), 0.0);
+    let mut i = cells::fill_lead(out, 2 * n - 2, series.len(), 0.0);
     while i < series.len() {
         out[i] = tick_position(series, work, n, i);
         i += 1;
@@ -111,7 +111,7 @@ fn write_single_of_ticks(series: &[f64], n: usize, out: &mut [f64], work: &mut [
     price_means::write_means_of_ticks(series, n, work);
     write_sums(&out[..bars], n, &mut work[bars..]);
     write_tick_positions(series, work, n, out);
-    calls::clear(work, 8 * bars);
+    cells::clear(work, 8 * bars);
 }
 
 // Writes each bar's position of any prices by way of `work`, which is cleared.
@@ -124,7 +124,7 @@ fn write_single_of_prices(series: &[f64], n: usize, out: &mut [f64], work: &mut 
     price_means::write_means_of_prices(series, n, work);
     means::write_means(&work[..bars], n, out);
     write_against_means(series, n, out);
-    calls::clear(work, 8 * bars);
+    cells::clear(work, 8 * bars);
 }
 
 // Writes each bar's position. It pays to look whether the prices are whole ticks where the window is long.
@@ -133,9 +133,9 @@ pub fn write_single(series: &[f64], n: usize, out: &mut [f64], work: &mut [f64])
     ensures { λ _. ⌜ Writing (length (now (series .entry))) (singleLine n (line (now (series .entry)))) (now (out .entry)) (now (out .exit))
         × Writing (8 * length (now (series .entry))) (λ i. plusZero) (now (work .entry)) (now (work .exit)) ⌝ }
 {
-    if n > 32 {
+    if n > 12 {
         if n <= 1022 {
-            if calls::all_ticks(series) {
+            if values::all_ticks(series) {
                 write_single_of_ticks(series, n, out, work);
                 return;
             }

@@ -9,7 +9,7 @@ use native.Mathlib.Omega.{arith}
 use native.Mathlib.Numerals.{add-one}
 use lib.ListN.{length, getD}
 use lib.Ieee.{Float, nan, binary64, ofBits, mul, lt, eq, le}
-use Rattle.calls.specs.Line.{plusZero}
+use Rattle.cells.specs.Line.{plusZero}
 use Rattle.rounding.specs.Leaves.{magnitudeOf}
 use Rattle.smoothers.specs.Recorded.{a1Bits, b1Bits}
 use Rattle.smoothers.specs.Coefficients.{power, a1Table, b1Table, a1Of, b1Of}

@@ -9,10 +9,10 @@ use lib.Ieee.{Float, nan, inf, fin, binary64, neg, add, sub, mul, div, lt, eq, l
 use Rattle.calls.specs.declared.Answer.{Answer}
 use Rattle.calls.specs.declared.Answer.the-variants.{Cells, Refused}
 use Rattle.calls.specs.declared.Refusal.the-variants.{OutputTooShort, ParameterNotFinite, WindowTooLong}
-use Rattle.calls.specs.Accepted.{accepted, finite}
+use Rattle.values.specs.Accepted.{accepted, finite}
 use Rattle.calls.specs.Answer.{slices, checked}
-use Rattle.calls.specs.Line.{Line, line, plusZero, minusZero}
-use Rattle.calls.specs.Written.{written}
+use Rattle.cells.specs.Line.{Line, line, plusZero, minusZero}
+use Rattle.cells.specs.Written.{written}
 use Rattle.rounding.specs.Leaves.{magnitudeOf}
 use Rattle.smoothers.specs.Recorded.{a1Bits, b1Bits}
 use Rattle.smoothers.specs.Coefficients.{a1Table, b1Table, a1Of, b1Of, ofPair, coefficients}

@@ -8,7 +8,7 @@ use native.Mathlib.Omega.{arith}
 use lib.IntN.{pos}
 use lib.ListN.{getD}
 use lib.Ieee.{Float, nan, fin, binary64, ofBits, neg, add, sub, mul, div}
-use Rattle.calls.specs.Line.{plusZero}
+use Rattle.cells.specs.Line.{plusZero}
 use Rattle.smoothers.specs.declared.Coefficients.{Coefficients}
 use Rattle.smoothers.specs.Recorded.{a1Bits, b1Bits}
 

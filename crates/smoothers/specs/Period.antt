@@ -9,7 +9,7 @@ use lib.Dec.{T, ltb, eqb, lt→ltb}
 use lib.IntN.{pos}
 use lib.Ieee.{Float, nan, inf, fin, binary64, up, down, lt, eq, le, ofInt, toUnsigned}
 use lib.Ieee.Fits.{down-pos}
-use Rattle.calls.specs.Line.{plusZero}
+use Rattle.cells.specs.Line.{plusZero}
 use Rattle.smoothers.specs.Coefficients.{power}
 
 -- the whole part of a number that is not below 0

@@ -5,8 +5,8 @@ use Prim.Native.Nat.{ℕ, zero, suc, _<_}
 use native.Mathlib.Nat.{not-suc-le-zero, le-refl}
 use lib.Ieee.{Float, binary64, sub}
 use Rattle.rounding.specs.Leaves.{magnitudeOf}
-use Rattle.calls.specs.Line.{Line, line, Same}
-use Rattle.calls.specs.Written.{Writing}
+use Rattle.cells.specs.Line.{Line, line, Same}
+use Rattle.cells.specs.Written.{Writing}
 use Rattle.extremes.specs.Extreme.{larger}
 
 -- The largest of high less low, the size of high less the close before, and the size of low less it.

@@ -10,10 +10,10 @@ use lib.Ieee.{Float, nan, inf, fin, binary64, neg, add, sub, mul, div}
 use Rattle.calls.specs.declared.Refusal.the-variants.{ParameterNotFinite, WindowTooLong}
 use Rattle.calls.specs.declared.Answer.{Answer}
 use Rattle.calls.specs.declared.Answer.the-variants.{Cells}
-use Rattle.calls.specs.Accepted.{accepted, finite}
+use Rattle.values.specs.Accepted.{accepted, finite}
 use Rattle.calls.specs.Answer.{checked, andThen, unless}
-use Rattle.calls.specs.Line.{Line, line, Causal}
-use Rattle.calls.specs.Written.{Writing, writing-same}
+use Rattle.cells.specs.Line.{Line, line, Causal}
+use Rattle.cells.specs.Written.{Writing, writing-same}
 use Rattle.smoothers.specs.Period.{isPeriod}
 use Rattle.smoothers.specs.declared.Coefficients.{Coefficients}
 use Rattle.smoothers.specs.Coefficients.{power, a1Of, b1Of, ofPair, coefficients}

@@ -7,12 +7,12 @@ ghost use mathlib.Core.Path.{_≡_};
 ghost use mathlib.Core.List.{[], _∷_};
 ghost use Prim.Native.Nat.{_<_, _≤_};
 ghost use lib.ListN.{length};
-ghost use Rattle.calls.specs.Accepted.{accepted};
+ghost use Rattle.values.specs.Accepted.{accepted};
 ghost use Rattle.calls.specs.Answer.{checked};
 ghost use Rattle.calls.specs.Call.{Call};
 ghost use Rattle.calls.specs.Room.{Three};
-ghost use Rattle.calls.specs.Line.{line};
-ghost use Rattle.calls.specs.Written.{Writing};
+ghost use Rattle.cells.specs.Line.{line};
+ghost use Rattle.cells.specs.Written.{Writing};
 ghost use Rattle.extremes.specs.Extreme.{larger};
 ghost use Rattle.smoothers.specs.Coefficients.{ofPair, coefficients};
 ghost use Rattle.smoothers.specs.Smoother.{formula, smooth, smootherAnswer, Begun, Smoothed};
@@ -136,7 +136,7 @@ pub fn ultimate_smoother(price: &[f64], period: f64, out: &mut [f64]) -> Answer
     if let Answer::Refused(_) = due {
         return due;
     }
-    if calls::is_finite(period) {
+    if values::is_finite(period) {
         if is_period(period) {
             let whole = std::num::truncating_f64_to_u64(period) as usize;
             write_smooth(price, whole, out);

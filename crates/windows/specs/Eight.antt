@@ -3,7 +3,7 @@ use mathlib.Core.Path.{_≡_}
 use Prim.Native.Nat.{ℕ, _+_, _<_, _≤_}
 use native.Mathlib.Omega.{arith}
 use lib.Ieee.{binary64, add}
-use Rattle.calls.specs.Line.{Line, minusZero}
+use Rattle.cells.specs.Line.{Line, minusZero}
 use Rattle.windows.specs.declared.Lanes.{Lanes}
 use Rattle.windows.specs.Window.{Summing, none-summed, one-added, window-sum, windowSum, over, mean, mean-of}
 

@@ -6,8 +6,8 @@ use native.Mathlib.Omega.{arith}
 use lib.Dec.{T, le→leb}
 use lib.IntN.{pos}
 use lib.Ieee.{Float, binary64, add, sub, div, ofInt, inFloat}
-use Rattle.calls.specs.Line.{Line, plusZero, minusZero, fromBar, from-bar, Same, Causal, causal-from}
-use Rattle.calls.specs.Recur.{recur, recur-same}
+use Rattle.cells.specs.Line.{Line, plusZero, minusZero, fromBar, from-bar, Same, Causal, causal-from}
+use Rattle.cells.specs.Recur.{recur, recur-same}
 
 -- z + f a + f (a + 1) + .. + f (a + k - 1), from left to right
 unfoldable pub sumFrom : Float → Line → ℕ → ℕ → Float

@@ -2,7 +2,7 @@
 ghost use mathlib.Core.Path.{_≡_};
 ghost use Prim.Native.Nat.{_≤_};
 ghost use lib.ListN.{length};
-ghost use Rattle.calls.specs.Line.{line};
+ghost use Rattle.cells.specs.Line.{line};
 ghost use Rattle.windows.specs.Window.{windowSum, mean};
 ghost use Rattle.windows.specs.Eight.{Windows, Eight, eachOver};
 

@@ -2,8 +2,8 @@
 use Prim.Native.Nat.{_-_, _<_, _≤_}
 use native.Mathlib.Omega.{arith}
 use lib.ListN.{length}
-use Rattle.calls.specs.Line.{line}
-use Rattle.calls.specs.Written.{Writing, one-more, ends}
+use Rattle.cells.specs.Line.{line}
+use Rattle.cells.specs.Written.{Writing, one-more, ends}
 use Rattle.averages.specs.Averages.{smoothLine}
 use Rattle.averages.specs.Stages.{Blending, seeded, next-blended, blended-cell}
 use borrow.Author.Needs.{needs}

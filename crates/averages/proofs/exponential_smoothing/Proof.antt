@@ -5,11 +5,11 @@ use lib.ListN.{length}
 use denote.Ref.{now}
 use Rattle.calls.specs.declared.Refusal.the-variants.{ParameterNotFinite}
 use Rattle.calls.specs.declared.Answer.the-variants.{Cells}
-use Rattle.calls.specs.Accepted.{finite}
+use Rattle.values.specs.Accepted.{finite}
 use Rattle.calls.specs.Answer.{unless}
 use Rattle.calls.specs.Call.{refused, counted}
 use Rattle.calls.specs.Room.{checked-room}
-use Rattle.calls.specs.Written.{none-written, ends}
+use Rattle.cells.specs.Written.{none-written, ends}
 use Rattle.averages.specs.Averages.{exponentialAnswer}
 use borrow.Author.Needs.{needs}
 use Rattle.averages.proofs.exponential_smoothing.Statement.{statement}

@@ -3,8 +3,8 @@
 use Prim.Native.Nat.{_+_, _-_, _≤_}
 use native.Mathlib.Omega.{arith}
 use lib.ListN.{length, length-set}
-use Rattle.calls.specs.Line.{line}
-use Rattle.calls.specs.Written.{Writing, one-more, step, ends}
+use Rattle.cells.specs.Line.{line}
+use Rattle.cells.specs.Written.{Writing, one-more, step, ends}
 use Rattle.windows.specs.Window.{Running, next-running, same-bar, count-is-float}
 use Rattle.averages.specs.Averages.{addDifference, smaLine}
 use Rattle.averages.specs.Stages.{sma-cell}

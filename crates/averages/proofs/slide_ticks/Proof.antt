@@ -8,9 +8,9 @@ use denote.Ref.{now}
 use mir.Syntax.{w64}
 use mir.Val.{toZ}
 use mir.ValLaws.{toZ-ofZ}
-use Rattle.calls.specs.Line.{line}
-use Rattle.calls.specs.Ticks.{ticked}
-use Rattle.calls.specs.Written.{Writing, one-more, ends}
+use Rattle.cells.specs.Line.{line}
+use Rattle.values.specs.Ticks.{ticked}
+use Rattle.cells.specs.Written.{Writing, one-more, ends}
 use Rattle.averages.specs.Averages.{tickMeanLine}
 use Rattle.averages.specs.Whole.{held}
 use Rattle.averages.specs.Ticks.{TickSum, HeldSum, tick-at, sum-small, hold, hold-in, hold-out, ticks-same, tick-cell}

@@ -7,9 +7,9 @@ use lib.Ieee.{toSigned}
 use denote.Ref.{now}
 use mir.Syntax.{w64}
 use mir.Val.{toZ}
-use Rattle.calls.specs.Line.{line}
-use Rattle.calls.specs.Ticks.{ticked}
-use Rattle.calls.specs.Written.{Writing, none-written, one-more, ends}
+use Rattle.cells.specs.Line.{line}
+use Rattle.values.specs.Ticks.{ticked}
+use Rattle.cells.specs.Written.{Writing, none-written, one-more, ends}
 use Rattle.averages.specs.Whole.{held}
 use Rattle.averages.specs.Ticks.{TickSum, HeldSum, tick-at, no-ticks, hold-in, ticks-same}
 use borrow.Author.Needs.{needs}

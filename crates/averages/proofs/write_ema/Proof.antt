@@ -1,8 +1,8 @@
 -- `write_ema` meets its contract: the lead, and from bar n - 1 on the smoothed cells. Assumes nothing.
 use native.Mathlib.Omega.{arith}
 use lib.Ieee.{ofBits}
-use Rattle.calls.specs.Line.{lead-stands}
-use Rattle.calls.specs.Written.{then-written, ends}
+use Rattle.cells.specs.Line.{lead-stands}
+use Rattle.cells.specs.Written.{then-written, ends}
 use Rattle.windows.specs.Window.{count-is-float}
 use Rattle.averages.specs.Averages.{smoothLine}
 use borrow.Author.Needs.{needs}

@@ -3,8 +3,8 @@ use mathlib.Core.Path.{_∙_}
 use native.Mathlib.Omega.{arith}
 use lib.ListN.{length-set}
 use denote.Ref.{now}
-use Rattle.calls.specs.Line.{lead-stands}
-use Rattle.calls.specs.Written.{stands, then-written, ends}
+use Rattle.cells.specs.Line.{lead-stands}
+use Rattle.cells.specs.Written.{stands, then-written, ends}
 use Rattle.windows.specs.Window.{first-running, count-is-float}
 use Rattle.averages.specs.Averages.{smaLine}
 use Rattle.averages.specs.Stages.{first-mean}

@@ -2,7 +2,7 @@
 use mathlib.Core.Path.{_∙_}
 use native.Mathlib.Omega.{arith}
 use lib.ListN.{length-set}
-use Rattle.calls.specs.Written.{Writing, one-more, stands, then-written}
+use Rattle.cells.specs.Written.{Writing, one-more, stands, then-written}
 use Rattle.averages.specs.Stages.{seeded, blended-cell}
 use borrow.Author.Needs.{needs}
 use Rattle.averages.proofs.write_smooth.Statement.{statement}

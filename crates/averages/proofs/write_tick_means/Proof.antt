@@ -1,6 +1,6 @@
 -- `write_tick_means` meets its contract: the lead, and the means after it. Assumes nothing.
 use native.Mathlib.Omega.{arith}
-use Rattle.calls.specs.Written.{stands, then-written}
+use Rattle.cells.specs.Written.{stands, then-written}
 use Rattle.averages.specs.Ticks.{hold, lead-cells}
 use borrow.Author.Needs.{needs}
 use Rattle.averages.proofs.write_tick_means.Statement.{statement}

@@ -1,5 +1,5 @@
 -- `join_from` meets its contract: each turn joins one bar more to the bars from e on, and these to the window's others. Assumes nothing.
-use Rattle.calls.specs.Line.{line}
+use Rattle.cells.specs.Line.{line}
 use Rattle.extremes.specs.Range.{RangeOf, one-bar, joins, meets, whole}
 use Rattle.extremes.specs.Blocks.{Whole}
 use Rattle.extremes.specs.Part.{Replacing, one-stands, not-yet, one-above, part-ends}

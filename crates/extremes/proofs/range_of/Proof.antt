@@ -1,5 +1,5 @@
 -- `range_of` meets its contract: each turn joins one bar. Assumes nothing.
-use Rattle.calls.specs.Line.{line}
+use Rattle.cells.specs.Line.{line}
 use Rattle.extremes.specs.Range.{RangeOf, one-bar, spans, joins}
 use Prim.Native.Nat.{_-_, _≤_}
 use native.Mathlib.Omega.{arith}

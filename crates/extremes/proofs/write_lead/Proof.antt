@@ -1,6 +1,6 @@
 -- `write_lead` meets its contract: each turn writes one bar that has no whole window. Assumes nothing.
 use lib.Ieee.{ofBits}
-use Rattle.calls.specs.Line.{plusZero}
+use Rattle.cells.specs.Line.{plusZero}
 use Rattle.extremes.specs.Range.{alone, not-whole}
 use Rattle.extremes.specs.Blocks.{Whole}
 use Rattle.extremes.specs.Part.{Replacing, none-replaced, one-above, part-ends}

@@ -2,10 +2,10 @@
 use Prim.Native.Nat.{_-_, _≤_}
 use native.Mathlib.Omega.{arith}
 use lib.ListN.{length}
-use Rattle.calls.specs.Line.{line}
-use Rattle.calls.specs.Written.{Writing}
+use Rattle.cells.specs.Line.{line}
+use Rattle.cells.specs.Written.{Writing}
 use Rattle.windows.specs.Window.{mean}
-use Rattle.means.specs.Sixteen.{sixteen-stored}
+use Rattle.means.specs.Storing.{sixteen-stored}
 use borrow.Author.Needs.{needs}
 use Rattle.means.proofs.means_by_sixteen.Statement.{statement}
 use Rattle.means.proofs.means_by_sixteen.Tie as tie

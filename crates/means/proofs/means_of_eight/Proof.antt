@@ -1,6 +1,6 @@
 -- `means_of_eight` meets its contract: eight means are stored, or none. Assumes nothing.
 use native.Mathlib.Omega.{arith}
-use Rattle.means.specs.Sixteen.{eight-stored}
+use Rattle.means.specs.Storing.{eight-stored}
 use borrow.Author.Needs.{needs}
 use Rattle.means.proofs.means_of_eight.Statement.{statement}
 use Rattle.means.proofs.means_of_eight.Tie as tie

@@ -1,8 +1,8 @@
 -- `write_means` meets its contract: each call writes on from where the one before it stopped. Assumes nothing.
 use native.Mathlib.Omega.{arith}
 use lib.Ieee.{ofBits}
-use Rattle.calls.specs.Line.{lead-stands}
-use Rattle.calls.specs.Written.{stands, then-written}
+use Rattle.cells.specs.Line.{lead-stands}
+use Rattle.cells.specs.Written.{stands, then-written}
 use Rattle.windows.specs.Window.{mean}
 use borrow.Author.Needs.{needs}
 use Rattle.means.proofs.write_means.Statement.{statement}

@@ -1,9 +1,9 @@
 -- `write_against_middles` meets its contract: each turn reads a mean that still stands and its range, and writes the bar's cell.
 -- Assumes nothing.
 use lib.Ieee.{nan, ofBits}
-use Rattle.calls.specs.Line.{line, lead-stands}
-use Rattle.calls.specs.Rows.{beside-first, beside-second}
-use Rattle.calls.specs.Written.{Writing, one-more, then-written, ends, read-back}
+use Rattle.cells.specs.Line.{line, lead-stands}
+use Rattle.cells.specs.Rows.{beside-first, beside-second}
+use Rattle.cells.specs.Written.{Writing, one-more, then-written, ends, read-back}
 use Rattle.positions.specs.Rules.{midLine}
 use Rattle.positions.specs.Stages.{still, mid-at}
 use mathlib.Core.Path.{_∙_}

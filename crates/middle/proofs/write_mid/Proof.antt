@@ -1,6 +1,6 @@
 -- `write_mid` meets its contract: the means and their ranges, the positions over the means, and the clearing over the ranges.
 -- Assumes nothing.
-use Rattle.calls.specs.Written.{stands, then-written}
+use Rattle.cells.specs.Written.{stands, then-written}
 use native.Mathlib.Omega.{arith}
 use borrow.Author.Needs.{needs}
 use Rattle.middle.proofs.write_mid.Statement.{statement}

@@ -1,7 +1,7 @@
 -- `write_means_of_ticks` meets its contract: on whole ticks the cells of `sma` are the means. Assumes nothing.
 use lib.Ieee.{ofBits}
 use denote.Ref.{now}
-use Rattle.price_means.specs.TickMeans.{means-of-ticks}
+use Rattle.positions.specs.TickMeans.{means-of-ticks}
 use native.Mathlib.Omega.{arith}
 use borrow.Author.Needs.{needs}
 use Rattle.price_means.proofs.write_means_of_ticks.Statement.{statement}

@@ -2,7 +2,7 @@
 use Prim.Native.Nat.{_-_, _≤_}
 use native.Mathlib.Omega.{arith}
 use lib.ListN.{length}
-use Rattle.calls.specs.Written.{Writing, none-written, one-more, ends}
+use Rattle.cells.specs.Written.{Writing, none-written, one-more, ends}
 use Rattle.same.specs.Agree.{floats}
 use borrow.Author.Needs.{needs}
 use Rattle.replay.proofs.write_floats.Statement.{statement}

@@ -1,6 +1,6 @@
 -- `double_sma_positions` meets its contract: the answer is the table's, and a count is what was written. Assumes nothing.
 use Rattle.calls.specs.Call.{refused, counted}
-use Rattle.calls.specs.Written.{none-written, ends}
+use Rattle.cells.specs.Written.{none-written, ends}
 use Rattle.positions.specs.Opened.{double-opened}
 use mathlib.Core.Path.{sym, _∙_}
 use native.Mathlib.Omega.{arith}

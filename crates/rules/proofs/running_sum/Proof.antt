@@ -1,5 +1,5 @@
 -- `running_sum` meets its contract: it begins with a window summed afresh, and each turn slides it. Assumes nothing.
-use Rattle.calls.specs.Line.{line}
+use Rattle.cells.specs.Line.{line}
 use Rattle.windows.specs.Window.{Running, first-running, next-running}
 use Rattle.positions.specs.Rules.{addThenSubtract}
 use mathlib.Core.Path.{_≡_}

@@ -1,6 +1,6 @@
 -- `write_crossings` meets its contract: each turn writes a cell from the two sums and slides them. Assumes nothing.
-use Rattle.calls.specs.Line.{line}
-use Rattle.calls.specs.Written.{Writing, one-more, ends}
+use Rattle.cells.specs.Line.{line}
+use Rattle.cells.specs.Written.{Writing, one-more, ends}
 use Rattle.positions.specs.Rules.{doubleLine}
 use Rattle.windows.specs.Window.{next-running}
 use Rattle.positions.specs.Stages.{Sum, double-at}

@@ -1,7 +1,7 @@
 -- `write_double` meets its contract: the lead, and the crossings where there are bars after it. Assumes nothing.
 use lib.Ieee.{ofBits}
-use Rattle.calls.specs.Line.{lead-stands}
-use Rattle.calls.specs.Written.{then-written, ends}
+use Rattle.cells.specs.Line.{lead-stands}
+use Rattle.cells.specs.Written.{then-written, ends}
 use Rattle.positions.specs.Rules.{doubleLine}
 use native.Mathlib.Omega.{arith}
 use borrow.Author.Needs.{needs}

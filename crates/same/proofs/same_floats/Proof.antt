@@ -4,7 +4,7 @@ use mathlib.Core.Bool.{true≢false}
 use Prim.Native.Nat.{_-_, _≤_}
 use native.Mathlib.Omega.{arith}
 use lib.ListN.{length}
-use Rattle.calls.specs.Line.{line}
+use Rattle.cells.specs.Line.{line}
 use Rattle.same.specs.Agree.{floats}
 use Rattle.same.specs.Deciding.{Agreeing, none-agrees, one-agrees, all-agree, one-differs}
 use borrow.Author.Needs.{needs}

@@ -5,7 +5,7 @@ use Prim.Native.Nat.{_-_, _≤_}
 use native.Mathlib.Omega.{arith}
 use lib.ListN.{length}
 use lib.Ieee.{binary64, ofBits}
-use Rattle.calls.specs.Line.{line}
+use Rattle.cells.specs.Line.{line}
 use Rattle.same.specs.Agree.{worked}
 use Rattle.same.specs.Deciding.{Agreeing, none-agrees, one-agrees, all-agree, one-differs}
 use borrow.Author.Needs.{needs}

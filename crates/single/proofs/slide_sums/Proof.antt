@@ -1,9 +1,9 @@
 -- `slide_sums` meets its contract: each turn writes the sum and slides it. Assumes nothing.
-use Rattle.calls.specs.Line.{line}
-use Rattle.calls.specs.Written.{Writing, one-more, ends}
+use Rattle.cells.specs.Line.{line}
+use Rattle.cells.specs.Written.{Writing, one-more, ends}
 use Rattle.averages.specs.Averages.{addDifference}
 use Rattle.windows.specs.Window.{Running, first-running, next-running, same-bar}
-use Rattle.single.specs.TickPositions.{runs, run-at}
+use Rattle.positions.specs.TickPositions.{runs, run-at}
 use Prim.Native.Nat.{_+_, _-_, _≤_, _<_}
 use native.Mathlib.Omega.{arith}
 use lib.ListN.{length}

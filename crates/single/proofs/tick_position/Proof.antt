@@ -1,6 +1,6 @@
 -- `tick_position` meets its contract: whole numbers decide, and at a tie the rounded average. Assumes nothing.
 use lib.Ieee.{ofBits, neg}
-use Rattle.single.specs.TickPositions.{whole-is-float, by-average, by-total}
+use Rattle.positions.specs.TickPositions.{whole-is-float, by-average, by-total}
 use mathlib.Core.Path.{sym, _∙_}
 use native.Mathlib.Nat.{mul-le-mul}
 use native.Mathlib.Omega.{arith}

@@ -1,7 +1,7 @@
 -- `write_against_means` meets its contract: each turn reads a mean that still stands and writes the bar's cell. Assumes nothing.
 use lib.Ieee.{ofBits}
-use Rattle.calls.specs.Line.{line, lead-stands}
-use Rattle.calls.specs.Written.{Writing, one-more, then-written, ends}
+use Rattle.cells.specs.Line.{line, lead-stands}
+use Rattle.cells.specs.Written.{Writing, one-more, then-written, ends}
 use Rattle.positions.specs.Rules.{singleLine}
 use Rattle.positions.specs.Stages.{still, single-at}
 use mathlib.Core.Path.{_∙_}

@@ -1,5 +1,5 @@
 -- `write_single_of_prices` meets its contract: the means, their means, the positions over these, and the clearing over the first. Assumes nothing.
-use Rattle.calls.specs.Written.{stands, then-written}
+use Rattle.cells.specs.Written.{stands, then-written}
 use Rattle.windows.specs.Window.{mean, causal-mean}
 use Rattle.positions.specs.Stages.{part-long, through}
 use mathlib.Core.Path.{sym}

@@ -1,9 +1,9 @@
 -- `write_single_of_ticks` meets its contract: the window sums in `out`, the means and the sums of those sums in two rows, the positions,
 -- and the clearing. Assumes nothing.
-use Rattle.calls.specs.Rows.{lent-on}
-use Rattle.calls.specs.Written.{stands, then-written}
+use Rattle.cells.specs.Rows.{lent-on}
+use Rattle.cells.specs.Written.{stands, then-written}
 use Rattle.positions.specs.Stages.{part-long, through}
-use Rattle.single.specs.TickPositions.{runs, causal-runs}
+use Rattle.positions.specs.TickPositions.{runs, causal-runs}
 use mathlib.Core.Path.{sym}
 use native.Mathlib.Omega.{arith}
 use lib.ListN.{length-take, length-drop}

@@ -1,8 +1,8 @@
 -- `write_sums` meets its contract: the lead, and the sums where there are bars after it. Assumes nothing.
 use lib.Ieee.{ofBits}
-use Rattle.calls.specs.Line.{lead-stands}
-use Rattle.calls.specs.Written.{then-written, ends}
-use Rattle.single.specs.TickPositions.{runs}
+use Rattle.cells.specs.Line.{lead-stands}
+use Rattle.cells.specs.Written.{then-written, ends}
+use Rattle.positions.specs.TickPositions.{runs}
 use native.Mathlib.Omega.{arith}
 use borrow.Author.Needs.{needs}
 use Rattle.single.proofs.write_sums.Statement.{statement}

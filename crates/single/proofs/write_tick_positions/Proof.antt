@@ -1,7 +1,7 @@
 -- `write_tick_positions` meets its contract: each turn writes the bar's cell. Assumes nothing.
 use lib.Ieee.{ofBits}
-use Rattle.calls.specs.Line.{line, lead-stands}
-use Rattle.calls.specs.Written.{Writing, one-more, then-written, ends}
+use Rattle.cells.specs.Line.{line, lead-stands}
+use Rattle.cells.specs.Written.{Writing, one-more, then-written, ends}
 use Rattle.positions.specs.Rules.{singleLine}
 use Prim.Native.Nat.{_-_, _*_, _≤_, min}
 use native.Mathlib.Omega.{arith}

@@ -2,8 +2,8 @@
 use mathlib.Core.Path.{refl}
 use Prim.Native.Nat.{_-_, _≤_}
 use native.Mathlib.Omega.{arith}
-use Rattle.calls.specs.Line.{line}
-use Rattle.calls.specs.Written.{Writing, none-written, one-more, ends}
+use Rattle.cells.specs.Line.{line}
+use Rattle.cells.specs.Written.{Writing, none-written, one-more, ends}
 use borrow.Author.Needs.{needs}
 use Rattle.smoothers.proofs.copy.Statement.{statement}
 use Rattle.smoothers.proofs.copy.Tie as tie

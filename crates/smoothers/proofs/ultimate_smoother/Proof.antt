@@ -8,7 +8,7 @@ use lib.ListN.{length}
 use denote.Ref.{now}
 use Rattle.calls.specs.declared.Refusal.the-variants.{ParameterNotFinite, WindowTooLong}
 use Rattle.calls.specs.declared.Answer.the-variants.{Cells}
-use Rattle.calls.specs.Accepted.{finite}
+use Rattle.values.specs.Accepted.{finite}
 use Rattle.calls.specs.Answer.{unless}
 use Rattle.calls.specs.Room.{checked-room}
 use Rattle.calls.specs.Call.{refused, counted}

@@ -1,7 +1,7 @@
 -- `write_first` meets its contract: one cell is written. Assumes nothing.
 use mathlib.Core.Path.{refl}
 use native.Mathlib.Omega.{arith}
-use Rattle.calls.specs.Written.{none-written, one-more}
+use Rattle.cells.specs.Written.{none-written, one-more}
 use Rattle.smoothers.specs.Range.{trueRangeLine}
 use borrow.Author.Needs.{needs}
 use Rattle.smoothers.proofs.write_first.Statement.{statement}

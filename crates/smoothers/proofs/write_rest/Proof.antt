@@ -3,7 +3,7 @@ use mathlib.Core.Path.{_∙_}
 use Prim.Native.Nat.{_-_, _≤_, _<_}
 use native.Mathlib.Omega.{arith}
 use lib.ListN.{length}
-use Rattle.calls.specs.Written.{one-more, ends}
+use Rattle.cells.specs.Written.{one-more, ends}
 use Rattle.smoothers.specs.Range.{Ranging, range-next}
 use borrow.Author.Needs.{needs}
 use Rattle.smoothers.proofs.write_rest.Statement.{statement}

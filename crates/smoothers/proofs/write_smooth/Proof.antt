@@ -1,6 +1,6 @@
 -- `write_smooth` meets its contract: the cells of the formula stand on the first four, which are copied. Assumes nothing.
 use native.Mathlib.Omega.{arith}
-use Rattle.calls.specs.Written.{stands, then-written}
+use Rattle.cells.specs.Written.{stands, then-written}
 use Rattle.smoothers.specs.Smoother.{copied}
 use borrow.Author.Needs.{needs}
 use Rattle.smoothers.proofs.write_smooth.Statement.{statement}

@@ -3,8 +3,8 @@ use Prim.Native.Nat.{_-_, _≤_}
 use native.Mathlib.Omega.{arith}
 use lib.Ieee.{nan}
 use lib.ListN.{length}
-use Rattle.calls.specs.Line.{line}
-use Rattle.calls.specs.Written.{Writing, one-more, ends, read-back}
+use Rattle.cells.specs.Line.{line}
+use Rattle.cells.specs.Written.{Writing, one-more, ends, read-back}
 use Rattle.smoothers.specs.Smoother.{smooth, smooth-next}
 use borrow.Author.Needs.{needs}
 use Rattle.smoothers.proofs.write_steps.Statement.{statement}

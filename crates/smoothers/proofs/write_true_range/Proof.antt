@@ -1,6 +1,6 @@
 -- `write_true_range` meets its contract: bar 0, and then the rest. Assumes nothing.
 use native.Mathlib.Omega.{arith}
-use Rattle.calls.specs.Written.{none-written, ends, stands, then-written}
+use Rattle.cells.specs.Written.{none-written, ends, stands, then-written}
 use borrow.Author.Needs.{needs}
 use Rattle.smoothers.proofs.write_true_range.Statement.{statement}
 use Rattle.smoothers.proofs.write_true_range.Tie as tie

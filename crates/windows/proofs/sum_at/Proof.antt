@@ -3,7 +3,7 @@ use mathlib.Core.Path.{_≡_}
 use Prim.Native.Nat.{_-_, _≤_}
 use native.Mathlib.Omega.{arith}
 use lib.Ieee.{ofBits, neg}
-use Rattle.calls.specs.Line.{line, minusZero}
+use Rattle.cells.specs.Line.{line, minusZero}
 use Rattle.windows.specs.Window.{Summing, none-summed, one-added, window-sum}
 use borrow.Author.Needs.{needs}
 use Rattle.windows.proofs.sum_at.Statement.{statement}

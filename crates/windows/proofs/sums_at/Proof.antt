@@ -2,7 +2,7 @@
 use Prim.Native.Nat.{_-_, _≤_}
 use native.Mathlib.Omega.{arith}
 use lib.Ieee.{ofBits, neg}
-use Rattle.calls.specs.Line.{line}
+use Rattle.cells.specs.Line.{line}
 use Rattle.windows.specs.Eight.{Summed, none-of-eight, each-added, eight-sums}
 use borrow.Author.Needs.{needs}
 use Rattle.windows.proofs.sums_at.Statement.{statement}

@@ -1,2 +1,0 @@
--- The means of whole ticks.
-pub mod TickMeans

@@ -1,2 +1,0 @@
--- The one-average rule on whole ticks.
-pub mod TickPositions

@@ -1,0 +1,2 @@
+-- Window sums and means, sixteen bars side by side.
+pub mod Sixteen

@@ -1,0 +1,5 @@
+-- Which numbers a series may hold, and why the tests of them are right.
+pub mod Accepted
+pub mod Ticks
+pub mod Quick
+pub mod Fraction

@@ -1,0 +1,150 @@
+// The tests of a call's values.
+ghost use mathlib.Core.Path.{_≡_};
+ghost use mathlib.Core.Bool.{not};
+ghost use Prim.Native.Nat.{_^_};
+ghost use lib.Dec.{eqb};
+ghost use lib.Ieee.{binary64, toBits};
+ghost use Rattle.values.specs.Accepted.{within, accepted, tick, finite, all};
+ghost use Rattle.values.specs.Quick.{capped, NoneAbove, UpTo, EachUpTo};
+
+// Whether x lies within 2^30. A NaN does not.
+fn is_near(x: f64) -> bool
+    ensures { λ r. ⌜ r ≡ within 30 x ⌝ }
+{
+    if x >= -1073741824.0 {
+        x <= 1073741824.0
+    } else {
+        false
+    }
+}
+
+// 0, unless x is -0.0.
+fn minus_zero_bits(x: f64) -> u64
+    ensures { λ r. ⌜ eqb r 0 ≡ not (eqb (toBits binary64 x) (2 ^ 63)) ⌝ }
+{
+    if x == 0.0 { f64::to_bits(x) } else { 0 }
+}
+
+// Whether x is a whole tick.
+pub fn is_tick(x: f64) -> bool
+    ensures { λ r. ⌜ r ≡ tick x ⌝ }
+{
+    let size = rounding::magnitude(x);
+    if size <= 16777216.0 {
+        let whole = std::num::truncating_f64_to_u64(size);
+        if (whole as f64) == size {
+            if x == 0.0 {
+                return rounding::sign(x) > 0.0;
+            }
+            return true;
+        }
+    }
+    false
+}
+
+// Whether x may be a parameter.
+pub fn is_finite(x: f64) -> bool
+    ensures { λ r. ⌜ r ≡ finite x ⌝ }
+{
+    let infinity = 1.0 / 0.0;
+    if x < infinity { -infinity < x } else { false }
+}
+
+// x, or 2^31 where x is not below it, as a NaN is not.
+fn cap(x: f64) -> f64
+    ensures { λ r. ⌜ r ≡ capped x ⌝ }
+{
+    if x < 2147483648.0 { x } else { 2147483648.0 }
+}
+
+// The bits of all numbers of s, one upon the other: those of no number are larger. What is not below 2^31 counts as that.
+fn bits_together(s: &[f64]) -> u64
+    ensures { λ r. ⌜ NoneAbove r (now (s .entry)) ⌝ }
+{
+    let mut together = 0;
+    let mut i = 0;
+    while i < s.len() {
+        together = together | f64::to_bits(cap(s[i]));
+        i += 1;
+    }
+    together
+}
+
+// Whether a series may hold every number of s. All are looked at, and what was found is kept in two variables: so the loop takes several at a time.
+fn each_accepted(s: &[f64]) -> bool
+    ensures { λ r. ⌜ r ≡ all accepted (now (s .entry)) ⌝ }
+{
+    let mut near = true;
+    let mut minus_zeros = 0;
+    let mut i = 0;
+    while i < s.len() {
+        near = near & is_near(s[i]);
+        minus_zeros = minus_zeros | minus_zero_bits(s[i]);
+        i += 1;
+    }
+    near & (minus_zeros == 0)
+}
+
+// Whether a series may hold every number of s. If all bits together are at most those of 2^30, every number lies from 0.0 to 2^30; most series pass this quick test.
+pub fn all_accepted(s: &[f64]) -> bool
+    ensures { λ r. ⌜ r ≡ all accepted (now (s .entry)) ⌝ }
+{
+    if bits_together(s) <= 4742290407621132288 {
+        true
+    } else {
+        each_accepted(s)
+    }
+}
+
+// Whether x, which lies from 0.0 to 2^24, is whole: beside 2^52 there is no room for a fraction.
+fn is_whole(x: f64) -> bool
+    ensures { λ r. ⌜ (UpTo 24 x → r ≡ tick x) ⌝ }
+{
+    (x + 4503599627370496.0) - 4503599627370496.0 == x
+}
+
+// Whether every number of s, where each lies from 0.0 to 2^24, is a whole tick. All are looked at, so that the loop takes several at a time.
+fn all_whole(s: &[f64]) -> bool
+    requires { ⌜ EachUpTo 24 (now s) ⌝ }
+    ensures { λ r. ⌜ r ≡ all tick (now (s .entry)) ⌝ }
+{
+    let mut whole = true;
+    let mut i = 0;
+    while i < s.len() {
+        whole = whole & is_whole(s[i]);
+        i += 1;
+    }
+    whole
+}
+
+// Whether every number of s is a whole tick, one after the other.
+fn each_tick(s: &[f64]) -> bool
+    ensures { λ r. ⌜ r ≡ all tick (now (s .entry)) ⌝ }
+{
+    let mut i = 0;
+    while i < s.len() {
+        if is_tick(s[i]) {
+            i += 1;
+        } else {
+            return false;
+        }
+    }
+    true
+}
+
+// Whether every number of s is a whole tick. Where prices have fractions the first one mostly shows it; where all bits together are at most
+// those of 2^24, every number lies from 0.0 to 2^24.
+pub fn all_ticks(s: &[f64]) -> bool
+    ensures { λ r. ⌜ r ≡ all tick (now (s .entry)) ⌝ }
+{
+    if s.len() == 0 {
+        return true;
+    }
+    if is_tick(s[0]) {
+        if bits_together(s) <= 4715268809856909312 {
+            return all_whole(s);
+        }
+        return each_tick(s);
+    }
+    false
+}
