@@ -1,8 +1,5 @@
 -- Averages: what each of them is, as a line of cells made of a line of prices.
 pub mod Averages
-pub mod Whole
-pub mod Share
-pub mod Ticks
 pub mod Stages
 pub mod Cases
 pub mod Exact

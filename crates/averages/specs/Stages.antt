@@ -8,7 +8,6 @@ use lib.ListN.{length, set}
 use lib.Ieee.{Float, nan}
 use Rattle.calls.specs.declared.Answer.{Answer}
 use Rattle.calls.specs.declared.Answer.the-variants.{Cells}
-use Rattle.values.specs.Accepted.{tick}
 use Rattle.calls.specs.Answer.{answered}
 use Rattle.calls.specs.Room.{room, opened}
 use Rattle.calls.specs.Call.{Call, counted}
@@ -17,7 +16,6 @@ use Rattle.cells.specs.Recur.{recur}
 use Rattle.cells.specs.Written.{Writing, none-written, step, ends, then-written}
 use Rattle.windows.specs.Window.{windowSum, over, Running, first-running}
 use Rattle.windows.specs.Eight.{WindowRoom}
-use Rattle.averages.specs.Ticks.{Ticks, TickRoom}
 use Rattle.averages.specs.Averages.{addDifference, smaLine, blend, smoothLine}
 
 -- ---- sma
@@ -101,10 +99,3 @@ module _ (ok : Float → Bool) (s : List Float) (n out : ℕ) {r : Answer} {k : 
   -- no cells
   pub none-called : {A : Type 0} {f : ℕ → A} {old : List A} → k ≤ 0 → Call (answered ok s (n ∷ []) out []) f old (Cells k) old
   none-called h = counted (sym q ∙ e) (ends none-written (omega arith))
-
--- the same for whole ticks
-pub tick-room : (s : List Float) (n out : ℕ) {r : Answer} {k : ℕ} → r ≡ answered tick s (n ∷ []) out [] → r ≡ Cells k → 0 < k → TickRoom s n out
-tick-room s n out {k = k} e q h =
-    let w = window-room tick s n out e q h in
-    let ticks : Ticks s = record { each = room tick s (n ∷ []) out [] k (sym e ∙ q) .values } in
-    record { some = w .some; short = w .short; room = w .room; ticks = ticks }

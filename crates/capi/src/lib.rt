@@ -63,7 +63,7 @@ pub extern "C" fn tegbalowu_tick_mean(series: &[f64], n: usize, out: &mut [i64])
     ensures { λ r. ⌜ CCall (answered tick (now (series .entry)) (n ∷ []) (length (now (out .entry))) []) (tickMeanLine n (line (now (series .entry))))
         (now (out .entry)) r (now (out .exit)) ⌝ }
 {
-    numbers(averages::tick_mean(series, n, out))
+    numbers(ticks::tick_mean(series, n, out))
 }
 
 #[no_mangle]

@@ -13,7 +13,7 @@ use lib.Ieee.{Float, nan, binary64, mul, lt, eq, ne, ofInt, inFloat, fits}
 use lib.Ieee.Compare.{differs-from-itself}
 use lib.Ieee.Exact.{HasValue}
 use Rattle.rounding.specs.Leaves.{plusOne, minusOne}
-use Rattle.rounding.specs.Integers.{total-size, total-same}
+use Rattle.rounding.specs.Integers.{abs-neg, total-size, total-same}
 use Rattle.rounding.specs.Whole.{isNegative, whole-value, mul-whole}
 use Rattle.rounding.specs.Units.{worth-whole, worth-negative}
 use Rattle.rounding.specs.About.{about-whole, about-sign, about-order, about-some, zero-is}
@@ -25,10 +25,9 @@ use Rattle.cells.specs.Written.{Writing, read-back}
 use Rattle.averages.specs.Averages.{addDifference}
 use Rattle.averages.specs.Exact.{WholeLine, TickLine, window-size, difference-slides, running-whole}
 use Rattle.averages.specs.Errors.{windowTotal, mean-of-means-about}
-use Rattle.averages.specs.Whole.{size-neg}
 use Rattle.windows.specs.Window.{mean, causal-mean, runningSum, Running, runningSum-same}
 use Rattle.positions.specs.Rules.{againstMean, singleLine}
 use Rattle.positions.specs.Stages.{single-at}
 use Rattle.positions.specs.TickMeans.{tick-line}
 
 times-one : (z : ℤ) → z *ℤ pos 1 ≡ z
@@ -37,7 +36,7 @@ times-one (negsuc a) = ap (λ (k : ℕ). negℤ (pos k)) (mul-one (suc a))
 
 size-times : (z : ℤ) (n : ℕ) → natAbs (z *ℤ pos n) ≡ natAbs z * n
 size-times (pos a) n = refl
-size-times (negsuc a) n = size-neg (pos (suc a * n))
+size-times (negsuc a) n = abs-neg (pos (suc a * n))
 
 pub some-abs : (z : ℤ) → ¬ (z ≡ pos 0) → 0 < natAbs z
 some-abs (pos zero) h = absurd (h refl)

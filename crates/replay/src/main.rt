@@ -162,7 +162,7 @@ fn ticks_agree(call: Call, series: &[f64], recorded: &[u64], out: &mut [i64]) ->
     ensures { λ r. ⌜ (r ≡ true → Same (length (now (out .exit))) (words (now (out .exit))) (λ i. getD (now (recorded .entry)) i 0)) ⌝ }
 {
     let n = call.a as usize;
-    let answer = averages::tick_mean(series, n, out);
+    let answer = ticks::tick_mean(series, n, out);
     if same_answer(call, answer) {
         return same::same_ticks(out, recorded);
     }

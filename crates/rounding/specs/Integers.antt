@@ -121,6 +121,11 @@ abs-sub a b = go (ltb a b) (ltb→lt a b)
     go true h = let l : a < b = h tt in omega arith
     go false h = omega arith
 
+pub abs-neg : (z : ℤ) → natAbs (negℤ z) ≡ natAbs z
+abs-neg (pos zero) = refl
+abs-neg (pos (suc n)) = refl
+abs-neg (negsuc n) = refl
+
 pub abs-add : (a b : ℤ) → natAbs (a +ℤ b) ≤ natAbs a + natAbs b
 abs-add (pos a) (pos b) = le-refl (a + b)
 abs-add (pos a) (negsuc b) = abs-sub a (suc b)

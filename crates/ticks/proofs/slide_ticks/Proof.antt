@@ -11,12 +11,12 @@ use mir.ValLaws.{toZ-ofZ}
 use Rattle.cells.specs.Line.{line}
 use Rattle.values.specs.Ticks.{ticked}
 use Rattle.cells.specs.Written.{Writing, one-more, ends}
 use Rattle.averages.specs.Averages.{tickMeanLine}
-use Rattle.averages.specs.Whole.{held}
-use Rattle.averages.specs.Ticks.{TickSum, HeldSum, tick-at, sum-small, hold, hold-in, hold-out, ticks-same, tick-cell}
+use Rattle.ticks.specs.Whole.{held}
+use Rattle.ticks.specs.Ticks.{TickSum, HeldSum, tick-at, sum-small, hold, hold-in, hold-out, ticks-same, tick-cell}
 use borrow.Author.Needs.{needs, sfits-of}
-use Rattle.averages.proofs.slide_ticks.Statement.{statement}
-use Rattle.averages.proofs.slide_ticks.Tie as tie
+use Rattle.ticks.proofs.slide_ticks.Statement.{statement}
+use Rattle.ticks.proofs.slide_ticks.Tie as tie
 
 abbrev Inv-loop : tie.InvT-loop
 Inv-loop series n lead out₀ share rest₀ i₀ out rest i =

@@ -4,10 +4,11 @@ use Prim.Native.Nat.{ℕ, _+_, _*_, _/_, _^_, _≤_}
 use native.Mathlib.Nat.{div-le-self}
 use native.Mathlib.Omega.{arith}
 use lib.IntN.{pos, negℤ, natAbs, +ℤ-idl}
-use Rattle.averages.specs.Share.{Shared, sum-near}
-use Rattle.averages.specs.Whole.{in-i64, kept, size-neg, tick-below, tick-above}
-use Rattle.averages.proofs.to_tick.Statement.{statement}
-use Rattle.averages.proofs.to_tick.Tie as tie
+use Rattle.ticks.specs.Share.{Shared, sum-near}
+use Rattle.rounding.specs.Integers.{abs-neg}
+use Rattle.ticks.specs.Whole.{in-i64, kept, tick-below, tick-above}
+use Rattle.ticks.proofs.to_tick.Statement.{statement}
+use Rattle.ticks.proofs.to_tick.Tie as tie
 
 near : {size n share : ℕ} → Shared size n share → size ≤ 2 ^ 40
 near h = let l = sum-near h in omega arith
@@ -39,7 +40,7 @@ sub-result : tie.Need-sub-result
 sub-result c =
     let size = c .before .half-up .result in
     let h = small (c .before) in
-    rw (kept (pos size) h, +ℤ-idl (negℤ (pos size))) (in-i64 (negℤ (pos size)) (rw (size-neg (pos size)) h))
+    rw (kept (pos size) h, +ℤ-idl (negℤ (pos size))) (in-i64 (negℤ (pos size)) (rw (abs-neg (pos size)) h))
 
 returns : tie.Need-returns
 returns c =
@@ -49,7 +50,7 @@ returns c =
     rw (
       kept (pos size) h,
       +ℤ-idl (negℤ (pos size)),
-      kept (negℤ (pos size)) (rw (size-neg (pos size)) h),
+      kept (negℤ (pos size)) (rw (abs-neg (pos size)) h),
       rounded (c .before),
       tick-below (a .sum) (a .n) (rw (kept (a .sum) (near (c .before .before .before .pre))) at (c .if1 .taken)),
     )

@@ -1,9 +1,9 @@
 -- `half_up` meets its contract: the product is the whole share, or one too many. Assumes nothing.
 use native.Mathlib.Omega.{arith}
-use Rattle.averages.specs.Share.{product-fits, back-fits, one-too-many, whole-already}
+use Rattle.ticks.specs.Share.{product-fits, back-fits, one-too-many, whole-already}
 use borrow.Author.Needs.{needs}
-use Rattle.averages.proofs.half_up.Statement.{statement}
-use Rattle.averages.proofs.half_up.Tie as tie
+use Rattle.ticks.proofs.half_up.Statement.{statement}
+use Rattle.ticks.proofs.half_up.Tie as tie
 
 pub half-up-spec : {M : Type 1} → statement M
 half-up-spec =

@@ -1,10 +1,11 @@
 -- `tick_mean` meets its contract: the answer is that of the table, and with a count the cells are written. Assumes nothing.
 use native.Mathlib.Omega.{arith}
 use Rattle.calls.specs.Call.{refused}
-use Rattle.averages.specs.Stages.{tick-room, all-called, none-called}
+use Rattle.averages.specs.Stages.{all-called, none-called}
+use Rattle.ticks.specs.Ticks.{tick-room}
 use borrow.Author.Needs.{needs}
-use Rattle.averages.proofs.tick_mean.Statement.{statement}
-use Rattle.averages.proofs.tick_mean.Tie as tie
+use Rattle.ticks.proofs.tick_mean.Statement.{statement}
+use Rattle.ticks.proofs.tick_mean.Tie as tie
 
 write-tick-means-requires : tie.Need-write-tick-means-requires
 write-tick-means-requires c κs =

@@ -10,11 +10,11 @@ use mir.Val.{toZ}
 use Rattle.cells.specs.Line.{line}
 use Rattle.values.specs.Ticks.{ticked}
 use Rattle.cells.specs.Written.{Writing, none-written, one-more, ends}
-use Rattle.averages.specs.Whole.{held}
-use Rattle.averages.specs.Ticks.{TickSum, HeldSum, tick-at, no-ticks, hold-in, ticks-same}
+use Rattle.ticks.specs.Whole.{held}
+use Rattle.ticks.specs.Ticks.{TickSum, HeldSum, tick-at, no-ticks, hold-in, ticks-same}
 use borrow.Author.Needs.{needs}
-use Rattle.averages.proofs.sum_lead.Statement.{statement}
-use Rattle.averages.proofs.sum_lead.Tie as tie
+use Rattle.ticks.proofs.sum_lead.Statement.{statement}
+use Rattle.ticks.proofs.sum_lead.Tie as tie
 
 abbrev Inv-loop : tie.InvT-loop
 Inv-loop series first out₀ sum₀ i₀ out sum i = (i ≤ first) × Writing i (λ j. pos 0) out₀ out × TickSum series 0 i (toZ w64 sum)

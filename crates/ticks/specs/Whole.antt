@@ -22,24 +22,6 @@ held z = toZ w64 (ofZ w64 z)
 
 pub kept : (z : ℤ) → natAbs z ≤ 2 ^ 40 → held z ≡ z
 kept z h = toZ-ofZ w64 z (in-i64 z h)
-
-pub size-neg : (z : ℤ) → natAbs (negℤ z) ≡ natAbs z
-size-neg (pos zero) = refl
-size-neg (pos (suc n)) = refl
-size-neg (negsuc n) = refl
-
-size-difference : (a b : ℕ) → natAbs (subℕ a b) ≤ a + b
-size-difference a b = go (ltb a b) refl
-  where
-    go : (t : Bool) → ltb a b ≡ t → natAbs (cond t (negsuc (b - suc a)) (pos (a - b))) ≤ a + b
-    go true e = let l = ltb-true a b e in omega arith
-    go false e = omega arith
-
-pub size-sum : (a b : ℤ) → natAbs (a +ℤ b) ≤ natAbs a + natAbs b
-size-sum (pos a) (pos b) = omega arith
-size-sum (pos a) (negsuc b) = size-difference a (suc b)
-size-sum (negsuc a) (pos b) = let h = size-difference b (suc a) in omega arith
-size-sum (negsuc a) (negsuc b) = omega arith
 
 -- ---- the sign, by the code's test
 

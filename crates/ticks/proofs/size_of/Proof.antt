@@ -2,10 +2,10 @@
 use mathlib.Core.Path.{_≡_, refl}
 use native.Mathlib.Omega.{arith}
 use lib.IntN.{pos, natAbs}
-use Rattle.averages.specs.Whole.{in-i64, kept, below-zero, not-below}
+use Rattle.ticks.specs.Whole.{in-i64, kept, below-zero, not-below}
 use borrow.Author.Needs.{needs}
-use Rattle.averages.proofs.size_of.Statement.{statement}
-use Rattle.averages.proofs.size_of.Tie as tie
+use Rattle.ticks.proofs.size_of.Statement.{statement}
+use Rattle.ticks.proofs.size_of.Tie as tie
 
 sub-result : tie.Need-sub-result
 sub-result c =

@@ -12,11 +12,17 @@ use lib.Ieee.{Float, nan, toSigned}
 use mir.Syntax.{w64}
 use mir.Val.{SFits}
 use Rattle.values.specs.Accepted.{tick, all}
+use Rattle.calls.specs.declared.Answer.{Answer}
+use Rattle.calls.specs.declared.Answer.the-variants.{Cells}
+use Rattle.calls.specs.Answer.{answered}
+use Rattle.calls.specs.Room.{room}
 use Rattle.cells.specs.Line.{Line, line, before-bar, from-bar}
 use Rattle.values.specs.Ticks.{ticked}
 use Rattle.cells.specs.Written.{Writing, writing-same}
 use Rattle.averages.specs.Averages.{tickSum, toTick, tickMeanLine}
-use Rattle.averages.specs.Whole.{in-i64, held, kept, size-sum}
+use Rattle.averages.specs.Stages.{window-room}
+use Rattle.rounding.specs.Integers.{abs-add}
+use Rattle.ticks.specs.Whole.{in-i64, held, kept}
 
 -- a series of whole ticks
 pub record Ticks (s : List Float) : Type 0 where
@@ -47,7 +53,7 @@ sum-near s a zero e = omega arith
 sum-near s a (suc k) e =
     let rest = sum-near s a k e in
     let next = near-at s (a + k) e in
-    let join = size-sum (tickSum (line s) a k) (toSigned 63 (line s (a + k))) in
+    let join = abs-add (tickSum (line s) a k) (toSigned 63 (line s (a + k))) in
     omega arith
 
 -- the first tick apart from the others
@@ -157,3 +163,10 @@ lead-cells n r h = writing-same (r .lead) (λ i l. sym (before-bar (n - 1) (pos 
 pub tick-cell : {s : List Float} {z : ℤ} (n i : ℕ) → TickSum s (i + 1 - n) n z → n ≤ i + 1 → toTick z n ≡ tickMeanLine n (line s) i
 unfolding tickMeanLine
 tick-cell n i r h = rw (r .is, from-bar (n - 1) (pos 0) _ i (omega arith))
+
+-- a call of whole ticks that was answered, where there are cells to be written
+pub tick-room : (s : List Float) (n out : ℕ) {r : Answer} {k : ℕ} → r ≡ answered tick s (n ∷ []) out [] → r ≡ Cells k → 0 < k → TickRoom s n out
+tick-room s n out {k = k} e q h =
+    let w = window-room tick s n out e q h in
+    let ticks : Ticks s = record { each = room tick s (n ∷ []) out [] k (sym e ∙ q) .values } in
+    record { some = w .some; short = w .short; room = w .room; ticks = ticks }

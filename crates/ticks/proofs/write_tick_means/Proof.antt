@@ -1,10 +1,10 @@
 -- `write_tick_means` meets its contract: the lead, and the means after it. Assumes nothing.
 use native.Mathlib.Omega.{arith}
 use Rattle.cells.specs.Written.{stands, then-written}
-use Rattle.averages.specs.Ticks.{hold, lead-cells}
+use Rattle.ticks.specs.Ticks.{hold, lead-cells}
 use borrow.Author.Needs.{needs}
-use Rattle.averages.proofs.write_tick_means.Statement.{statement}
-use Rattle.averages.proofs.write_tick_means.Tie as tie
+use Rattle.ticks.proofs.write_tick_means.Statement.{statement}
+use Rattle.ticks.proofs.write_tick_means.Tie as tie
 
 slide-ticks-requires : tie.Need-slide-ticks-requires
 slide-ticks-requires c κs =
