@@ -5,29 +5,15 @@
 use calls::Answer;
 use records::Word;
 use records::stream::Place;
+use same::Call;
 ghost use mathlib.Core.Path.{_≡_};
-ghost use mathlib.Core.Bool.{true, cond};
+ghost use mathlib.Core.Bool.{true};
 ghost use Prim.Native.Nat.{_+_, _%_, _^_, _<_, _≤_};
 ghost use lib.ListN.{length, getD, set};
-ghost use Rattle.calls.specs.Answer.{refusalOf, countOf};
 ghost use Rattle.cells.specs.Written.{Writing};
-ghost use Rattle.same.specs.Agree.{Decides, Same, floats, words};
-ghost use Rattle.replay.specs.Agree.{Left, Runs, wordsOf, Given, Counted};
-
-// The numbers of a recorded call. No function here has more than two parameters.
-struct Call {
-    function: u64,
-    first: usize,
-    second: usize,
-    third: usize,
-    a: u64,
-    b: u64,
-    out: usize,
-    work: usize,
-    refusal: u64,
-    count: u64,
-    cleared: u64,
-}
+ghost use Rattle.same.specs.Agree.{Same, floats, words};
+ghost use Rattle.same.specs.Recorded.{Left, Runs, wordsOf, Given};
+ghost use Rattle.replay.specs.Agree.{Counted};
 
 // What the next record came to: a call that differs 0 times or once, and the place after it.
 enum Step {
@@ -56,34 +42,6 @@ fn call_of(head: &[u64; 13]) -> Call {
     }
 }
 
-// Whether a call's function is here and its slices are no longer than RECORD.md allows.
-fn can_run(call: Call) -> bool
-    ensures { λ r. ⌜ Decides (Runs call) r ⌝ }
-{
-    if call.function < 1 {
-        return false;
-    }
-    if call.function > 9 {
-        return false;
-    }
-    if call.first > 60 {
-        return false;
-    }
-    if call.second > 60 {
-        return false;
-    }
-    if call.third > 60 {
-        return false;
-    }
-    if call.out > 79 {
-        return false;
-    }
-    if call.work > 512 {
-        return false;
-    }
-    true
-}
-
 // Writes the numbers that the words stand for.
 fn write_floats(words: &[u64], cells: &mut [f64])
     requires { ⌜ length (now words) ≤ length (now cells) ⌝ }
@@ -94,19 +52,6 @@ fn write_floats(words: &[u64], cells: &mut [f64])
         cells[i] = records::floats::float_of(words[i]);
         i += 1;
     }
-}
-
-// Whether a call answered what was recorded.
-fn same_answer(call: Call, answer: Answer) -> bool
-    ensures { λ r. ⌜ Decides ((refusalOf answer ≡ call .refusal) × (countOf answer ≡ call .count)) r ⌝ }
-{
-    if calls::refusal_of(answer) != call.refusal {
-        return false;
-    }
-    if calls::count_of(answer) as u64 != call.count {
-        return false;
-    }
-    true
 }
 
 // Calls a function of the library whose cells are f64.
@@ -148,7 +93,7 @@ fn floats_agree(
     ensures { λ r. ⌜ (r ≡ true → Left call (now (recorded .entry)) (now (out .exit)) (now (work .exit))) ⌝ }
 {
     let answer = answer_floats(call, first, second, third, out, work);
-    if same_answer(call, answer) {
+    if same::same_answer(call, answer) {
         if same::same_floats(out, recorded) {
             return same::same_work(work, call.cleared);
         }
@@ -163,7 +108,7 @@ fn ticks_agree(call: Call, series: &[f64], recorded: &[u64], out: &mut [i64]) ->
 {
     let n = call.a as usize;
     let answer = ticks::tick_mean(series, n, out);
-    if same_answer(call, answer) {
+    if same::same_answer(call, answer) {
         return same::same_ticks(out, recorded);
     }
     false
@@ -205,13 +150,6 @@ fn words_agree(call: Call, words: &[u64]) -> bool
     agrees(call, &series[..bars], &words[bars..])
 }
 
-// How often a call differs.
-fn misses(same: bool) -> u64
-    ensures { λ r. ⌜ r ≡ cond same 0 1 ⌝ }
-{
-    if same { 0 } else { 1 }
-}
-
 // Reads the words of a call and runs it.
 fn run_with(call: Call, words: &mut [u64], block: &mut [u8], start: Place) -> Step
     requires { ⌜ Runs call × (length (now words) ≡ wordsOf call) ⌝ }
@@ -222,7 +160,7 @@ fn run_with(call: Call, words: &mut [u64], block: &mut [u8], start: Place) -> St
         return Step::Stop;
     }
     let place = read.place;
-    let differs = misses(words_agree(call, words));
+    let differs = same::misses(words_agree(call, words));
     Step::Run {
         function: call.function,
         differs,
@@ -251,7 +189,7 @@ fn run_next(block: &mut [u8], start: Place) -> Step
     }
     let place = read.place;
     let call = call_of(&head);
-    if can_run(call) {
+    if same::can_run(call) {
         run(call, block, place)
     } else {
         Step::Stop

@@ -1,3 +1,4 @@
--- What it means that cells are those that were recorded.
+-- What it means that a call left what was recorded.
 pub mod Agree
 pub mod Deciding
+pub mod Recorded

@@ -1,8 +1,75 @@
-// Whether cells are those that were recorded.
+// What is recorded of a call, and whether a call left that.
+use calls::Answer;
 ghost use mathlib.Core.Path.{_≡_};
+ghost use mathlib.Core.Bool.{cond};
 ghost use lib.ListN.{length, getD};
+ghost use Rattle.calls.specs.Answer.{refusalOf, countOf};
 ghost use Rattle.cells.specs.Line.{line};
-ghost use Rattle.same.specs.Agree.{Agree, floats, twosComplement, words, workWord, worked};
+ghost use Rattle.same.specs.Agree.{Decides, Agree, floats, twosComplement, words, workWord, worked};
+ghost use Rattle.same.specs.Recorded.{Runs};
+
+// The numbers of a recorded call. No function here has more than two parameters.
+pub struct Call {
+    pub function: u64,
+    pub first: usize,
+    pub second: usize,
+    pub third: usize,
+    pub a: u64,
+    pub b: u64,
+    pub out: usize,
+    pub work: usize,
+    pub refusal: u64,
+    pub count: u64,
+    pub cleared: u64,
+}
+
+// Whether a call's function is here and its slices are no longer than RECORD.md allows.
+pub fn can_run(call: Call) -> bool
+    ensures { λ r. ⌜ Decides (Runs call) r ⌝ }
+{
+    if call.function < 1 {
+        return false;
+    }
+    if call.function > 9 {
+        return false;
+    }
+    if call.first > 60 {
+        return false;
+    }
+    if call.second > 60 {
+        return false;
+    }
+    if call.third > 60 {
+        return false;
+    }
+    if call.out > 79 {
+        return false;
+    }
+    if call.work > 512 {
+        return false;
+    }
+    true
+}
+
+// Whether a call answered what was recorded.
+pub fn same_answer(call: Call, answer: Answer) -> bool
+    ensures { λ r. ⌜ Decides ((refusalOf answer ≡ call .refusal) × (countOf answer ≡ call .count)) r ⌝ }
+{
+    if calls::refusal_of(answer) != call.refusal {
+        return false;
+    }
+    if calls::count_of(answer) as u64 != call.count {
+        return false;
+    }
+    true
+}
+
+// How often a call differs.
+pub fn misses(same: bool) -> u64
+    ensures { λ r. ⌜ r ≡ cond same 0 1 ⌝ }
+{
+    if same { 0 } else { 1 }
+}
 
 // What every output and work cell holds before a call: the pattern of -987654321.125, and a whole number where cells are.
 pub const UNTOUCHED: u64 = 0xc1cd_6f34_5890_0000;

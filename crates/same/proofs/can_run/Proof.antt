@@ -1,9 +1,9 @@
 -- `can_run` meets its contract: a number that is out of its bounds, or none. Assumes nothing.
 use native.Mathlib.Omega.{arith}
 use Rattle.same.specs.Deciding.{holds, fails}
 use borrow.Author.Needs.{needs}
-use Rattle.replay.proofs.can_run.Statement.{statement}
-use Rattle.replay.proofs.can_run.Tie as tie
+use Rattle.same.proofs.can_run.Statement.{statement}
+use Rattle.same.proofs.can_run.Tie as tie
 
 pub can-run-spec : {M : Type 1} → statement M
 can-run-spec =

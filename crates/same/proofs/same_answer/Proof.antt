@@ -1,9 +1,9 @@
 -- `same_answer` meets its contract: the numbers are those of the answer. Assumes nothing.
 use mathlib.Core.Path.{sym, _∙_}
 use Rattle.same.specs.Deciding.{holds, fails}
 use borrow.Author.Needs.{needs}
-use Rattle.replay.proofs.same_answer.Statement.{statement}
-use Rattle.replay.proofs.same_answer.Tie as tie
+use Rattle.same.proofs.same_answer.Statement.{statement}
+use Rattle.same.proofs.same_answer.Tie as tie
 
 returns-3 : tie.Need-returns-3
 returns-3 c =
