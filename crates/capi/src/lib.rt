@@ -9,7 +9,7 @@ ghost use Rattle.cells.specs.Line.{line};
 ghost use Rattle.averages.specs.Averages.{smaLine, emaLine, exponentialLine, exponentialAnswer, tickMeanLine};
 ghost use Rattle.smoothers.specs.Coefficients.{coefficients};
 ghost use Rattle.smoothers.specs.Period.{wholePart};
-ghost use Rattle.smoothers.specs.Range.{trueRangeLine};
+ghost use Rattle.ranges.specs.Range.{trueRangeLine};
 ghost use Rattle.smoothers.specs.Smoother.{smooth, smootherAnswer};
 ghost use Rattle.positions.specs.Rules.{singleLine, doubleLine, doubleAnswer, midLine};
 ghost use Rattle.capi.specs.Numbers.{Numbers, CCall, CWorkCall};

@@ -13,7 +13,7 @@ use Rattle.cells.specs.Line.{line}
 use Rattle.averages.specs.Averages.{smaLine, emaLine, exponentialLine, exponentialAnswer, tickMeanLine}
 use Rattle.smoothers.specs.Coefficients.{coefficients}
 use Rattle.smoothers.specs.Period.{wholePart}
-use Rattle.smoothers.specs.Range.{trueRangeLine}
+use Rattle.ranges.specs.Range.{trueRangeLine}
 use Rattle.smoothers.specs.Smoother.{smooth, smootherAnswer}
 use Rattle.positions.specs.Rules.{singleLine, doubleLine, doubleAnswer, midLine}
 

@@ -18,7 +18,7 @@ use Rattle.cells.specs.Written.{written, getD-written}
 use Rattle.averages.specs.Averages.{causal-sma, causal-ema, causal-exponential, causal-tick-mean, exponentialAnswer}
 use Rattle.smoothers.specs.Coefficients.{coefficients}
 use Rattle.smoothers.specs.Period.{wholePart}
-use Rattle.smoothers.specs.Range.{causal-range}
+use Rattle.ranges.specs.Range.{causal-range}
 use Rattle.smoothers.specs.Smoother.{smootherAnswer, causal-smooth}
 use Rattle.positions.specs.Opened.{double-opened}
 use Rattle.positions.specs.Rules.{causal-single, causal-double, causal-mid}

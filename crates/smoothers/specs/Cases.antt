@@ -18,7 +18,7 @@ use Rattle.smoothers.specs.Recorded.{a1Bits, b1Bits}
 use Rattle.smoothers.specs.Coefficients.{a1Table, b1Table, a1Of, b1Of, ofPair, coefficients}
 use Rattle.smoothers.specs.Period.{isPeriod}
 use Rattle.smoothers.specs.Smoother.{formula, smooth, smootherAnswer}
-use Rattle.smoothers.specs.Range.{trueRange, trueRangeLine}
+use Rattle.ranges.specs.Range.{trueRange, trueRangeLine}
 
 abbrev num : ℕ → Float
 num k = ofInt binary64 (pos k)

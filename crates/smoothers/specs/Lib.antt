@@ -4,5 +4,4 @@ pub mod Coefficients
 pub mod Bounds
 pub mod Period
 pub mod Smoother
-pub mod Range
 pub mod Cases

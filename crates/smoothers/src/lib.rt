@@ -10,14 +10,12 @@ ghost use lib.ListN.{length};
 ghost use Rattle.values.specs.Accepted.{accepted};
 ghost use Rattle.calls.specs.Answer.{checked};
 ghost use Rattle.calls.specs.Call.{Call};
-ghost use Rattle.calls.specs.Room.{Three};
 ghost use Rattle.cells.specs.Line.{line};
 ghost use Rattle.cells.specs.Written.{Writing};
-ghost use Rattle.extremes.specs.Extreme.{larger};
 ghost use Rattle.smoothers.specs.Coefficients.{ofPair, coefficients};
 ghost use Rattle.smoothers.specs.Smoother.{formula, smooth, smootherAnswer, Begun, Smoothed};
 ghost use Rattle.smoothers.specs.Period.{isPeriod, wholePart};
-ghost use Rattle.smoothers.specs.Range.{trueRange, trueRangeLine, Ranging};
+ghost use Rattle.ranges.specs.Range.{trueRangeLine};
 
 // What the smoother's step needs of its period.
 pub struct Coefficients {
@@ -147,54 +145,6 @@ pub fn ultimate_smoother(price: &[f64], period: f64, out: &mut [f64]) -> Answer
     Answer::Refused(Refusal::ParameterNotFinite)
 }
 
-// The larger of two, the first of equals.
-fn larger_of(x: f64, y: f64) -> f64
-    ensures { λ r. ⌜ r ≡ larger x y ⌝ }
-{
-    if x < y { y } else { x }
-}
-
-// The true range of a bar, from the close before it.
-pub fn range_of(high: f64, low: f64, before: f64) -> f64
-    ensures { λ r. ⌜ r ≡ trueRange high low before ⌝ }
-{
-    let above = rounding::magnitude(high - before);
-    let below = rounding::magnitude(low - before);
-    larger_of(larger_of(high - low, above), below)
-}
-
-// Writes the cell of bar 0, which has no close before it.
-fn write_first(high: &[f64], low: &[f64], close_prev: &[f64], out: &mut [f64])
-    requires { ⌜ (0 < length (now high)) × Three (now high) (now low) (now «close_prev») (length (now out)) [] ⌝ }
-    ensures { λ _. ⌜ Ranging 1 (now (high .entry)) (now (low .entry)) (now («close_prev» .entry)) (now (out .entry)) (now (out .exit)) ⌝ }
-{
-    out[0] = high[0] - low[0];
-}
-
-// Writes the cells after bar 0, where that one stands.
-fn write_rest(high: &[f64], low: &[f64], close_prev: &[f64], out: &mut [f64])
-    requires { ⌜ (0 < length (now high)) × Three (now high) (now low) (now «close_prev») (length (now out)) [] ⌝ }
-    requires { ⌜ Ranging 1 (now high) (now low) (now «close_prev») (now out) (now out) ⌝ }
-    ensures { λ _. ⌜ Ranging (length (now (high .entry))) (now (high .entry)) (now (low .entry)) (now («close_prev» .entry)) (now (out .entry)) (now (out .exit)) ⌝ }
-{
-    let mut i = 1;
-    while i < high.len() {
-        out[i] = range_of(high[i], low[i], close_prev[i]);
-        i += 1;
-    }
-}
-
-// Writes the true range of every bar.
-pub fn write_true_range(high: &[f64], low: &[f64], close_prev: &[f64], out: &mut [f64])
-    requires { ⌜ Three (now high) (now low) (now «close_prev») (length (now out)) [] ⌝ }
-    ensures { λ _. ⌜ Ranging (length (now (high .entry))) (now (high .entry)) (now (low .entry)) (now («close_prev» .entry)) (now (out .entry)) (now (out .exit)) ⌝ }
-{
-    if high.len() > 0 {
-        write_first(high, low, close_prev, out);
-        write_rest(high, low, close_prev, out);
-    }
-}
-
 // True range: see `trueRangeLine`.
 pub fn true_range(high: &[f64], low: &[f64], close_prev: &[f64], out: &mut [f64]) -> Answer
     ensures { λ r. ⌜ Call (checked accepted (now (high .entry) ∷ now (low .entry) ∷ now («close_prev» .entry) ∷ []) (length (now (out .entry)) ∷ []) [])
@@ -205,6 +155,6 @@ pub fn true_range(high: &[f64], low: &[f64], close_prev: &[f64], out: &mut [f64]
     if let Answer::Refused(_) = due {
         return due;
     }
-    write_true_range(high, low, close_prev, out);
+    ranges::write_true_range(high, low, close_prev, out);
     Answer::Cells(high.len())
 }

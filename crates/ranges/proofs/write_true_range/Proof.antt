@@ -2,8 +2,8 @@
 use native.Mathlib.Omega.{arith}
 use Rattle.cells.specs.Written.{none-written, ends, stands, then-written}
 use borrow.Author.Needs.{needs}
-use Rattle.smoothers.proofs.write_true_range.Statement.{statement}
-use Rattle.smoothers.proofs.write_true_range.Tie as tie
+use Rattle.ranges.proofs.write_true_range.Statement.{statement}
+use Rattle.ranges.proofs.write_true_range.Tie as tie
 
 returns : tie.Need-returns
 returns c =

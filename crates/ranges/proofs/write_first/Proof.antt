@@ -2,10 +2,10 @@
 use mathlib.Core.Path.{refl}
 use native.Mathlib.Omega.{arith}
 use Rattle.cells.specs.Written.{none-written, one-more}
-use Rattle.smoothers.specs.Range.{trueRangeLine}
+use Rattle.ranges.specs.Range.{trueRangeLine}
 use borrow.Author.Needs.{needs}
-use Rattle.smoothers.proofs.write_first.Statement.{statement}
-use Rattle.smoothers.proofs.write_first.Tie as tie
+use Rattle.ranges.proofs.write_first.Statement.{statement}
+use Rattle.ranges.proofs.write_first.Tie as tie
 
 pub write-first-spec : {M : Type 1} → statement M
 write-first-spec =

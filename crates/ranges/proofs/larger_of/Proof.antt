@@ -1,6 +1,6 @@
 -- `larger_of` meets its contract. Assumes nothing.
-use Rattle.smoothers.proofs.larger_of.Statement.{statement}
-use Rattle.smoothers.proofs.larger_of.Tie as tie
+use Rattle.ranges.proofs.larger_of.Statement.{statement}
+use Rattle.ranges.proofs.larger_of.Tie as tie
 
 pub larger-of-spec : {M : Type 1} → statement M
 larger-of-spec =

@@ -1,8 +1,8 @@
 -- `range_of` meets its contract: the parts are put together as `trueRange` has them. Assumes nothing.
-use Rattle.smoothers.specs.Range.{trueRange}
+use Rattle.ranges.specs.Range.{trueRange}
 use borrow.Author.Needs.{needs}
-use Rattle.smoothers.proofs.range_of.Statement.{statement}
-use Rattle.smoothers.proofs.range_of.Tie as tie
+use Rattle.ranges.proofs.range_of.Statement.{statement}
+use Rattle.ranges.proofs.range_of.Tie as tie
 
 returns : tie.Need-returns
 unfolding trueRange

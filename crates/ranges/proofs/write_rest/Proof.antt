@@ -4,10 +4,10 @@ use Prim.Native.Nat.{_-_, _≤_, _<_}
 use native.Mathlib.Omega.{arith}
 use lib.ListN.{length}
 use Rattle.cells.specs.Written.{one-more, ends}
-use Rattle.smoothers.specs.Range.{Ranging, range-next}
+use Rattle.ranges.specs.Range.{Ranging, range-next}
 use borrow.Author.Needs.{needs}
-use Rattle.smoothers.proofs.write_rest.Statement.{statement}
-use Rattle.smoothers.proofs.write_rest.Tie as tie
+use Rattle.ranges.proofs.write_rest.Statement.{statement}
+use Rattle.ranges.proofs.write_rest.Tie as tie
 
 abbrev Inv-loop : tie.InvT-loop
 Inv-loop high low close-prev out₀ i₀ out i = (0 < i) × (i ≤ length high) × Ranging i high low close-prev out₀ out

@@ -1,0 +1,2 @@
+-- True range.
+pub mod Range
