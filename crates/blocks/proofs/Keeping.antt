@@ -8,7 +8,7 @@ use native.Mathlib.Omega.{arith}
 use lib.ListN.{length, take, drop, set, getD, length-set, length-drop}
 use lib.Seq.{slice, drop-set-lt, drop-drop, take-suc, take-suc-set, getD-drop}
 use Rattle.blocks.specs.Place.{Kept}
-use Rattle.requests.proofs.Places.{take-drop}
+use Rattle.headers.proofs.Places.{take-drop}
 
 -- i bytes are moved, and from there on the block is as it was
 pub record Moved (from : ℕ) (old : List ℕ) (i : ℕ) (now : List ℕ) : Type 0 where

@@ -11,8 +11,8 @@ use borrow.Author.Tests.{eqb-true, eq-eqb, ne-eqb}
 use lib.Dec.{eqb}
 use lib.ListN.{length, take, drop, getD, take-append-drop, length-take, length-drop}
 use lib.Seq.{slice, drop-drop, take-all, take-suc, take-take, length-take-le, getD-take, take-append-le}
-use Rattle.requests.specs.Header.{columned}
-use Rattle.requests.proofs.Places.{take-drop}
+use Rattle.headers.specs.Header.{columned}
+use Rattle.headers.proofs.Places.{take-drop}
 use Rattle.blocks.specs.Place.{finally}
 use Rattle.requests.specs.Sheet.{lengthen, lines, State, stopped, Step, broken, step, ending, outcome}
 

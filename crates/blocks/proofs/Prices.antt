@@ -11,8 +11,8 @@ use lib.Seq.{slice, length-take-le, take-suc-set, drop-drop}
 use lib.Ieee.{Float}
 use Rattle.columns.specs.declared.Price.{Price}
 use Rattle.columns.specs.declared.Price.the-variants.{Ticks, Unpriced}
-use Rattle.requests.specs.declared.Request.{Request}
-use Rattle.requests.specs.Header.{readPriceLine}
+use Rattle.headers.specs.declared.Request.{Request}
+use Rattle.headers.specs.Header.{readPriceLine}
 use Rattle.requests.specs.Sheet.{collecting, broken, settled, gathered, priced, lines, outcome}
 use Rattle.blocks.specs.Place.{finally}
 use Rattle.blocks.proofs.Lines.{finally-broken, line-at}

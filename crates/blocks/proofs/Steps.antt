@@ -13,12 +13,12 @@ use Rattle.columns.specs.declared.Field.{Field}
 use Rattle.columns.specs.declared.Field.the-variants.{Value, Broken}
 use Rattle.columns.specs.Read.{readField}
 use Rattle.blocks.specs.declared.Place.{Place}
-use Rattle.requests.specs.declared.Request.{Request}
+use Rattle.headers.specs.declared.Request.{Request}
 use Rattle.blocks.specs.declared.Stage.{Stage}
 use Rattle.blocks.specs.declared.Stage.the-variants.{Waiting, Collecting, Stopped}
-use Rattle.requests.specs.declared.Header.{Header}
-use Rattle.requests.specs.declared.Header.the-variants.{Asked, Malformed}
-use Rattle.requests.specs.Header.{columned, given, accepted, requestOf, readHeader}
+use Rattle.headers.specs.declared.Header.{Header}
+use Rattle.headers.specs.declared.Header.the-variants.{Asked, Malformed}
+use Rattle.headers.specs.Header.{columned, given, accepted, requestOf, readHeader}
 use Rattle.requests.specs.Sheet.{Step, lines, outcome}
 use Rattle.blocks.specs.Place.{stateOf, owed, Sound, finally, Stepped, Lent, Well, total, Onward}
 

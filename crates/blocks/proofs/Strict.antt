@@ -13,12 +13,12 @@ use Rattle.columns.specs.declared.Field.{Field}
 use Rattle.columns.specs.declared.Field.the-variants.{Value, Broken}
 use Rattle.columns.specs.declared.Price.the-variants.{Unpriced}
 use Rattle.columns.specs.Read.{unpadded, isDigit, numberAfter, number, readField, signed, readPrice, above, below}
-use Rattle.requests.specs.declared.Request.{Request}
-use Rattle.requests.specs.declared.Header.{Header}
-use Rattle.requests.specs.declared.Header.the-variants.{Malformed}
-use Rattle.requests.specs.Header.{columned, given, requestOf, readHeader, readPriceLine}
+use Rattle.headers.specs.declared.Request.{Request}
+use Rattle.headers.specs.declared.Header.{Header}
+use Rattle.headers.specs.declared.Header.the-variants.{Malformed}
+use Rattle.headers.specs.Header.{columned, given, requestOf, readHeader, readPriceLine}
 use Rattle.requests.specs.Sheet.{State, waiting, collecting, begun, priced}
-use Rattle.requests.proofs.Places.{take-drop}
+use Rattle.headers.proofs.Places.{take-drop}
 use Rattle.blocks.proofs.Lines.{noFeed, clean, Reader}
 
 -- a line feed is no digit

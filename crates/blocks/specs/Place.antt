@@ -8,7 +8,7 @@ use lib.ListN.{length, take, drop}
 use lib.Seq.{slice}
 use lib.Ieee.{Float}
 use Rattle.columns.specs.Print.{Adds}
-use Rattle.requests.specs.declared.Request.{Request}
+use Rattle.headers.specs.declared.Request.{Request}
 use Rattle.blocks.specs.declared.Stage.{Stage}
 use Rattle.blocks.specs.declared.Stage.the-variants.{Waiting, Collecting, Stopped}
 use Rattle.blocks.specs.declared.Sheet.{Sheet}

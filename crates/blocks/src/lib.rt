@@ -1,15 +1,16 @@
 // Requests carried through blocks of bytes: what was read of a request before a block ends is kept, and its answer is printed where its last price
 // stands.
 use columns::Price;
+use headers::Header;
+use headers::Request;
 use requests::Counts;
-use requests::Header;
-use requests::Request;
 ghost use mathlib.Core.Path.{_≡_};
 ghost use mathlib.Core.List.{List, _++_};
 ghost use Prim.Native.Nat.{_+_, _-_, _*_, _<_, _≤_, min};
 ghost use lib.Ieee.{Float};
 ghost use lib.ListN.{length, take};
-ghost use Rattle.requests.specs.Answer.{lastLine, oneMore};
+ghost use Rattle.answers.specs.Printed.{lastLine};
+ghost use Rattle.requests.specs.Answer.{oneMore};
 ghost use Rattle.requests.specs.Sheet.{broken, settled, gathered};
 ghost use Rattle.blocks.specs.Place.{Stepped, Ran, Lent, Well, Onward, Fed, Sound, owed, due, Finished, Kept};
 
@@ -55,7 +56,7 @@ fn read_prices(block: &[u8], at: usize, request: Request, got: usize, series: &m
     let mut place = at;
     let mut i = got;
     while i < end {
-        let Price::Ticks(price) = requests::read_price_line(block, place) else {
+        let Price::Ticks(price) = headers::read_price_line(block, place) else {
             return Run {
                 at: place,
                 got: i,
@@ -78,7 +79,7 @@ fn stop(counts: Counts, at: usize, text: &mut [u8], filled: usize) -> Place
     requires { ⌜ filled + 19 ≤ length (now text) ⌝ }
     ensures { λ r. ⌜ ((series : List Float) → Stepped (broken (counts .refused)) series at filled r (now (text .entry)) (now (text .exit))) × (r .sheet .stage ≡ Stage.Stopped) × (r .filled ≡ filled + 19) ⌝ }
 {
-    requests::print_head(text, filled, 0, 0, 10, 0);
+    answers::print_head(text, filled, 0, 0, 10, 0);
     Place {
         sheet: Sheet {
             stage: Stage::Stopped,
@@ -106,7 +107,7 @@ fn settle(
         (now (text .entry)) (now (text .exit))) × (r .sheet .stage ≡ Stage.Waiting) × (r .filled ≤ filled + 19 + 5 * request .bars) ⌝ }
 {
     let given = requests::answer(request, series, out, work);
-    let end = requests::print_answer(text, filled, request, given, out);
+    let end = answers::print_answer(text, filled, request, given, out);
     Place {
         sheet: Sheet {
             stage: Stage::Waiting,
@@ -165,7 +166,7 @@ fn take_header(
     let counts = sheet.counts;
     let at = place.at;
     let filled = place.filled;
-    let Header::Asked(request) = requests::read_header(block, at) else {
+    let Header::Asked(request) = headers::read_header(block, at) else {
         return stop(counts, block.len(), text, filled);
     };
     gather(request, 0, counts, at + 27, series, out, work, text, filled)
@@ -294,9 +295,9 @@ fn print_cut(text: &mut [u8], counts: Counts)
     requires { ⌜ 32 ≤ length (now text) ⌝ }
     ensures { λ _. ⌜ take 32 (now (text .exit)) ≡ broken (counts .refused) .prints ++ lastLine (oneMore (counts .refused)) ⌝ }
 {
-    requests::print_head(text, 0, 0, 0, 10, 0);
+    answers::print_head(text, 0, 0, 0, 10, 0);
     let all = counts.one_more();
-    requests::print_last(text, 19, all.refused);
+    answers::print_last(text, 19, all.refused);
 }
 
 // Prints what is left to print where the input has ended, with `kept` bytes that are too few for a line, and gives how many bytes.
@@ -309,7 +310,7 @@ pub fn finish(sheet: Sheet, kept: usize, text: &mut [u8]) -> usize
     match stage {
         Stage::Waiting => {
             if kept == 0 {
-                requests::print_last(text, 0, counts.refused);
+                answers::print_last(text, 0, counts.refused);
                 13
             } else {
                 print_cut(text, counts);
@@ -321,7 +322,7 @@ pub fn finish(sheet: Sheet, kept: usize, text: &mut [u8]) -> usize
             32
         }
         Stage::Stopped => {
-            requests::print_last(text, 0, counts.refused);
+            answers::print_last(text, 0, counts.refused);
             13
         }
     }

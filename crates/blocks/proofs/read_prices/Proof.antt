@@ -10,7 +10,7 @@ use Rattle.blocks.proofs.read_prices.Statement.{statement}
 use Rattle.blocks.proofs.read_prices.Tie as tie
 use Rattle.blocks.proofs.read_prices.Reads as reads
 use Rattle.blocks.proofs.read_prices.Lts as lts
-use Rattle.requests.proofs.read_price_line.Reads as read-price-line-reads
+use Rattle.headers.proofs.read_price_line.Reads as read-price-line-reads
 use Rattle.blocks.proofs.smaller.Reads as smaller-reads
 
 abbrev Inv-loop : tie.InvT-loop

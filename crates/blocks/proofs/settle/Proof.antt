@@ -7,7 +7,8 @@ use lib.ListN.{take}
 use lib.Seq.{length-take-le}
 use Rattle.calls.specs.Answer.{countOf}
 use Rattle.requests.specs.Answer.{ruleLine}
-use Rattle.requests.proofs.Answers.{rule-most, text-same}
+use Rattle.answers.proofs.Positions.{text-same}
+use Rattle.requests.proofs.Answers.{rule-most}
 use borrow.Author.Needs.{needs}
 use Rattle.blocks.proofs.settle.Statement.{statement}
 use Rattle.blocks.proofs.settle.Tie as tie
@@ -15,7 +16,7 @@ use Rattle.blocks.proofs.settle.Reads as reads
 use Rattle.blocks.proofs.settle.Lts as lts
 use Rattle.requests.proofs.Counts.after.Reads as after-reads
 use Rattle.requests.proofs.answer.Reads as answer-reads
-use Rattle.requests.proofs.print_answer.Reads as print-answer-reads
+use Rattle.answers.proofs.print_answer.Reads as print-answer-reads
 
 -- there are no more positions than prices
 few : (c : tie.After-answer) → countOf (c .answer .result) ≤ c .before .before .before .before .before .before .before .args .request .bars

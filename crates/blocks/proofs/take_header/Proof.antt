@@ -5,7 +5,7 @@ use lib.ListN.{length, length-set}
 use mathlib.Core.List.{List, [], _++_}
 use lib.ListN.{drop}
 use denote.Ref.{now}
-use Rattle.requests.specs.Header.{readHeader}
+use Rattle.headers.specs.Header.{readHeader}
 use Rattle.requests.specs.Sheet.{begun, lines, outcome}
 use Rattle.blocks.specs.Place.{stateOf, finally}
 use Rattle.blocks.proofs.Lines.{line-at, finally-broken}
@@ -17,7 +17,7 @@ use Rattle.blocks.proofs.take_header.Tie as tie
 use Rattle.blocks.proofs.take_header.Reads as reads
 use Rattle.blocks.proofs.take_header.Lts as lts
 use Rattle.blocks.proofs.gather.Reads as gather-reads
-use Rattle.requests.proofs.read_header.Reads as read-header-reads
+use Rattle.headers.proofs.read_header.Reads as read-header-reads
 use Rattle.blocks.proofs.stop.Reads as stop-reads
 
 -- what the line is read as

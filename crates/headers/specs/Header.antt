@@ -10,9 +10,9 @@ use Rattle.columns.specs.declared.Field.the-variants.{Value, Broken}
 use Rattle.columns.specs.declared.Price.{Price}
 use Rattle.columns.specs.declared.Price.the-variants.{Unpriced}
 use Rattle.columns.specs.Read.{readField, readPrice}
-use Rattle.requests.specs.declared.Request.{Request}
-use Rattle.requests.specs.declared.Header.{Header}
-use Rattle.requests.specs.declared.Header.the-variants.{Asked, Malformed}
+use Rattle.headers.specs.declared.Request.{Request}
+use Rattle.headers.specs.declared.Header.{Header}
+use Rattle.headers.specs.declared.Header.the-variants.{Asked, Malformed}
 
 -- so many columns, and then a line feed
 abbrev pub columned : ℕ → List ℕ → Bool

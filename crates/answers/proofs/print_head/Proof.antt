@@ -3,12 +3,12 @@ use Prim.Native.Nat.{ℕ, _+_, _-_, _*_, _≤_, _<_}
 use native.Mathlib.Omega.{arith}
 use lib.ListN.{length, length-set}
 use Rattle.columns.proofs.Printing.{add-byte, add-more}
-use Rattle.requests.specs.Answer.{headLine}
+use Rattle.answers.specs.Printed.{headLine}
 use borrow.Author.Needs.{needs}
-use Rattle.requests.proofs.print_head.Statement.{statement}
-use Rattle.requests.proofs.print_head.Tie as tie
-use Rattle.requests.proofs.print_head.Reads as reads
-use Rattle.requests.proofs.print_head.Lts as lts
+use Rattle.answers.proofs.print_head.Statement.{statement}
+use Rattle.answers.proofs.print_head.Tie as tie
+use Rattle.answers.proofs.print_head.Reads as reads
+use Rattle.answers.proofs.print_head.Lts as lts
 use Rattle.columns.proofs.print_field.Reads as print-field-reads
 
 -- src/lib.rt:131:5

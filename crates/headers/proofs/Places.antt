@@ -9,7 +9,7 @@ use borrow.Author.Tests.{eq-eqb, ne-eqb}
 use lib.Dec.{eqb}
 use lib.ListN.{length, take, drop, getD}
 use lib.Seq.{slice, length-slice, take-take, drop-drop, getD-drop, getD-take, take-nil}
-use Rattle.requests.specs.Header.{columned}
+use Rattle.headers.specs.Header.{columned}
 
 pub take-drop : {A : Type 0} (a k : ℕ) (l : List A) → take k (drop a l) ≡ drop a (take (a + k) l)
 take-drop zero k l = rw zero-add

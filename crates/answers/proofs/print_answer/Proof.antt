@@ -3,16 +3,16 @@ use Prim.Native.Nat.{ℕ, _+_, _-_, _*_, _≤_, _<_}
 use native.Mathlib.Omega.{arith}
 use lib.ListN.{length, length-set}
 use Rattle.columns.proofs.Printing.{add-more}
-use Rattle.requests.specs.Answer.{answerText}
+use Rattle.answers.specs.Printed.{answerText}
 use borrow.Author.Needs.{needs}
-use Rattle.requests.proofs.print_answer.Statement.{statement}
-use Rattle.requests.proofs.print_answer.Tie as tie
-use Rattle.requests.proofs.print_answer.Reads as reads
-use Rattle.requests.proofs.print_answer.Lts as lts
+use Rattle.answers.proofs.print_answer.Statement.{statement}
+use Rattle.answers.proofs.print_answer.Tie as tie
+use Rattle.answers.proofs.print_answer.Reads as reads
+use Rattle.answers.proofs.print_answer.Lts as lts
 use Rattle.calls.proofs.count_of.Reads as count-of-reads
 use Rattle.calls.proofs.refusal_of.Reads as refusal-of-reads
-use Rattle.requests.proofs.print_head.Reads as print-head-reads
-use Rattle.requests.proofs.print_positions.Reads as print-positions-reads
+use Rattle.answers.proofs.print_head.Reads as print-head-reads
+use Rattle.answers.proofs.print_positions.Reads as print-positions-reads
 
 -- src/lib.rt:280:9
 count-of-requires : tie.Need-count-of-requires

@@ -1,15 +1,20 @@
--- The lines of the positions, one after another. Assumes nothing.
+-- The lines of the positions, one after another, and that an answer prints those of its output. Assumes nothing.
 use mathlib.Core.Path.{_≡_, refl}
 use mathlib.Core.List.{List, [], _++_}
-use Prim.Native.Nat.{ℕ, zero, suc, _+_, _*_, _<_}
+use Prim.Native.Nat.{ℕ, zero, suc, _+_, _*_, _<_, _≤_}
 use native.Mathlib.Nat.{add-zero}
 use native.Mathlib.Numerals.{add-one}
 use native.Mathlib.Omega.{arith}
-use lib.Ieee.{Float}
-use Rattle.cells.specs.Line.{Line}
+use lib.ListN.{length}
+use lib.Ieee.{Float, nan}
+use Rattle.calls.specs.declared.Answer.{Answer}
+use Rattle.calls.specs.Answer.{countOf}
+use Rattle.cells.specs.Line.{Line, line}
+use Rattle.cells.specs.Written.{written, getD-written}
 use Rattle.columns.specs.Print.{Adds}
 use Rattle.columns.proofs.Printing.{add-none, add-more}
-use Rattle.requests.specs.Answer.{positionLine, positionLines}
+use Rattle.headers.specs.declared.Request.{Request}
+use Rattle.answers.specs.Printed.{positionLine, positionLines, answerText}
 
 -- the text of the first i positions of f
 pub record Printed (at i : ℕ) (f : Line) (old now : List ℕ) : Type 0 where
@@ -32,3 +37,10 @@ pub positions-same : (k : ℕ) (f g : Line) → ((i : ℕ) → i < k → f i ≡
 unfolding positionLines
 positions-same zero f g h = refl
 positions-same (suc k) f g h = rw (positions-same k f g (λ i l. h i (omega arith)), h k (omega arith))
+
+-- an answer prints what its output holds
+pub text-same : (r : Request) (a : Answer) (f : Line) (old : List Float) → countOf a ≤ length old
+    → answerText r a (line (written (countOf a) f old)) ≡ answerText r a f
+unfolding answerText
+text-same r a f old h =
+    rw (positions-same (countOf a) (line (written (countOf a) f old)) f (λ i l. getD-written (countOf a) f old i nan l (omega arith)))

@@ -4,11 +4,11 @@ use native.Mathlib.Omega.{arith}
 use lib.ListN.{length, length-set}
 use lib.Ieee.{ofBits}
 use borrow.Author.Needs.{needs}
-use Rattle.requests.proofs.print_position.Statement.{statement}
-use Rattle.requests.proofs.print_position.Tie as tie
-use Rattle.requests.proofs.print_position.Reads as reads
-use Rattle.requests.proofs.print_position.Lts as lts
-use Rattle.requests.proofs.print_cell.Reads as print-cell-reads
+use Rattle.answers.proofs.print_position.Statement.{statement}
+use Rattle.answers.proofs.print_position.Tie as tie
+use Rattle.answers.proofs.print_position.Reads as reads
+use Rattle.answers.proofs.print_position.Lts as lts
+use Rattle.answers.proofs.print_cell.Reads as print-cell-reads
 
 -- src/lib.rt:156:9
 print-cell-requires : tie.Need-print-cell-requires

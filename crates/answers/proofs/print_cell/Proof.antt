@@ -4,10 +4,10 @@ use native.Mathlib.Omega.{arith}
 use lib.ListN.{length, length-set}
 use Rattle.columns.proofs.Printing.{add-none, add-byte}
 use borrow.Author.Needs.{needs}
-use Rattle.requests.proofs.print_cell.Statement.{statement}
-use Rattle.requests.proofs.print_cell.Tie as tie
-use Rattle.requests.proofs.print_cell.Reads as reads
-use Rattle.requests.proofs.print_cell.Lts as lts
+use Rattle.answers.proofs.print_cell.Statement.{statement}
+use Rattle.answers.proofs.print_cell.Tie as tie
+use Rattle.answers.proofs.print_cell.Reads as reads
+use Rattle.answers.proofs.print_cell.Lts as lts
 
 -- src/lib.rt:143:5
 slice-write-text : tie.Need-slice-write-text

@@ -4,13 +4,13 @@ use native.Mathlib.Omega.{arith}
 use lib.ListN.{length, length-set}
 use borrow.Author.Tests.{le-leb, lt-leb}
 use mathlib.Core.Bool.{cond}
-use Rattle.requests.specs.declared.Header.the-variants.{Asked, Malformed}
-use Rattle.requests.specs.Header.{accepted, requestOf}
+use Rattle.headers.specs.declared.Header.the-variants.{Asked, Malformed}
+use Rattle.headers.specs.Header.{accepted, requestOf}
 use borrow.Author.Needs.{needs}
-use Rattle.requests.proofs.request_of.Statement.{statement}
-use Rattle.requests.proofs.request_of.Tie as tie
-use Rattle.requests.proofs.request_of.Reads as reads
-use Rattle.requests.proofs.request_of.Lts as lts
+use Rattle.headers.proofs.request_of.Statement.{statement}
+use Rattle.headers.proofs.request_of.Tie as tie
+use Rattle.headers.proofs.request_of.Reads as reads
+use Rattle.headers.proofs.request_of.Lts as lts
 
 -- where every field is a number
 numbers : (c : tie.After-known-told5) →

@@ -4,15 +4,15 @@ use native.Mathlib.Nat.{add-zero}
 use native.Mathlib.Omega.{arith}
 use lib.ListN.{length, length-set}
 use denote.Ref.{now}
-use Rattle.requests.specs.Header.{readHeader}
-use Rattle.requests.proofs.Places.{columns-at, is-columned, not-columned}
+use Rattle.headers.specs.Header.{readHeader}
+use Rattle.headers.proofs.Places.{columns-at, is-columned, not-columned}
 use borrow.Author.Needs.{needs}
-use Rattle.requests.proofs.read_header.Statement.{statement}
-use Rattle.requests.proofs.read_header.Tie as tie
-use Rattle.requests.proofs.read_header.Reads as reads
-use Rattle.requests.proofs.read_header.Lts as lts
+use Rattle.headers.proofs.read_header.Statement.{statement}
+use Rattle.headers.proofs.read_header.Tie as tie
+use Rattle.headers.proofs.read_header.Reads as reads
+use Rattle.headers.proofs.read_header.Lts as lts
 use Rattle.columns.proofs.read_field.Reads as read-field-reads
-use Rattle.requests.proofs.request_of.Reads as request-of-reads
+use Rattle.headers.proofs.request_of.Reads as request-of-reads
 
 -- src/lib.rt:68:47
 add-read-field : tie.Need-add-read-field

@@ -3,13 +3,13 @@ use Prim.Native.Nat.{ℕ, _+_, _-_, _*_, _≤_, _<_}
 use native.Mathlib.Omega.{arith}
 use lib.ListN.{length, length-set}
 use Rattle.cells.specs.Line.{line}
-use Rattle.requests.proofs.Positions.{Printed, none-printed, one-printed}
+use Rattle.answers.proofs.Positions.{Printed, none-printed, one-printed}
 use borrow.Author.Needs.{needs}
-use Rattle.requests.proofs.print_positions.Statement.{statement}
-use Rattle.requests.proofs.print_positions.Tie as tie
-use Rattle.requests.proofs.print_positions.Reads as reads
-use Rattle.requests.proofs.print_positions.Lts as lts
-use Rattle.requests.proofs.print_position.Reads as print-position-reads
+use Rattle.answers.proofs.print_positions.Statement.{statement}
+use Rattle.answers.proofs.print_positions.Tie as tie
+use Rattle.answers.proofs.print_positions.Reads as reads
+use Rattle.answers.proofs.print_positions.Lts as lts
+use Rattle.answers.proofs.print_position.Reads as print-position-reads
 
 abbrev Inv-loop : tie.InvT-loop
 Inv-loop text₀ at cells count i₀ text i = (i ≤ count) × Printed at i (line cells) text₀ text

@@ -4,13 +4,13 @@ use native.Mathlib.Nat.{add-zero}
 use native.Mathlib.Omega.{arith}
 use lib.ListN.{length, length-set}
 use denote.Ref.{now}
-use Rattle.requests.specs.Header.{readPriceLine}
-use Rattle.requests.proofs.Places.{columns-at, is-columned, not-columned}
+use Rattle.headers.specs.Header.{readPriceLine}
+use Rattle.headers.proofs.Places.{columns-at, is-columned, not-columned}
 use borrow.Author.Needs.{needs}
-use Rattle.requests.proofs.read_price_line.Statement.{statement}
-use Rattle.requests.proofs.read_price_line.Tie as tie
-use Rattle.requests.proofs.read_price_line.Reads as reads
-use Rattle.requests.proofs.read_price_line.Lts as lts
+use Rattle.headers.proofs.read_price_line.Statement.{statement}
+use Rattle.headers.proofs.read_price_line.Tie as tie
+use Rattle.headers.proofs.read_price_line.Reads as reads
+use Rattle.headers.proofs.read_price_line.Lts as lts
 use Rattle.columns.proofs.read_price.Reads as read-price-reads
 
 -- src/lib.rt:85:14
