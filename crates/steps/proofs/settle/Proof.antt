@@ -10,10 +10,10 @@ use Rattle.requests.specs.Answer.{ruleLine}
 use Rattle.answers.proofs.Positions.{text-same}
 use Rattle.requests.proofs.Answers.{rule-most}
 use borrow.Author.Needs.{needs}
-use Rattle.blocks.proofs.settle.Statement.{statement}
-use Rattle.blocks.proofs.settle.Tie as tie
-use Rattle.blocks.proofs.settle.Reads as reads
-use Rattle.blocks.proofs.settle.Lts as lts
+use Rattle.steps.proofs.settle.Statement.{statement}
+use Rattle.steps.proofs.settle.Tie as tie
+use Rattle.steps.proofs.settle.Reads as reads
+use Rattle.steps.proofs.settle.Lts as lts
 use Rattle.requests.proofs.Counts.after.Reads as after-reads
 use Rattle.requests.proofs.answer.Reads as answer-reads
 use Rattle.answers.proofs.print_answer.Reads as print-answer-reads

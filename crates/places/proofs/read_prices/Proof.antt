@@ -2,16 +2,16 @@ use mathlib.Core.Path.{_≡_, refl, sym, ap, _∙_, subst}
 use Prim.Native.Nat.{ℕ, _+_, _-_, _*_, _≤_, _<_}
 use native.Mathlib.Omega.{arith}
 use lib.ListN.{length, length-set}
-use Rattle.blocks.proofs.Prices.{Gathering, none-gathered, one-gathered, one-broken}
+use Rattle.places.proofs.Prices.{Gathering, none-gathered, one-gathered, one-broken}
 use mathlib.Core.Bool.{false≢true}
 use borrow.Author.Count.{falls}
 use borrow.Author.Needs.{needs}
-use Rattle.blocks.proofs.read_prices.Statement.{statement}
-use Rattle.blocks.proofs.read_prices.Tie as tie
-use Rattle.blocks.proofs.read_prices.Reads as reads
-use Rattle.blocks.proofs.read_prices.Lts as lts
+use Rattle.places.proofs.read_prices.Statement.{statement}
+use Rattle.places.proofs.read_prices.Tie as tie
+use Rattle.places.proofs.read_prices.Reads as reads
+use Rattle.places.proofs.read_prices.Lts as lts
 use Rattle.headers.proofs.read_price_line.Reads as read-price-line-reads
-use Rattle.blocks.proofs.smaller.Reads as smaller-reads
+use Rattle.places.proofs.smaller.Reads as smaller-reads
 
 abbrev Inv-loop : tie.InvT-loop
 Inv-loop block at got series₀ end place₀ i₀ series place i =

@@ -7,7 +7,7 @@ use native.Mathlib.Numerals.{add-one}
 use native.Mathlib.Omega.{arith}
 use lib.ListN.{length, take, drop, set, getD, length-set, length-drop}
 use lib.Seq.{slice, drop-set-lt, drop-drop, take-suc, take-suc-set, getD-drop}
-use Rattle.blocks.specs.Place.{Kept}
+use Rattle.places.specs.Place.{Kept}
 use Rattle.headers.proofs.Places.{take-drop}
 
 -- i bytes are moved, and from there on the block is as it was

@@ -7,18 +7,18 @@ use lib.ListN.{drop}
 use denote.Ref.{now}
 use Rattle.headers.specs.Header.{readHeader}
 use Rattle.requests.specs.Sheet.{begun, lines, outcome}
-use Rattle.blocks.specs.Place.{stateOf, finally}
-use Rattle.blocks.proofs.Lines.{line-at, finally-broken}
-use Rattle.blocks.proofs.Strict.{header-reader}
-use Rattle.blocks.proofs.Steps.{onward, header-small}
+use Rattle.places.specs.Place.{stateOf, finally}
+use Rattle.places.proofs.Lines.{line-at, finally-broken}
+use Rattle.places.proofs.Strict.{header-reader}
+use Rattle.steps.proofs.Steps.{onward, header-small}
 use borrow.Author.Needs.{needs}
-use Rattle.blocks.proofs.take_header.Statement.{statement}
-use Rattle.blocks.proofs.take_header.Tie as tie
-use Rattle.blocks.proofs.take_header.Reads as reads
-use Rattle.blocks.proofs.take_header.Lts as lts
-use Rattle.blocks.proofs.gather.Reads as gather-reads
+use Rattle.steps.proofs.take_header.Statement.{statement}
+use Rattle.steps.proofs.take_header.Tie as tie
+use Rattle.steps.proofs.take_header.Reads as reads
+use Rattle.steps.proofs.take_header.Lts as lts
+use Rattle.steps.proofs.gather.Reads as gather-reads
 use Rattle.headers.proofs.read_header.Reads as read-header-reads
-use Rattle.blocks.proofs.stop.Reads as stop-reads
+use Rattle.places.proofs.stop.Reads as stop-reads
 
 -- what the line is read as
 read : (c : tie.After-read-header) (more : List ℕ) →

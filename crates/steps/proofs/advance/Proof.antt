@@ -2,14 +2,14 @@ use mathlib.Core.Path.{_≡_, refl, sym, ap, _∙_, subst}
 use Prim.Native.Nat.{ℕ, _+_, _-_, _*_, _≤_, _<_}
 use native.Mathlib.Omega.{arith}
 use lib.ListN.{length, length-set}
-use Rattle.blocks.proofs.Lines.{outcome-stopped}
+use Rattle.places.proofs.Lines.{outcome-stopped}
 use borrow.Author.Needs.{needs}
-use Rattle.blocks.proofs.advance.Statement.{statement}
-use Rattle.blocks.proofs.advance.Tie as tie
-use Rattle.blocks.proofs.advance.Reads as reads
-use Rattle.blocks.proofs.advance.Lts as lts
-use Rattle.blocks.proofs.take_header.Reads as take-header-reads
-use Rattle.blocks.proofs.take_prices.Reads as take-prices-reads
+use Rattle.steps.proofs.advance.Statement.{statement}
+use Rattle.steps.proofs.advance.Tie as tie
+use Rattle.steps.proofs.advance.Reads as reads
+use Rattle.steps.proofs.advance.Lts as lts
+use Rattle.steps.proofs.take_header.Reads as take-header-reads
+use Rattle.steps.proofs.take_prices.Reads as take-prices-reads
 
 -- src/lib.rt:369:53
 enum-told : tie.Need-enum-told

@@ -1,26 +1,25 @@
 -- From a step that was made to what holds of the whole output. Assumes nothing.
-use mathlib.Core.Path.{_≡_, refl, sym, _∙_}
+use mathlib.Core.Path.{_≡_, refl}
 use mathlib.Core.Bool.{Bool, true, false, cond, _&&_, false≢true}
 use mathlib.Core.List.{List, _++_, append-assoc}
-use Prim.Native.Nat.{ℕ, _+_, _<_, _≤_}
+use Prim.Native.Nat.{ℕ, _<_, _≤_}
 use native.Mathlib.Omega.{arith}
 use borrow.Author.Tests.{leb-true}
 use lib.Dec.{leb}
-use lib.ListN.{length, take, drop}
+use lib.ListN.{drop}
 use lib.Seq.{slice}
 use lib.Ieee.{Float}
 use Rattle.columns.specs.declared.Field.{Field}
 use Rattle.columns.specs.declared.Field.the-variants.{Value, Broken}
 use Rattle.columns.specs.Read.{readField}
-use Rattle.blocks.specs.declared.Place.{Place}
+use Rattle.places.specs.declared.Place.{Place}
 use Rattle.headers.specs.declared.Request.{Request}
-use Rattle.blocks.specs.declared.Stage.{Stage}
-use Rattle.blocks.specs.declared.Stage.the-variants.{Waiting, Collecting, Stopped}
 use Rattle.headers.specs.declared.Header.{Header}
 use Rattle.headers.specs.declared.Header.the-variants.{Asked, Malformed}
 use Rattle.headers.specs.Header.{columned, given, accepted, requestOf, readHeader}
 use Rattle.requests.specs.Sheet.{Step, lines, outcome}
-use Rattle.blocks.specs.Place.{stateOf, owed, Sound, finally, Stepped, Lent, Well, total, Onward}
+use Rattle.places.specs.Place.{stateOf, finally, Stepped}
+use Rattle.steps.specs.Onward.{Well, Onward}
 
 -- Where the lines from p on come to the step t and the lines from `at` on, making that step goes onward.
 pub onward : {block : List ℕ} {p q : Place} {series series′ : List Float} {text text′ : List ℕ} {t : Step} {at : ℕ}
@@ -64,19 +63,3 @@ pub header-small : (line : List ℕ) (r : Request) → readHeader line ≡ Asked
 unfolding readHeader
 header-small line =
     cond-small (columned 26 line) (λ e. request-small (readField (slice 0 4 line)) (readField (slice 4 8 line)) (readField (slice 8 14 line)) (readField (slice 14 20 line)) (readField (slice 20 26 line))) no-request .few
-
--- ---- a block, line after line
-
--- What the loop that reads a block keeps.
-pub record Feeding (block : List ℕ) (p : Place) (series : List Float) (text : List ℕ) (q : Place) (series′ out′ work′ : List Float) (text′ : List ℕ) :
-    Type 0 where
-  pub same : (more : List ℕ) → total block p series text more ≡ total block q series′ text′ more
-  pub well : Well block q
-  pub lent : Lent block series′ out′ work′ text′
-  pub long : length text′ ≡ length text
-
--- what a request owes has room in the text of a block of its own
-pub owed-few : (stage : Stage) → Sound stage → owed stage ≤ 2579
-owed-few Waiting s = omega arith
-owed-few (Collecting r got) s = omega arith
-owed-few Stopped s = omega arith

@@ -2,12 +2,12 @@ use mathlib.Core.Path.{_≡_, refl, sym, ap, _∙_, subst}
 use Prim.Native.Nat.{ℕ, _+_, _-_, _*_, _≤_, _<_}
 use native.Mathlib.Omega.{arith}
 use lib.ListN.{length, length-set}
-use Rattle.blocks.proofs.Keeping.{Moved, none-moved, one-moved, all-moved}
+use Rattle.places.proofs.Keeping.{Moved, none-moved, one-moved, all-moved}
 use borrow.Author.Needs.{needs}
-use Rattle.blocks.proofs.keep.Statement.{statement}
-use Rattle.blocks.proofs.keep.Tie as tie
-use Rattle.blocks.proofs.keep.Reads as reads
-use Rattle.blocks.proofs.keep.Lts as lts
+use Rattle.places.proofs.keep.Statement.{statement}
+use Rattle.places.proofs.keep.Tie as tie
+use Rattle.places.proofs.keep.Reads as reads
+use Rattle.places.proofs.keep.Lts as lts
 
 abbrev Inv-loop : tie.InvT-loop
 Inv-loop block₀ from to kept i₀ block i = (i ≤ kept) × (from + kept ≤ length block₀) × Moved from block₀ i block

@@ -6,16 +6,16 @@ use mathlib.Core.List.{List, [], _++_}
 use lib.ListN.{drop}
 use denote.Ref.{now}
 use Rattle.requests.specs.Sheet.{lines}
-use Rattle.blocks.proofs.Lines.{finally-broken}
-use Rattle.blocks.proofs.Steps.{onward}
+use Rattle.places.proofs.Lines.{finally-broken}
+use Rattle.steps.proofs.Steps.{onward}
 use borrow.Author.Needs.{needs}
-use Rattle.blocks.proofs.take_prices.Statement.{statement}
-use Rattle.blocks.proofs.take_prices.Tie as tie
-use Rattle.blocks.proofs.take_prices.Reads as reads
-use Rattle.blocks.proofs.take_prices.Lts as lts
-use Rattle.blocks.proofs.gather.Reads as gather-reads
-use Rattle.blocks.proofs.read_prices.Reads as read-prices-reads
-use Rattle.blocks.proofs.stop.Reads as stop-reads
+use Rattle.steps.proofs.take_prices.Statement.{statement}
+use Rattle.steps.proofs.take_prices.Tie as tie
+use Rattle.steps.proofs.take_prices.Reads as reads
+use Rattle.steps.proofs.take_prices.Lts as lts
+use Rattle.steps.proofs.gather.Reads as gather-reads
+use Rattle.places.proofs.read_prices.Reads as read-prices-reads
+use Rattle.places.proofs.stop.Reads as stop-reads
 
 -- src/lib.rt:352:9
 read-prices-requires : tie.Need-read-prices-requires

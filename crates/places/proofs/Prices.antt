@@ -14,9 +14,9 @@ use Rattle.columns.specs.declared.Price.the-variants.{Ticks, Unpriced}
 use Rattle.headers.specs.declared.Request.{Request}
 use Rattle.headers.specs.Header.{readPriceLine}
 use Rattle.requests.specs.Sheet.{collecting, broken, settled, gathered, priced, lines, outcome}
-use Rattle.blocks.specs.Place.{finally}
-use Rattle.blocks.proofs.Lines.{finally-broken, line-at}
-use Rattle.blocks.proofs.Strict.{price-reader}
+use Rattle.places.specs.Place.{finally}
+use Rattle.places.proofs.Lines.{finally-broken, line-at}
+use Rattle.places.proofs.Strict.{price-reader}
 
 module _ (k : ℕ) (r : Request) (series : List Float) (got : ℕ) (h : got ≤ length series) where
   -- some price is missing: the request waits for it

@@ -13,7 +13,7 @@ use lib.ListN.{length, take, drop, getD, take-append-drop, length-take, length-d
 use lib.Seq.{slice, drop-drop, take-all, take-suc, take-take, length-take-le, getD-take, take-append-le}
 use Rattle.headers.specs.Header.{columned}
 use Rattle.headers.proofs.Places.{take-drop}
-use Rattle.blocks.specs.Place.{finally}
+use Rattle.places.specs.Place.{finally}
 use Rattle.requests.specs.Sheet.{lengthen, lines, State, stopped, Step, broken, step, ending, outcome}
 
 -- no line feed

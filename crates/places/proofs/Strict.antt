@@ -19,7 +19,7 @@ use Rattle.headers.specs.declared.Header.the-variants.{Malformed}
 use Rattle.headers.specs.Header.{columned, given, requestOf, readHeader, readPriceLine}
 use Rattle.requests.specs.Sheet.{State, waiting, collecting, begun, priced}
 use Rattle.headers.proofs.Places.{take-drop}
-use Rattle.blocks.proofs.Lines.{noFeed, clean, Reader}
+use Rattle.places.proofs.Lines.{noFeed, clean, Reader}
 
 -- a line feed is no digit
 digits-fed : (digits : List ℕ) (v : ℕ) → noFeed digits ≡ false → numberAfter v digits ≡ Broken

@@ -4,13 +4,13 @@ use native.Mathlib.Omega.{arith}
 use lib.ListN.{length, length-set}
 use denote.Ref.{now}
 use Rattle.columns.proofs.Printing.{add-none}
-use Rattle.blocks.proofs.Prices.{waits, all-there}
+use Rattle.places.proofs.Prices.{waits, all-there}
 use borrow.Author.Needs.{needs}
-use Rattle.blocks.proofs.gather.Statement.{statement}
-use Rattle.blocks.proofs.gather.Tie as tie
-use Rattle.blocks.proofs.gather.Reads as reads
-use Rattle.blocks.proofs.gather.Lts as lts
-use Rattle.blocks.proofs.settle.Reads as settle-reads
+use Rattle.steps.proofs.gather.Statement.{statement}
+use Rattle.steps.proofs.gather.Tie as tie
+use Rattle.steps.proofs.gather.Reads as reads
+use Rattle.steps.proofs.gather.Lts as lts
+use Rattle.steps.proofs.settle.Reads as settle-reads
 
 -- src/lib.rt:313:9
 settle-requires : tie.Need-settle-requires
