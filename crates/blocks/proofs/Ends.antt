@@ -5,11 +5,12 @@ use Prim.Native.Nat.{ℕ, _<_, _≤_}
 use native.Mathlib.Omega.{arith}
 use lib.ListN.{length}
 use lib.Ieee.{Float}
-use Rattle.requests.specs.declared.Request.{Request}
-use Rattle.requests.specs.Answer.{lastLine, oneMore}
+use Rattle.headers.specs.declared.Request.{Request}
+use Rattle.answers.specs.Printed.{lastLine}
+use Rattle.requests.specs.Answer.{oneMore}
 use Rattle.requests.specs.Sheet.{State, waiting, collecting, stopped, broken, lines, ending, outcome}
-use Rattle.blocks.proofs.Lines.{Reader, short-line, outcome-stopped}
-use Rattle.blocks.proofs.Strict.{header-reader, price-reader}
+use Rattle.places.proofs.Lines.{Reader, short-line, outcome-stopped}
+use Rattle.places.proofs.Strict.{header-reader, price-reader}
 
 -- the refusal 10 and the last line
 abbrev cut : ℕ → List ℕ

@@ -1,3 +1,3 @@
 -- Requests carried through blocks of bytes.
-pub mod Place
+pub mod Block
 pub mod Whole

@@ -6,10 +6,11 @@ use lib.ListN.{length, take, drop}
 use lib.Ieee.{Float}
 use Rattle.requests.specs.Sheet.{stopped, lines, ending, outcome}
 use Rattle.requests.specs.Sheet as requests
-use Rattle.blocks.specs.declared.Stage.the-variants.{Waiting, Stopped}
-use Rattle.blocks.specs.declared.Sheet.{Sheet}
-use Rattle.blocks.specs.declared.Place.{Place}
-use Rattle.blocks.specs.Place.{stateOf, Fed, Finished}
+use Rattle.places.specs.declared.Stage.the-variants.{Waiting, Stopped}
+use Rattle.places.specs.declared.Sheet.{Sheet}
+use Rattle.places.specs.declared.Place.{Place}
+use Rattle.places.specs.Place.{stateOf}
+use Rattle.blocks.specs.Block.{Fed, Finished}
 
 -- A sheet is read on: `kept` are the bytes that the blocks so far left, `input` is what is still to be read, and `out` is what is written for both.
 pub data Read : Sheet → List Float → List ℕ → List ℕ → List ℕ → Type 0 where

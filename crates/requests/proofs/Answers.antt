@@ -1,24 +1,20 @@
--- How many positions an answer has, and that they are those of the output. Assumes nothing.
-use mathlib.Core.Path.{_≡_, refl, sym, _∙_}
+-- How many positions an answer has. Assumes nothing.
 use mathlib.Core.Bool.{Bool, true, false, cond}
 use mathlib.Core.List.{List, [], _∷_}
-use Prim.Native.Nat.{ℕ, _<_, _≤_}
+use Prim.Native.Nat.{ℕ, _≤_}
 use native.Mathlib.Omega.{arith}
 use lib.Dec.{leb, ltb, eqb}
 use lib.ListN.{length}
-use lib.Ieee.{Float, nan}
+use lib.Ieee.{Float}
 use Rattle.calls.specs.declared.Refusal.{Refusal}
 use Rattle.calls.specs.declared.Refusal.the-variants.{WindowTooLong, WindowsOutOfOrder}
 use Rattle.calls.specs.declared.Answer.{Answer}
 use Rattle.calls.specs.declared.Answer.the-variants.{Cells, Refused}
 use Rattle.values.specs.Accepted.{accepted, all}
 use Rattle.calls.specs.Answer.{anyZero, countOf, unless, andThen, emptyIf, checked, windowed, answered}
-use Rattle.cells.specs.Line.{Line, line}
-use Rattle.cells.specs.Written.{written, getD-written}
 use Rattle.positions.specs.Rules.{doubleAnswer}
-use Rattle.requests.specs.declared.Request.{Request}
-use Rattle.requests.specs.Answer.{byRule, ruleAnswer, answerText}
-use Rattle.requests.proofs.Positions.{positions-same}
+use Rattle.headers.specs.declared.Request.{Request}
+use Rattle.requests.specs.Answer.{byRule, ruleAnswer}
 
 -- an answer has at most n positions
 record AtMost (n : ℕ) (a : Answer) : Type 0 where
@@ -69,10 +65,3 @@ pub rule-most : (r : Request) (prices : List Float) → countOf (ruleAnswer r pr
 unfolding ruleAnswer
 rule-most r prices =
     byRule-most (r .rule) _ _ _ (answered-most _ prices _ 512 _) (double-most prices (r .n) (r .m) 512) (answered-most _ prices _ 512 _) .few
-
--- an answer prints what its output holds
-pub text-same : (r : Request) (a : Answer) (f : Line) (old : List Float) → countOf a ≤ length old
-    → answerText r a (line (written (countOf a) f old)) ≡ answerText r a f
-unfolding answerText
-text-same r a f old h =
-    rw (positions-same (countOf a) (line (written (countOf a) f old)) f (λ i l. getD-written (countOf a) f old i nan l (omega arith)))

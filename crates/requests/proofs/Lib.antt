@@ -1,3 +1,1 @@
-pub mod Places
-pub mod Positions
 pub mod Answers

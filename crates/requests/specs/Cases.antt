@@ -1,7 +1,6 @@
--- Small cases, by computation: lines, and whole sheets with document 01's example. Assumes nothing.
+-- Small cases, by computation: whole sheets with document 01's example. Assumes nothing.
 use mathlib.Core.Path.{_≡_, refl}
-use mathlib.Core.List.{List, [], _∷_, map}
-use lib.ListN.{replicate}
+use mathlib.Core.List.{[], _∷_, map}
 use lib.Ieee.{add, sub, div, ofInt, lt, eq, le, toBits}
 use Rattle.rounding.specs.Leaves.{signOf}
 use Rattle.values.specs.Accepted.{accepted}
@@ -14,34 +13,10 @@ use Rattle.positions.specs.Rules.{singleLine, runningMean, doubleLine, doubleAn
 use Rattle.columns.specs.Text.{bytes}
 use Rattle.columns.specs.Read.{number, readField, signed, readPrice}
 use Rattle.columns.specs.Print.{printField}
-use Rattle.requests.specs.declared.Header.{Header}
-use Rattle.requests.specs.declared.Header.the-variants.{Asked, Malformed}
-use Rattle.requests.specs.Header.{requestOf, readHeader, readPriceLine}
-use Rattle.requests.specs.Answer.{ruleAnswer, ruleLine, headLine, positionLines, answerText, lastLine}
+use Rattle.headers.specs.Header.{requestOf, readHeader, readPriceLine}
+use Rattle.answers.specs.Printed.{headLine, positionLines, answerText, lastLine}
+use Rattle.requests.specs.Answer.{ruleAnswer, ruleLine}
 use Rattle.requests.specs.Sheet.{lines, gathered, ending, outcome, sheet}
-
-header : readHeader (bytes "   7   2     1     2     4\n") ≡ Asked (record { desk = 7; rule = 2; n = 1; m = 2; bars = 4 })
-unfolding readHeader requestOf readField number
-header = refl
-
--- a blank field, a rule that is none, 513 bars, a column more, a column fewer, no line feed, a carriage return, a sign
-malformed :
-    map (λ line. readHeader (bytes line))
-    (
-    "       2     1     2     4\n"
-    ∷ "   7   4     1     2     4\n"
-    ∷ "   7   0     1     2     4\n"
-    ∷ "   7   2     1     2   513\n"
-    ∷ "    7   2     1     2     4\n"
-    ∷ "  7   2     1     2     4\n"
-    ∷ "   7   2     1     2     4"
-    ∷ "   7   2     1     2     4\r\n"
-    ∷ "   7   2    -1     2     4\n"
-    ∷ []
-    )
-    ≡ replicate 9 Malformed
-unfolding readHeader requestOf readField number
-malformed = refl
 
 -- document 01's example
 example :

@@ -1,5 +1,4 @@
--- The sheet's requests: what a line says, what an answer prints, and what the program writes for a whole input.
-pub mod Header
+-- The sheet's requests: how one is answered, and what the program writes for a whole input.
 pub mod Answer
 pub mod Sheet
 pub mod Cases

@@ -7,11 +7,12 @@ use lib.ListN.{length}
 use lib.Ieee.{Float}
 use Rattle.columns.specs.declared.Price.{Price}
 use Rattle.columns.specs.declared.Price.the-variants.{Ticks, Unpriced}
-use Rattle.requests.specs.declared.Request.{Request}
-use Rattle.requests.specs.declared.Header.{Header}
-use Rattle.requests.specs.declared.Header.the-variants.{Asked, Malformed}
-use Rattle.requests.specs.Header.{readHeader, readPriceLine}
-use Rattle.requests.specs.Answer.{ruleAnswer, ruleLine, headLine, answerText, lastLine, oneMore, refusedAfter}
+use Rattle.headers.specs.declared.Request.{Request}
+use Rattle.headers.specs.declared.Header.{Header}
+use Rattle.headers.specs.declared.Header.the-variants.{Asked, Malformed}
+use Rattle.headers.specs.Header.{readHeader, readPriceLine}
+use Rattle.answers.specs.Printed.{headLine, answerText, lastLine}
+use Rattle.requests.specs.Answer.{ruleAnswer, ruleLine, oneMore, refusedAfter}
 
 -- ---- the lines
 

@@ -2,10 +2,11 @@
 use mathlib.Core.Path.{_≡_}
 use Prim.Native.Nat.{ℕ, _<_, _≤_}
 use native.Mathlib.Omega.{arith}
-use Rattle.blocks.specs.declared.Stage.{Stage}
-use Rattle.blocks.specs.declared.Stage.the-variants.{Waiting, Collecting, Stopped}
-use Rattle.blocks.specs.declared.Sheet.{Sheet}
-use Rattle.blocks.specs.Place.{due, Between}
+use Rattle.places.specs.declared.Stage.{Stage}
+use Rattle.places.specs.declared.Stage.the-variants.{Waiting, Collecting, Stopped}
+use Rattle.places.specs.declared.Sheet.{Sheet}
+use Rattle.places.specs.Place.{due}
+use Rattle.blocks.specs.Block.{Between}
 
 due-few : (stage : Stage) → due stage ≤ 27
 due-few Waiting = omega arith

@@ -1,13 +1,13 @@
 // The sheet program: requests on standard input, answers on standard output. All that it reads and prints is the work of `requests`;
 // here are the buffers, and the loop that reads blocks, feeds them and writes.
-use blocks::Sheet;
-use blocks::Stage;
 use libc::STDIN_FILENO;
 use libc::STDOUT_FILENO;
+use places::Sheet;
+use places::Stage;
 ghost use mathlib.Core.Path.{_≡_};
 ghost use Prim.Native.Nat.{_≤_};
 ghost use lib.ListN.{length, take};
-ghost use Rattle.blocks.specs.Place.{Between};
+ghost use Rattle.blocks.specs.Block.{Between};
 ghost use Rattle.sheet.specs.Buffers.{Buffers};
 
 // What is carried from one block to the next: the sheet, the bytes kept at the front of the block, and whether to read on.
@@ -73,7 +73,7 @@ fn turn(
     let at = place.at;
     let next = place.sheet;
     let written = io::write_all(STDOUT_FILENO, &text[..filled]);
-    let left = blocks::keep(block, at, end);
+    let left = places::keep(block, at, end);
     Carried {
         sheet: next,
         kept: left,

@@ -3,13 +3,13 @@ use Prim.Native.Nat.{ℕ, _+_, _-_, _*_, _≤_, _<_}
 use native.Mathlib.Nat.{zero-add}
 use native.Mathlib.Omega.{arith}
 use lib.ListN.{length, length-set}
-use Rattle.blocks.proofs.Steps.{Feeding, owed-few}
+use Rattle.blocks.proofs.Feeding.{Feeding, owed-few}
 use borrow.Author.Needs.{needs}
 use Rattle.blocks.proofs.feed.Statement.{statement}
 use Rattle.blocks.proofs.feed.Tie as tie
 use Rattle.blocks.proofs.feed.Reads as reads
 use Rattle.blocks.proofs.feed.Lts as lts
-use Rattle.blocks.proofs.advance.Reads as advance-reads
+use Rattle.steps.proofs.advance.Reads as advance-reads
 use Rattle.blocks.proofs.wanted.Reads as wanted-reads
 
 abbrev Inv-loop : tie.InvT-loop

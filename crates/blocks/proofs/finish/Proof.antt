@@ -9,7 +9,7 @@ use Rattle.blocks.proofs.finish.Tie as tie
 use Rattle.blocks.proofs.finish.Reads as reads
 use Rattle.blocks.proofs.finish.Lts as lts
 use Rattle.blocks.proofs.print_cut.Reads as print-cut-reads
-use Rattle.requests.proofs.print_last.Reads as print-last-reads
+use Rattle.answers.proofs.print_last.Reads as print-last-reads
 
 -- src/lib.rt:294:16
 enum-told : tie.Need-enum-told

@@ -9,8 +9,8 @@ use Rattle.blocks.proofs.print_cut.Tie as tie
 use Rattle.blocks.proofs.print_cut.Reads as reads
 use Rattle.blocks.proofs.print_cut.Lts as lts
 use Rattle.requests.proofs.Counts.one_more.Reads as one-more-reads
-use Rattle.requests.proofs.print_head.Reads as print-head-reads
-use Rattle.requests.proofs.print_last.Reads as print-last-reads
+use Rattle.answers.proofs.print_head.Reads as print-head-reads
+use Rattle.answers.proofs.print_last.Reads as print-last-reads
 
 -- src/lib.rt:279:5
 print-head-requires : tie.Need-print-head-requires

@@ -5,7 +5,7 @@ use lib.ListN.{length, length-set}
 use denote.Ref.{now}
 use lib.ListN.{take}
 use lib.Seq.{length-take-le}
-use Rattle.blocks.specs.Place.{Between}
+use Rattle.blocks.specs.Block.{Between}
 use Rattle.sheet.specs.Buffers.{Buffers}
 use borrow.Author.Count.{falls-down}
 use borrow.Author.Needs.{needs}

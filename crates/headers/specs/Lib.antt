@@ -1,0 +1,3 @@
+-- What a line of a request says.
+pub mod Header
+pub mod Cases

@@ -1,0 +1,4 @@
+pub mod Lines
+pub mod Strict
+pub mod Prices
+pub mod Keeping

@@ -1,0 +1,2 @@
+-- Where a request stands in a block of bytes.
+pub mod Place

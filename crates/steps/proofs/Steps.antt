@@ -1,0 +1,65 @@
+-- From a step that was made to what holds of the whole output. Assumes nothing.
+use mathlib.Core.Path.{_≡_, refl}
+use mathlib.Core.Bool.{Bool, true, false, cond, _&&_, false≢true}
+use mathlib.Core.List.{List, _++_, append-assoc}
+use Prim.Native.Nat.{ℕ, _<_, _≤_}
+use native.Mathlib.Omega.{arith}
+use borrow.Author.Tests.{leb-true}
+use lib.Dec.{leb}
+use lib.ListN.{drop}
+use lib.Seq.{slice}
+use lib.Ieee.{Float}
+use Rattle.columns.specs.declared.Field.{Field}
+use Rattle.columns.specs.declared.Field.the-variants.{Value, Broken}
+use Rattle.columns.specs.Read.{readField}
+use Rattle.places.specs.declared.Place.{Place}
+use Rattle.headers.specs.declared.Request.{Request}
+use Rattle.headers.specs.declared.Header.{Header}
+use Rattle.headers.specs.declared.Header.the-variants.{Asked, Malformed}
+use Rattle.headers.specs.Header.{columned, given, accepted, requestOf, readHeader}
+use Rattle.requests.specs.Sheet.{Step, lines, outcome}
+use Rattle.places.specs.Place.{stateOf, finally, Stepped}
+use Rattle.steps.specs.Onward.{Well, Onward}
+
+-- Where the lines from p on come to the step t and the lines from `at` on, making that step goes onward.
+pub onward : {block : List ℕ} {p q : Place} {series series′ : List Float} {text text′ : List ℕ} {t : Step} {at : ℕ}
+    → ((more : List ℕ) → outcome (stateOf (p .sheet .stage) (p .sheet .counts .refused) series) (lines (drop (p .at) block ++ more))
+    ≡ finally t (lines (drop at block ++ more)))
+    → Stepped t series′ at (p .filled) q text text′ → Well block q → p .at < q .at → Onward block p series text q series′ text′
+onward {p = p} {text = text} {t = t} lead made well forth =
+    record {
+      same = λ more. rw (lead more, made .state, made .place, made .text .text, append-assoc);
+      well = well;
+      forth = forth;
+    }
+
+-- ---- a request that was read has at most 512 bars
+
+record Small (h : Header) : Type 0 where
+  few : (r : Request) → h ≡ Asked r → r .bars ≤ 512
+
+no-request : Small Malformed
+no-request = record { few = λ r e. let z : _≡_ {A = ℕ} 0 1 = cc in absurd (omega arith) }
+
+cond-small : (t : Bool) {a b : Header} → (t ≡ true → Small a) → Small b → Small (cond t a b)
+cond-small true h k = h refl
+cond-small false h k = k
+
+given-small : (x : Field) {next : ℕ → Header} → ((v : ℕ) → Small (next v)) → Small (given x next)
+given-small (Value v) h = h v
+given-small Broken h = no-request
+
+accepted-small : (s t : Bool) (r : Request) → (t ≡ true → r .bars ≤ 512) → s && t ≡ true → Small (Asked r)
+accepted-small true t r h e =
+    record { few = λ q d. let same : r ≡ q = cc in rw (← same) (h e) }
+accepted-small false t r h e = absurd (false≢true e)
+
+request-small : (desk rule n m bars : Field) → Small (requestOf desk rule n m bars)
+unfolding requestOf
+request-small desk rule n m bars =
+    given-small desk (λ d. given-small rule (λ r. given-small n (λ a. given-small m (λ b. given-small bars (λ l. cond-small (accepted r l) (accepted-small (leb 1 r && leb r 3) (leb l 512) (record { desk = d; rule = r; n = a; m = b; bars = l }) (leb-true l 512)) no-request)))))
+
+pub header-small : (line : List ℕ) (r : Request) → readHeader line ≡ Asked r → r .bars ≤ 512
+unfolding readHeader
+header-small line =
+    cond-small (columned 26 line) (λ e. request-small (readField (slice 0 4 line)) (readField (slice 4 8 line)) (readField (slice 8 14 line)) (readField (slice 14 20 line)) (readField (slice 20 26 line))) no-request .few

@@ -1,0 +1,2 @@
+-- A step through a block of bytes.
+pub mod Onward
