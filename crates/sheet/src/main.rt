@@ -1,4 +1,4 @@
-// The sheet program: requests on standard input, answers on standard output. All that it reads and prints is the work of `requests`;
+// The sheet program: requests on standard input, answers on standard output. All that it reads and prints is the work of `blocks` and the crates below it;
 // here are the buffers, and the loop that reads blocks, feeds them and writes.
 use libc::STDIN_FILENO;
 use libc::STDOUT_FILENO;
