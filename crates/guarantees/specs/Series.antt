@@ -1,9 +1,8 @@
 -- Series of whole ticks, and the cells of a call. Assumes nothing.
-use mathlib.Core.Path.{_≡_, refl, sym}
-use mathlib.Core.Bool.{Bool, true, false, _&&_, true≢false}
+use mathlib.Core.Path.{_≡_, sym}
+use mathlib.Core.Bool.{Bool, true, false, true≢false}
 use mathlib.Core.List.{List, [], _∷_}
-use Prim.Native.Nat.{ℕ, zero, suc, _<_, _≤_}
-use native.Mathlib.Nat.{not-suc-le-zero, le-of-suc-le-suc}
+use Prim.Native.Nat.{ℕ, _<_, _≤_}
 use native.Mathlib.Omega.{arith}
 use lib.Dec.{T}
 use lib.IntN.{ℤ}
@@ -18,6 +17,7 @@ use Rattle.cells.specs.Written.{written, getD-written}
 use Rattle.cells.specs.Line.{Line, line}
 use Rattle.values.specs.Ticks.{ticked}
 use Rattle.averages.specs.Exact.{TickLine}
+use Rattle.positions.specs.Numbers.{all-at}
 
 -- each is an f64, and a whole tick: a whole number from -16,777,216 to 16,777,216, and not -0.0
 pub record WholeTicks (s : List Float) : Type 0 where
@@ -28,15 +28,6 @@ pub record WholeTicks (s : List Float) : Type 0 where
 abbrev pub price : List Float → ℕ → ℤ
 price s i = toSigned 63 (line s i)
 
-both : (t u : Bool) → t && u ≡ true → (t ≡ true) × (u ≡ true)
-both true u e = (refl, e)
-both false u e = absurd (true≢false (sym e))
-
-at : (p : Float → Bool) (s : List Float) (i : ℕ) → all p s ≡ true → i < length s → p (getD s i nan) ≡ true
-at p [] i e h = absurd (not-suc-le-zero h)
-at p (x ∷ s) zero e h = both (p x) (all p s) e .0
-at p (x ∷ s) (suc i) e h = at p s i (both (p x) (all p s) e .1) (le-of-suc-le-suc h)
-
 is-true : (t : Bool) → t ≡ true → T t
 is-true true e = tt
 is-true false e = absurd (true≢false (sym e))
@@ -44,8 +35,8 @@ is-true false e = absurd (true≢false (sym e))
 pub whole-ticks : {s : List Float} → WholeTicks s → TickLine (length s) (line s) (price s)
 whole-ticks {s} w = record {
   is = λ i h.
-      sym (float-back-signed binary64 63 (line s i) (is-true (fits binary64 (line s i)) (at (fits binary64) s i (w .floats) h)) (ticked (line s i) (at tick s i (w .ticks) h) .castable) .1);
-  small = λ i h. ticked (line s i) (at tick s i (w .ticks) h) .near;
+      sym (float-back-signed binary64 63 (line s i) (is-true (fits binary64 (line s i)) (all-at (fits binary64) s i (w .floats) h)) (ticked (line s i) (all-at tick s i (w .ticks) h) .castable) .1);
+  small = λ i h. ticked (line s i) (all-at tick s i (w .ticks) h) .near;
 }
 
 -- ---- what an answered call has at a bar below its count
