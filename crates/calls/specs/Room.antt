@@ -12,7 +12,7 @@ use Rattle.calls.specs.declared.Refusal.{Refusal}
 use Rattle.calls.specs.declared.Refusal.the-variants.{SeriesTooLong, LengthsDiffer, OutputTooShort, WorkTooShort, ValueNotAccepted, WindowTooLong}
 use Rattle.calls.specs.declared.Answer.{Answer}
 use Rattle.calls.specs.declared.Answer.the-variants.{Cells, Refused}
-use Rattle.values.specs.Accepted.{all}
+use Rattle.values.specs.Accepted.{all, and-parts}
 use Rattle.calls.specs.Answer.{countOf, first, unless, andThen, emptyIf, slices, checked, anyZero, windowed, answered}
 
 -- ---- the table for one series
@@ -164,10 +164,6 @@ positive (suc n) h = omega arith
 
 pub nonzero : (n : ℕ) → eqb n 0 ≡ false → 0 < n
 nonzero n e = let h = eqb-false n 0 e in positive n h
-
-pub and-parts : (t u : Bool) → t && u ≡ true → (t ≡ true) × (u ≡ true)
-and-parts true u e = (refl, e)
-and-parts false u e = let z : _≡_ {A = ℕ} 0 1 = cc in absurd (omega arith)
 
 pub or-parts : (t u : Bool) → t || u ≡ false → (t ≡ false) × (u ≡ false)
 or-parts false u e = (refl, e)

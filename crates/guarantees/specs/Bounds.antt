@@ -18,13 +18,11 @@ use lib.Ieee.Scale.{grid, overflow, round-val}
 use Rattle.rounding.specs.Error.{grid-range}
 use Rattle.rounding.specs.Units.{round-worth}
 use Rattle.rounding.specs.Value.{shape, div-at}
-use Rattle.values.specs.Accepted.{within, accepted, all}
+use Rattle.values.specs.Accepted.{within, accepted, all, and-parts, all-at}
 use Rattle.cells.specs.Line.{Line, line, plusZero, minusZero, fromBar}
 use Rattle.cells.specs.Recur.{recur}
-use Rattle.calls.specs.Room.{and-parts}
 use Rattle.windows.specs.Window.{sumFrom, windowSum, over, mean, runningSum}
 use Rattle.extremes.specs.Extreme.{larger, smaller, pickFrom, extreme}
-use Rattle.positions.specs.Numbers.{all-at}
 use Rattle.positions.specs.Rules.{addThenSubtract, runningMean}
 
 -- x is finite, and its magnitude is at most b

@@ -10,14 +10,13 @@ use lib.ListN.{length, getD}
 use lib.Ieee.{Float, nan, binary64, toSigned, fits}
 use lib.Ieee.Back.{float-back-signed}
 use Rattle.calls.specs.declared.Answer.the-variants.{Cells}
-use Rattle.values.specs.Accepted.{accepted, tick, all}
+use Rattle.values.specs.Accepted.{accepted, tick, all, all-at}
 use Rattle.calls.specs.Answer.{answered}
 use Rattle.calls.specs.Room.{room, opened}
 use Rattle.cells.specs.Written.{written, getD-written}
 use Rattle.cells.specs.Line.{Line, line}
 use Rattle.values.specs.Ticks.{ticked}
 use Rattle.averages.specs.Exact.{TickLine}
-use Rattle.positions.specs.Numbers.{all-at}
 
 -- each is an f64, and a whole tick: a whole number from -16,777,216 to 16,777,216, and not -0.0
 pub record WholeTicks (s : List Float) : Type 0 where

@@ -13,9 +13,8 @@ use lib.ListN.{length, getD}
 use lib.Ieee.{Float, nan, inf, fin, Format, binary64, up, down, unlike, low, prec, emax, odd, units, round, sum, add, div, lt, eq, le, ofInt, isNan, toBits}
 use lib.Ieee.Back.{round-whole}
 use lib.Ieee.Positive.{positive, positive-of-value}
-use Rattle.values.specs.Accepted.{accepted, finite, all}
+use Rattle.values.specs.Accepted.{accepted, finite, all, all-at}
 use Rattle.cells.specs.Line.{Line, line, plusZero, minusZero, fromBar}
-use Rattle.calls.specs.Room.{and-parts}
 use Rattle.windows.specs.Window.{sumFrom, windowSum, over, mean}
 use Rattle.extremes.specs.Best.{Numbers}
 
@@ -75,11 +74,6 @@ accepted-finite nan p = absurd (true≢false (sym p))
 accepted-finite (inf true) p = absurd (true≢false (sym p))
 accepted-finite (inf false) p = absurd (true≢false (sym p))
 accepted-finite (fin s m e) p = refl
-
-pub all-at : (p : Float → Bool) (s : List Float) (i : ℕ) → all p s ≡ true → i < length s → p (getD s i nan) ≡ true
-all-at p [] i h l = absurd (not-suc-le-zero l)
-all-at p (x ∷ s) zero h l = and-parts (p x) (all p s) h .0
-all-at p (x ∷ s) (suc i) h l = all-at p s i (and-parts (p x) (all p s) h .1) (le-of-suc-le-suc l)
 
 sum-of-finite : (f : Line) (a k : ℕ) → ((j : ℕ) → j < a + k → finite (f j) ≡ true) → isNan (sumFrom minusZero f a k) ≡ false
 unfolding sumFrom

@@ -10,11 +10,11 @@ use lib.ListN.{length, take}
 use lib.Ieee.{Float}
 use Rattle.calls.specs.declared.Answer.{Answer}
 use Rattle.calls.specs.declared.Answer.the-variants.{Cells}
-use Rattle.values.specs.Accepted.{accepted, all}
+use Rattle.values.specs.Accepted.{accepted, all, and-parts}
 use Rattle.calls.specs.Answer.{windowed, answered}
 use Rattle.calls.specs.Call.{WorkCall, work-counted}
 use Rattle.cells.specs.Line.{Line, line, plusZero}
-use Rattle.calls.specs.Room.{Room, Open, and-parts, or-parts, unless-cells, andThen-cells, emptyIf-cells, nonzero, same-count, checked-room, room, opened}
+use Rattle.calls.specs.Room.{Room, Open, or-parts, unless-cells, andThen-cells, emptyIf-cells, nonzero, same-count, checked-room, room, opened}
 use Rattle.cells.specs.Written.{Writing, none-written, ends}
 use Rattle.windows.specs.Window.{mean}
 use Rattle.extremes.specs.Blocks as Extremes

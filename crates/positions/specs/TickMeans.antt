@@ -9,14 +9,13 @@ use lib.Dec.{T}
 use lib.ListN.{length, getD}
 use lib.Ieee.{Float, nan, binary64, toSigned, fits}
 use lib.Ieee.Back.{float-back-signed}
-use Rattle.values.specs.Accepted.{tick, all}
+use Rattle.values.specs.Accepted.{tick, all, all-at}
 use Rattle.cells.specs.Line.{Line, line, plusZero, Led, before-bar}
 use Rattle.values.specs.Ticks.{ticked}
 use Rattle.cells.specs.Written.{written, Writing, written-same}
 use Rattle.averages.specs.Averages.{smaLine}
 use Rattle.averages.specs.Exact.{TickLine, mean-exact, sma-exact}
 use Rattle.windows.specs.Window.{mean}
-use Rattle.positions.specs.Numbers.{all-at}
 
 -- a series of floats that are whole ticks, as a line of whole numbers
 pub tick-line : (s : List Float) → ((i : ℕ) → T (fits binary64 (line s i))) → all tick s ≡ true → TickLine (length s) (line s) (λ i. toSigned 63 (line s i))

@@ -9,6 +9,7 @@ use native.Mathlib.Omega.{arith}
 use native.Mathlib.Numerals.{add-one}
 use lib.ListN.{length, getD}
 use lib.Ieee.{Float, nan, binary64, ofBits, mul, lt, eq, le}
+use Rattle.values.specs.Accepted.{and-parts}
 use Rattle.cells.specs.Line.{plusZero}
 use Rattle.rounding.specs.Leaves.{magnitudeOf}
 use Rattle.smoothers.specs.Recorded.{a1Bits, b1Bits}
@@ -41,26 +42,22 @@ rise-computed = refl
 
 -- ---- what the tests say of one period
 
-both : (a b : Bool) → a && b ≡ true → (a ≡ true) × (b ≡ true)
-both true b e = (refl, e)
-both false b e = absurd (true≢false (sym e))
-
 pair-at : (test : Float → Float → Bool) (xs ys : List Float) → everyPair test xs ys ≡ true
     → (k : ℕ) → k < length xs → k < length ys → test (getD xs k nan) (getD ys k nan) ≡ true
 unfolding everyPair
 pair-at test [] ys e k h l = absurd (not-suc-le-zero h)
 pair-at test (x ∷ xs) [] e k h l = absurd (not-suc-le-zero l)
-pair-at test (x ∷ xs) (y ∷ ys) e zero h l = both (test x y) (everyPair test xs ys) e .0
+pair-at test (x ∷ xs) (y ∷ ys) e zero h l = and-parts (test x y) (everyPair test xs ys) e .0
 pair-at test (x ∷ xs) (y ∷ ys) e (suc k) h l =
-    pair-at test xs ys (both (test x y) (everyPair test xs ys) e .1) k (le-of-suc-le-suc h) (le-of-suc-le-suc l)
+    pair-at test xs ys (and-parts (test x y) (everyPair test xs ys) e .1) k (le-of-suc-le-suc h) (le-of-suc-le-suc l)
 
 rising-at : (x : Float) (xs : List Float) → rising x xs ≡ true
     → (k : ℕ) → suc k < length xs → lt (getD xs k nan) (getD xs (suc k) nan) ≡ true
 unfolding rising
 rising-at x [] e k h = absurd (not-suc-le-zero h)
 rising-at x (y ∷ []) e k h = absurd (not-suc-le-zero (le-of-suc-le-suc h))
-rising-at x (y ∷ z ∷ zs) e zero h = both (lt y z) (rising z zs) (both (lt x y) (rising y (z ∷ zs)) e .1) .0
-rising-at x (y ∷ z ∷ zs) e (suc k) h = rising-at y (z ∷ zs) (both (lt x y) (rising y (z ∷ zs)) e .1) k (le-of-suc-le-suc h)
+rising-at x (y ∷ z ∷ zs) e zero h = and-parts (lt y z) (rising z zs) (and-parts (lt x y) (rising y (z ∷ zs)) e .1) .0
+rising-at x (y ∷ z ∷ zs) e (suc k) h = rising-at y (z ∷ zs) (and-parts (lt x y) (rising y (z ∷ zs)) e .1) k (le-of-suc-le-suc h)
 
 pub record InBounds (a1 b1 : Float) : Type 0 where
   pub above-0 : lt plusZero a1 ≡ true
@@ -72,8 +69,8 @@ read a1 b1 e =
     let low = lt plusZero a1 in
     let high = lt a1 (power 0) in
     let most = le (magnitudeOf b1) (mul binary64 (power 1) a1) in
-    let between = both low high (both (low && high) most e .0) in
-    record { above-0 = between .0; below-1 = between .1; double = both (low && high) most e .1 }
+    let between = and-parts low high (and-parts (low && high) most e .0) in
+    record { above-0 = between .0; below-1 = between .1; double = and-parts (low && high) most e .1 }
 
 long : (length a1Table ≡ 512) × (length b1Table ≡ 512)
 unfolding a1Table b1Table a1Bits b1Bits

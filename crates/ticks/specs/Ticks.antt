@@ -11,7 +11,7 @@ use lib.ListN.{length, getD}
 use lib.Ieee.{Float, nan, toSigned}
 use mir.Syntax.{w64}
 use mir.Val.{SFits}
-use Rattle.values.specs.Accepted.{tick, all}
+use Rattle.values.specs.Accepted.{tick, all, and-parts, all-at}
 use Rattle.calls.specs.declared.Answer.{Answer}
 use Rattle.calls.specs.declared.Answer.the-variants.{Cells}
 use Rattle.calls.specs.Answer.{answered}
@@ -28,15 +28,6 @@ use Rattle.ticks.specs.Whole.{in-i64, held, kept}
 pub record Ticks (s : List Float) : Type 0 where
   pub each : all tick s ≡ true
 
-both : (t u : Bool) → t && u ≡ true → (t ≡ true) × (u ≡ true)
-both true u e = (refl, e)
-both false u e = let z : _≡_ {A = ℕ} 0 1 = cc in absurd (omega arith)
-
-all-at : (p : Float → Bool) (s : List Float) (i : ℕ) → all p s ≡ true → i < length s → p (getD s i nan) ≡ true
-all-at p [] i e h = absurd (not-suc-le-zero h)
-all-at p (x ∷ s) zero e h = both (p x) (all p s) e .0
-all-at p (x ∷ s) (suc i) e h = all-at p s i (both (p x) (all p s) e .1) (le-of-suc-le-suc h)
-
 pub tick-at : {s : List Float} (i : ℕ) → Ticks s → i < length s → tick (line s i) ≡ true
 tick-at {s} i t h = all-at tick s i (t .each) h
 
@@ -44,8 +35,8 @@ tick-at {s} i t h = all-at tick s i (t .each) h
 near-at : (s : List Float) (i : ℕ) → all tick s ≡ true → natAbs (toSigned 63 (getD s i nan)) ≤ 2 ^ 24
 unfolding toSigned
 near-at [] i e = omega arith
-near-at (x ∷ s) zero e = ticked x (both (tick x) (all tick s) e .0) .near
-near-at (x ∷ s) (suc i) e = near-at s i (both (tick x) (all tick s) e .1)
+near-at (x ∷ s) zero e = ticked x (and-parts (tick x) (all tick s) e .0) .near
+near-at (x ∷ s) (suc i) e = near-at s i (and-parts (tick x) (all tick s) e .1)
 
 sum-near : (s : List Float) (a k : ℕ) → all tick s ≡ true → natAbs (tickSum (line s) a k) ≤ k * 2 ^ 24
 unfolding tickSum

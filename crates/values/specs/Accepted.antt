@@ -1,8 +1,9 @@
 -- Which numbers a series may hold. Assumes nothing.
-use mathlib.Core.Bool.{Bool, true, false, not, _&&_}
+use mathlib.Core.Bool.{Bool, true, false, not, _&&_, true≢false}
 use mathlib.Core.List.{List, [], _∷_, map}
-use mathlib.Core.Path.{_≡_, refl}
-use Prim.Native.Nat.{ℕ, _+_, _^_, _<_, _≤_}
+use mathlib.Core.Path.{_≡_, refl, sym}
+use Prim.Native.Nat.{ℕ, zero, suc, _+_, _^_, _<_, _≤_}
+use native.Mathlib.Nat.{not-suc-le-zero, le-of-suc-le-suc}
 use native.Mathlib.Numerals.{add-one}
 use lib.Dec.{eqb}
 use lib.IntN.{pos, negsuc}
@@ -32,6 +33,16 @@ finite (fin s m e) = true
 abbrev pub all : {A : Type 0} → (A → Bool) → List A → Bool
 all p [] = true
 all p (x ∷ xs) = p x && all p xs
+
+pub and-parts : (t u : Bool) → t && u ≡ true → (t ≡ true) × (u ≡ true)
+and-parts true u e = (refl, e)
+and-parts false u e = absurd (true≢false (sym e))
+
+-- where every element passes, each does
+pub all-at : (p : Float → Bool) (s : List Float) (i : ℕ) → all p s ≡ true → i < length s → p (getD s i nan) ≡ true
+all-at p [] i e h = absurd (not-suc-le-zero h)
+all-at p (x ∷ s) zero e h = and-parts (p x) (all p s) e .0
+all-at p (x ∷ s) (suc i) e h = all-at p s i (and-parts (p x) (all p s) e .1) (le-of-suc-le-suc h)
 
 module _ (p : Float → Bool) (s : List Float) (i : ℕ) where
   -- what is left to be tested from index i on

@@ -14,7 +14,7 @@ use lib.Ieee.Exact.{HasValue}
 use lib.Ieee.Back.{round-whole}
 use lib.Ieee.Fits.{down-pos}
 use Rattle.rounding.specs.Leaves.{signOf, magnitudeOf}
-use Rattle.values.specs.Accepted.{within, tick}
+use Rattle.values.specs.Accepted.{within, tick, and-parts}
 use Rattle.cells.specs.Line.{plusZero}
 
 beq-self : (s : Bool) → Bool·beq s s ≡ true
@@ -201,16 +201,12 @@ below-either : (s : Bool) (q : ℕ) → q ≤ 2 ^ 24 → cond s (leb q (2 ^ 63))
 below-either true q h = le-leb q (2 ^ 63) (omega arith)
 below-either false q h = lt-ltb q (2 ^ 63) (omega arith)
 
-both : (t u : Bool) → t && u ≡ true → (t ≡ true) × (u ≡ true)
-both true u e = (refl, e)
-both false u e = let z : _≡_ {A = ℕ} 0 1 = cc in absurd (omega arith)
-
 pub ticked : (x : Float) → tick x ≡ true → Ticked x
 unfolding tick inSigned whole magnitudeOf
-ticked nan e = let broken = both (within 24 nan) false e .1 in let z : _≡_ {A = ℕ} 0 1 = cc in absurd (omega arith)
-ticked (inf s) e = let broken = both (within 24 (inf s)) false e .1 in let z : _≡_ {A = ℕ} 0 1 = cc in absurd (omega arith)
+ticked nan e = let broken = and-parts (within 24 nan) false e .1 in let z : _≡_ {A = ℕ} 0 1 = cc in absurd (omega arith)
+ticked (inf s) e = let broken = and-parts (within 24 (inf s)) false e .1 in let z : _≡_ {A = ℕ} 0 1 = cc in absurd (omega arith)
 ticked (fin s m e) t =
-    let parts = both (within 24 (fin s m e)) _ t in
+    let parts = and-parts (within 24 (fin s m e)) _ t in
     let h = near s m e (size-within (fin s m e) ∙ parts .0) in
     let castable : T (inSigned binary64 63 (fin s m e)) = rw (parts .1, below-either s (cut m e) h) tt in
     record { castable = castable; near = rw (toSigned-cut binary64 63 s m e castable, size-signed s (cut m e)) h }
