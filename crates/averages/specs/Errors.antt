@@ -5,9 +5,9 @@ use native.Mathlib.Omega.{arith}
 use lib.Dec.{lit≤}
 use lib.IntN.{ℤ, natAbs}
 use lib.Ieee.{binary64}
-use Rattle.rounding.specs.Integers.{total, total-size}
-use Rattle.rounding.specs.About.{About, about-weaken, about-minus-zero, about-add, about-div}
-use Rattle.rounding.specs.Quotient.{about-quotient}
+use Rattle.numbers.specs.Integers.{total, total-size}
+use Rattle.numbers.specs.About.{About, about-weaken, about-minus-zero, about-add, about-div}
+use Rattle.numbers.specs.Quotient.{about-quotient}
 use Rattle.cells.specs.Line.{Line, plusZero, minusZero, from-bar}
 use Rattle.windows.specs.Window.{sumFrom, windowSum, mean}
 use Rattle.averages.specs.Exact.{TickLine, window-size, window-whole, mean-exact}

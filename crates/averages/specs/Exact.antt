@@ -6,9 +6,9 @@ use native.Mathlib.Numerals.{suc-eq-add-one}
 use native.Mathlib.Omega.{arith}
 use lib.IntN.{ℤ, natAbs, _+ℤ_, _-ℤ_, +ℤ-idl}
 use lib.Ieee.{Float, nan, binary64, ofInt}
-use Rattle.rounding.specs.Integers.{total, total-size, total-slides, abs-minus}
-use Rattle.rounding.specs.Whole.{add-whole, sub-whole, add-first}
-use Rattle.rounding.specs.Quotient.{quotient, Whole}
+use Rattle.numbers.specs.Integers.{total, total-size, total-slides, abs-minus}
+use Rattle.numbers.specs.Whole.{add-whole, sub-whole, add-first}
+use Rattle.numbers.specs.Quotient.{quotient, Whole}
 use Rattle.cells.specs.Line.{Line, plusZero, minusZero, from-bar}
 use Rattle.cells.specs.Recur.{recur}
 use Rattle.windows.specs.Window.{sumFrom, runningSum, windowSum, mean}

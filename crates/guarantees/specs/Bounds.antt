@@ -15,9 +15,9 @@ use lib.Ieee.Exact.{HasValue}
 use lib.Ieee.Fits.{down-pos}
 use lib.Ieee.Order.{transfer, round-mono}
 use lib.Ieee.Scale.{grid, overflow, round-val}
-use Rattle.rounding.specs.Error.{grid-range}
-use Rattle.rounding.specs.Units.{round-worth}
-use Rattle.rounding.specs.Value.{shape, div-at}
+use Rattle.numbers.specs.Error.{grid-range}
+use Rattle.numbers.specs.Units.{round-worth}
+use Rattle.numbers.specs.Value.{shape, div-at}
 use Rattle.values.specs.Accepted.{within, accepted, all, and-parts, all-at}
 use Rattle.cells.specs.Line.{Line, line, plusZero, minusZero, fromBar}
 use Rattle.cells.specs.Recur.{recur}

@@ -7,9 +7,9 @@ use lib.IntN.{ℤ, pos, negℤ, natAbs, _+ℤ_, _*ℤ_, +ℤ-assoc}
 use lib.Signed.{ltZ}
 use lib.Ieee.{binary64}
 use Rattle.rounding.specs.Leaves.{plusOne, minusOne}
-use Rattle.rounding.specs.Integers.{abs-add}
-use Rattle.rounding.specs.Whole.{add-whole, sub-whole}
-use Rattle.rounding.specs.Quotient.{quotient, quotient-sign}
+use Rattle.numbers.specs.Integers.{abs-add}
+use Rattle.numbers.specs.Whole.{add-whole, sub-whole}
+use Rattle.numbers.specs.Quotient.{quotient, quotient-sign}
 use Rattle.cells.specs.Line.{Line, plusZero, from-bar}
 use Rattle.averages.specs.Exact.{TickLine, Slides, running-exact, window-size, window-whole}
 use Rattle.averages.specs.Errors.{windowTotal, products}

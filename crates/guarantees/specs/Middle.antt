@@ -9,10 +9,10 @@ use lib.IntN.{ℤ, pos, natAbs, _+ℤ_, _*ℤ_}
 use lib.Signed.{ltZ}
 use lib.Ieee.{Float, binary64, add, sub, div, lt, ofInt}
 use Rattle.rounding.specs.Leaves.{plusOne, minusOne, signOf}
-use Rattle.rounding.specs.Integers.{above, below, abs-add, parts-lt, parts-times, parts-same, ltb-same}
-use Rattle.rounding.specs.Units.{worth-negative}
-use Rattle.rounding.specs.About.{About, about-weaken, about-add, about-div, about-sign, about-order, about-some}
-use Rattle.rounding.specs.Quotient.{quotient, Whole, quotient-lt, quotient-worth, about-quotient}
+use Rattle.numbers.specs.Integers.{above, below, abs-add, parts-lt, parts-times, parts-same, ltb-same}
+use Rattle.numbers.specs.Units.{worth-negative}
+use Rattle.numbers.specs.About.{About, about-weaken, about-add, about-div, about-sign, about-order, about-some}
+use Rattle.numbers.specs.Quotient.{quotient, Whole, quotient-lt, quotient-worth, about-quotient}
 use Rattle.cells.specs.Line.{Line, plusZero, from-bar}
 use Rattle.averages.specs.Averages.{two}
 use Rattle.windows.specs.Window.{mean}

@@ -11,9 +11,9 @@ use lib.Signed.{ltZ}
 use lib.ListN.{length, getD}
 use lib.Ieee.{Float, nan, binary64, round}
 use Rattle.rounding.specs.Leaves.{plusOne, minusOne}
-use Rattle.rounding.specs.Whole.{isNegative}
-use Rattle.rounding.specs.Nearest.{NearestTo}
-use Rattle.rounding.specs.Quotient.{quotient, Whole, quotient-is, quotient-nearest, quotient-zero}
+use Rattle.numbers.specs.Whole.{isNegative}
+use Rattle.numbers.specs.Nearest.{NearestTo}
+use Rattle.numbers.specs.Quotient.{quotient, Whole, quotient-is, quotient-nearest, quotient-zero}
 use Rattle.calls.specs.declared.Answer.the-variants.{Cells}
 use Rattle.cells.specs.Line.{plusZero, minusZero, line}
 use Rattle.cells.specs.Written.{getD-written}

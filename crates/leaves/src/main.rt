@@ -48,7 +48,7 @@ fn with_line(words: &[u64], tally: Tally) -> Tally
     let magnitude = miss(rounding::magnitude(x), words[2]);
     let sign = miss(rounding::sign(x), words[3]);
     let whole = miss(rounding::round_to_whole(x), words[4]);
-    let root = miss(rounding::square_root(x), words[5]);
+    let root = miss(root::square_root(x), words[5]);
     Tally {
         compared: std::num::wrapping_add_u64(tally.compared, 1),
         is_nan: std::num::wrapping_add_u64(tally.is_nan, is_nan),

@@ -13,10 +13,10 @@ use lib.Ieee.{Float, nan, binary64, mul, lt, eq, ne, ofInt, inFloat, fits}
 use lib.Ieee.Compare.{differs-from-itself}
 use lib.Ieee.Exact.{HasValue}
 use Rattle.rounding.specs.Leaves.{plusOne, minusOne}
-use Rattle.rounding.specs.Integers.{abs-neg, total-size, total-same}
-use Rattle.rounding.specs.Whole.{isNegative, whole-value, mul-whole}
-use Rattle.rounding.specs.Units.{worth-whole, worth-negative}
-use Rattle.rounding.specs.About.{about-whole, about-sign, about-order, about-some, zero-is}
+use Rattle.numbers.specs.Integers.{abs-neg, total-size, total-same}
+use Rattle.numbers.specs.Whole.{isNegative, whole-value, mul-whole}
+use Rattle.numbers.specs.Units.{worth-whole, worth-negative}
+use Rattle.numbers.specs.About.{about-whole, about-sign, about-order, about-some, zero-is}
 use Rattle.values.specs.Accepted.{tick, all}
 use Rattle.cells.specs.Line.{Line, line, plusZero, fromBar, before-bar, from-bar, Causal, causal-from}
 use Rattle.calls.specs.Room.{or-parts}

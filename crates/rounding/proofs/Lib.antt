@@ -1,4 +1,4 @@
--- What the proofs of the functions at the crate's root share.
+-- What the proofs of the leaves share.
 mod Patterns
 mod ToWhole
 mod Opposite

@@ -1,7 +1,4 @@
 // The leaves: numbers taken apart and rounded, each equal to one definition for every f64.
-pub mod root;
-
-pub use root::square_root;
 ghost use mathlib.Core.Path.{_≡_};
 ghost use lib.Ieee.{isNan};
 ghost use Rattle.rounding.specs.Leaves.{magnitudeOf, signOf, roundToWhole};

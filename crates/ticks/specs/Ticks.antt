@@ -21,7 +21,7 @@ use Rattle.values.specs.Ticks.{ticked}
 use Rattle.cells.specs.Written.{Writing, writing-same}
 use Rattle.averages.specs.Averages.{tickSum, toTick, tickMeanLine}
 use Rattle.averages.specs.Stages.{window-room}
-use Rattle.rounding.specs.Integers.{abs-add}
+use Rattle.numbers.specs.Integers.{abs-add}
 use Rattle.ticks.specs.Whole.{in-i64, held, kept}
 
 -- a series of whole ticks

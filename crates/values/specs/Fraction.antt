@@ -18,7 +18,7 @@ use lib.Ieee.Back.{round-whole}
 use Rattle.values.specs.Accepted.{tick}
 use Rattle.values.specs.Quick.{UpTo, up-to-end}
 use Rattle.values.specs.Ticks.{eqb-iff, and-true, small, tick-rest}
-use Rattle.rounding.specs.Value.{sub-at}
+use Rattle.numbers.specs.Value.{sub-at}
 
 -- ---- n / d from 2 ^ 52 to 2 ^ 53 is rounded to a whole number
 

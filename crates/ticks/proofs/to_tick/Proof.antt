@@ -5,7 +5,7 @@ use native.Mathlib.Nat.{div-le-self}
 use native.Mathlib.Omega.{arith}
 use lib.IntN.{pos, negℤ, natAbs, +ℤ-idl}
 use Rattle.ticks.specs.Share.{Shared, sum-near}
-use Rattle.rounding.specs.Integers.{abs-neg}
+use Rattle.numbers.specs.Integers.{abs-neg}
 use Rattle.ticks.specs.Whole.{in-i64, kept, tick-below, tick-above}
 use Rattle.ticks.proofs.to_tick.Statement.{statement}
 use Rattle.ticks.proofs.to_tick.Tie as tie
