@@ -104,7 +104,7 @@ pub fn sma(series: &[f64], n: usize, out: &mut [f64]) -> Answer
     ensures { λ r. ⌜ Call (answered accepted (now (series .entry)) (n ∷ []) (length (now (out .entry))) []) (smaLine n (line (now (series .entry))))
         (now (out .entry)) r (now (out .exit)) ⌝ }
 {
-    let due = calls::answer_window(series, n, out.len());
+    let due = checks::answer_window(series, n, out.len());
     if let Answer::Cells(count) = due {
         if count > 0 {
             write_sma(series, n, out);
@@ -118,7 +118,7 @@ pub fn ema(series: &[f64], n: usize, out: &mut [f64]) -> Answer
     ensures { λ r. ⌜ Call (answered accepted (now (series .entry)) (n ∷ []) (length (now (out .entry))) []) (emaLine n (line (now (series .entry))))
         (now (out .entry)) r (now (out .exit)) ⌝ }
 {
-    let due = calls::answer_window(series, n, out.len());
+    let due = checks::answer_window(series, n, out.len());
     if let Answer::Cells(count) = due {
         if count > 0 {
             write_ema(series, n, out);
@@ -132,7 +132,7 @@ pub fn exponential_smoothing(series: &[f64], alpha: f64, out: &mut [f64]) -> Ans
     ensures { λ r. ⌜ Call (exponentialAnswer (now (series .entry)) alpha (length (now (out .entry)))) (exponentialLine alpha (line (now (series .entry))))
         (now (out .entry)) r (now (out .exit)) ⌝ }
 {
-    let due = calls::check(series, out.len());
+    let due = checks::check(series, out.len());
     if let Answer::Refused(_) = due {
         return due;
     }

@@ -1,10 +1,10 @@
 -- The table of refusals in the forms that the checks meet it, and what is known of a call that it let pass. Assumes nothing.
 use mathlib.Core.Path.{_≡_, refl, sym, _∙_}
 use mathlib.Core.Bool.{Bool, true, false, _&&_, _||_}
-use mathlib.Core.List.{List, [], _∷_, map}
-use Prim.Native.Nat.{ℕ, zero, suc, _*_, _<_, _≤_, min}
+use mathlib.Core.List.{List, [], _∷_}
+use Prim.Native.Nat.{ℕ, zero, suc, _*_, _<_, _≤_}
 use native.Mathlib.Omega.{arith}
-use borrow.Author.Tests.{leb-true, leb-false, le-leb, lt-leb, eqb-true, eq-eqb, eqb-false}
+use borrow.Author.Tests.{leb-true, eq-eqb, eqb-false}
 use lib.Dec.{leb, eqb}
 use lib.ListN.{length}
 use lib.Ieee.{Float}
@@ -17,17 +17,13 @@ use Rattle.calls.specs.Answer.{countOf, first, unless, andThen, emptyIf,
 
 -- ---- the table for one series
 
-and-true : (t : Bool) → t && true ≡ t
+pub and-true : (t : Bool) → t && true ≡ t
 and-true true = refl
 and-true false = refl
 
 or-false : (t : Bool) → t || false ≡ t
 or-false true = refl
 or-false false = refl
-
-unless-and : (t u : Bool) (q : Refusal) (next : Answer) → unless (t && u) q next ≡ unless t q (unless u q next)
-unless-and true u q next = refl
-unless-and false u q next = refl
 
 -- refusals 1 to 3, and then the next
 parted : (t u v : Bool) (l : ℕ) (next : Answer)
@@ -38,51 +34,12 @@ parted true true false l next = refl
 parted true false v l next = refl
 parted false u v l next = refl
 
-leb-min : (k a b : ℕ) → leb k (min a b) ≡ leb k a && leb k b
-leb-min k a b = go (leb k a) (leb k b) refl refl
-  where
-    go : (t u : Bool) → leb k a ≡ t → leb k b ≡ u → leb k (min a b) ≡ t && u
-    go true true p q = let x = leb-true k a p in let y = leb-true k b q in le-leb k (min a b) (omega arith)
-    go true false p q = let y = leb-false k b q in lt-leb k (min a b) (omega arith)
-    go false u p q = let x = leb-false k a p in lt-leb k (min a b) (omega arith)
-
-in-turn : (a : Answer) (p q r : Bool) (k l m : ℕ)
-    → andThen a (unless (p && (q && r)) ValueNotAccepted (Cells k))
-    ≡ andThen (andThen (andThen a (unless r ValueNotAccepted (Cells m))) (unless q ValueNotAccepted (Cells l))) (unless p ValueNotAccepted (Cells k))
-in-turn (Refused x) p q r k l m = refl
-in-turn (Cells j) true true true k l m = refl
-in-turn (Cells j) true true false k l m = refl
-in-turn (Cells j) true false true k l m = refl
-in-turn (Cells j) true false false k l m = refl
-in-turn (Cells j) false true true k l m = refl
-in-turn (Cells j) false true false k l m = refl
-in-turn (Cells j) false false true k l m = refl
-in-turn (Cells j) false false false k l m = refl
-
 pub slices-one : (l out : ℕ) (work : List ℕ)
     → slices (l ∷ []) (out ∷ []) work
     ≡ unless (leb l 65536) SeriesTooLong
     (unless (leb l out) OutputTooShort (unless (all (λ room. leb (8 * l) room) work) WorkTooShort (Cells l)))
 unfolding slices
 slices-one l out work = rw (and-true (leb l 65536), and-true (eqb l l), eq-eqb l l refl, and-true (leb l out))
-
--- three series: each length, then each of the later two against the first
-pub slices-three : (a b c out : ℕ) (work : List ℕ)
-    → slices (a ∷ b ∷ c ∷ []) (out ∷ []) work
-    ≡ unless (leb a 65536) SeriesTooLong (unless (leb b 65536) SeriesTooLong (unless (leb c 65536) SeriesTooLong
-    (unless (eqb b a) LengthsDiffer (unless (eqb c a) LengthsDiffer
-    (unless (leb a out) OutputTooShort (unless (all (λ room. leb (8 * a) room) work) WorkTooShort (Cells a)))))))
-unfolding slices
-slices-three a b c out work =
-    rw (
-      and-true (leb c 65536),
-      unless-and (leb a 65536),
-      unless-and (leb b 65536),
-      eq-eqb a a refl,
-      and-true (eqb c a),
-      unless-and (eqb b a),
-      and-true (leb a out),
-    )
 
 -- the work slice comes after the other lengths
 pub slices-work : (series outputs : List ℕ) (work : ℕ)
@@ -94,31 +51,11 @@ slices-work series outputs work =
     rw (and-true (leb (8 * l) work))
     (parted (all (λ k. leb k 65536) series) (all (λ k. eqb k l) series) (all (λ room. leb l room) outputs) l (unless (leb (8 * l) work) WorkTooShort (Cells l)))
 
--- of three outputs the shortest decides
-pub three-outputs : (ok : Float → Bool) (series : List (List Float)) (a b c : ℕ) (work : List ℕ)
-    → checked ok series (a ∷ b ∷ c ∷ []) work ≡ checked ok series (min a (min b c) ∷ []) work
-unfolding checked slices
-three-outputs ok series a b c work =
-    let l = first (map length series) in
-    rw (and-true (leb l c), and-true (leb l (min a (min b c))), leb-min l a (min b c), leb-min l b c)
-
 pub checked-one : (ok : Float → Bool) (s : List Float) (outputs work : List ℕ)
     → checked ok (s ∷ []) outputs work
     ≡ andThen (slices (length s ∷ []) outputs work) (unless (all ok s) ValueNotAccepted (Cells (length s)))
 unfolding checked
 checked-one ok s outputs work = rw (and-true (all ok s))
-
--- three series' values, in any order, since they give one refusal
-pub checked-three : (ok : Float → Bool) (s t u : List Float) (outputs work : List ℕ)
-    → checked ok (s ∷ t ∷ u ∷ []) outputs work
-    ≡ andThen (andThen (andThen (slices (length s ∷ length t ∷ length u ∷ []) outputs work)
-    (unless (all ok u) ValueNotAccepted (Cells (length u))))
-    (unless (all ok t) ValueNotAccepted (Cells (length t))))
-    (unless (all ok s) ValueNotAccepted (Cells (length s)))
-unfolding checked
-checked-three ok s t u outputs work =
-    rw (and-true (all ok u))
-    (in-turn (slices (length s ∷ length t ∷ length u ∷ []) outputs work) (all ok s) (all ok t) (all ok u) _ _ _)
 
 pub windowed-one : (l n : ℕ) (next : Answer) → windowed l (n ∷ []) next ≡ unless (leb n 4096) WindowTooLong (emptyIf (eqb l 0 || eqb n 0) next)
 unfolding windowed
@@ -169,7 +106,7 @@ pub or-parts : (t u : Bool) → t || u ≡ false → (t ≡ false) × (u ≡ fal
 or-parts false u e = (refl, e)
 or-parts true u e = let z : _≡_ {A = ℕ} 0 1 = cc in absurd (omega arith)
 
-at-least : (k : ℕ) (rooms : List ℕ) → all (λ room. leb k room) rooms ≡ true → AtLeast k rooms
+pub at-least : (k : ℕ) (rooms : List ℕ) → all (λ room. leb k room) rooms ≡ true → AtLeast k rooms
 at-least k [] e = tt
 at-least k (room ∷ rooms) e =
     let parts = and-parts (leb k room) (all (λ room. leb k room) rooms) e in
@@ -207,37 +144,3 @@ opened ok s n out work k e h =
     let b = emptyIf-cells (eqb l 0 || eqb n 0) all-of-it k (a .1) h in
     let c = or-parts (eqb l 0) (eqb n 0) (b .0) in
     record { some = nonzero n (c .1); narrow = leb-true _ _ (a .0); whole = sym (same-count _ _ (b .1)) }
-
--- three series of one length, and an output and a work slice that have room for it
-pub record Three (s t u : List Float) (out : ℕ) (work : List ℕ) : Type 0 where
-  pub second : length t ≡ length s
-  pub third : length u ≡ length s
-  pub out-long : length s ≤ out
-  pub work-long : AtLeast (8 * length s) work
-
--- that is so of three series that were checked, and the count is that length
-pub checked-three-room : (ok : Float → Bool) (s t u : List Float) (out : ℕ) (work : List ℕ) (k : ℕ)
-    → checked ok (s ∷ t ∷ u ∷ []) (out ∷ []) work ≡ Cells k
-    → Three s t u out work × (Cells (length s) ≡ Cells k)
-checked-three-room ok s t u out work k e =
-    let lengths = slices (length s ∷ length t ∷ length u ∷ []) (out ∷ []) work in
-    let last = andThen lengths (unless (all ok u) ValueNotAccepted (Cells (length u))) in
-    let later = andThen last (unless (all ok t) ValueNotAccepted (Cells (length t))) in
-    let one = andThen-cells later _ k (sym (checked-three ok s t u (out ∷ []) work) ∙ e) in
-    let two = andThen-cells last _ _ (one .0) in
-    let three = andThen-cells lengths _ _ (two .0) in
-    let a = unless-cells (leb (length s) 65536) _ _ _ (sym (slices-three (length s) (length t) (length u) out work) ∙ three .0) in
-    let b = unless-cells (leb (length t) 65536) _ _ _ (a .1) in
-    let c = unless-cells (leb (length u) 65536) _ _ _ (b .1) in
-    let second = unless-cells (eqb (length t) (length s)) _ _ _ (c .1) in
-    let third = unless-cells (eqb (length u) (length s)) _ _ _ (second .1) in
-    let room = unless-cells (leb (length s) out) _ _ _ (third .1) in
-    let beside = unless-cells (all (λ room. leb (8 * length s) room) work) _ _ _ (room .1) in (
-      record {
-        second = eqb-true _ _ (second .0);
-        third = eqb-true _ _ (third .0);
-        out-long = leb-true _ _ (room .0);
-        work-long = at-least (8 * length s) work (beside .0);
-      },
-      unless-cells (all ok s) _ _ k (one .1) .1,
-    )

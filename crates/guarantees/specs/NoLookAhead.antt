@@ -13,7 +13,8 @@ use Rattle.calls.specs.declared.Answer.the-variants.{Cells}
 use Rattle.values.specs.Accepted.{accepted, tick}
 use Rattle.calls.specs.Answer.{checked, answered}
 use Rattle.cells.specs.Line.{Line, line, Same, Causal, causal-same}
-use Rattle.calls.specs.Room.{Three, room, opened, andThen-cells, checked-room, checked-three-room}
+use Rattle.calls.specs.Room.{room, opened, andThen-cells, checked-room}
+use Rattle.triples.specs.Three.{Three, checked-three-room}
 use Rattle.cells.specs.Written.{written, getD-written}
 use Rattle.averages.specs.Averages.{causal-sma, causal-ema, causal-exponential, causal-tick-mean, exponentialAnswer}
 use Rattle.smoothers.specs.Coefficients.{coefficients}

@@ -3,7 +3,7 @@ ghost use mathlib.Core.Path.{_≡_};
 ghost use mathlib.Core.List.{[]};
 ghost use Prim.Native.Nat.{_<_};
 ghost use lib.ListN.{length};
-ghost use Rattle.calls.specs.Room.{Three};
+ghost use Rattle.triples.specs.Three.{Three};
 ghost use Rattle.extremes.specs.Extreme.{larger};
 ghost use Rattle.ranges.specs.Range.{trueRange, Ranging};
 

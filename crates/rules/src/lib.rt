@@ -24,7 +24,7 @@ pub fn single_sma_positions(series: &[f64], n: usize, out: &mut [f64], work: &mu
         (singleLine n (line (now (series .entry)))) (now (out .entry)) (length (now (series .entry))) (now (work .entry))
         r (now (out .exit)) (now (work .exit)) ⌝ }
 {
-    let due = calls::answer_window_with_work(series, n, out.len(), work.len());
+    let due = checks::answer_window_with_work(series, n, out.len(), work.len());
     if let Answer::Cells(count) = due {
         if count > 0 {
             single::write_single(series, n, out, work);
@@ -42,7 +42,7 @@ pub fn mid_positions(series: &[f64], n: usize, out: &mut [f64], work: &mut [f64]
         (midLine n (line (now (series .entry)))) (now (out .entry)) (length (now (series .entry))) (now (work .entry))
         r (now (out .exit)) (now (work .exit)) ⌝ }
 {
-    let due = calls::answer_window_with_work(series, n, out.len(), work.len());
+    let due = checks::answer_window_with_work(series, n, out.len(), work.len());
     if let Answer::Cells(count) = due {
         if count > 0 {
             middle::write_mid(series, n, out, work);
@@ -132,7 +132,7 @@ fn check_windows(bars: usize, n: usize, m: usize) -> Answer
 fn answer_double(series: &[f64], n: usize, m: usize, out: usize) -> Answer
     ensures { λ r. ⌜ r ≡ doubleAnswer (now (series .entry)) n m out ⌝ }
 {
-    let due = calls::check(series, out);
+    let due = checks::check(series, out);
     if let Answer::Refused(_) = due {
         return due;
     }

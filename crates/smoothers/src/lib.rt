@@ -130,7 +130,7 @@ pub fn ultimate_smoother(price: &[f64], period: f64, out: &mut [f64]) -> Answer
         (smooth (coefficients (wholePart period)) (line (now (price .entry))))
         (now (out .entry)) r (now (out .exit)) ⌝ }
 {
-    let due = calls::check(price, out.len());
+    let due = checks::check(price, out.len());
     if let Answer::Refused(_) = due {
         return due;
     }
@@ -151,7 +151,7 @@ pub fn true_range(high: &[f64], low: &[f64], close_prev: &[f64], out: &mut [f64]
         (trueRangeLine (line (now (high .entry))) (line (now (low .entry))) (line (now («close_prev» .entry))))
         (now (out .entry)) r (now (out .exit)) ⌝ }
 {
-    let due = calls::check_three(high, low, close_prev, out.len());
+    let due = triples::check_three(high, low, close_prev, out.len());
     if let Answer::Refused(_) = due {
         return due;
     }

@@ -102,7 +102,7 @@ pub fn tick_mean(series: &[f64], n: usize, out: &mut [i64]) -> Answer
     ensures { λ r. ⌜ Call (answered tick (now (series .entry)) (n ∷ []) (length (now (out .entry))) []) (tickMeanLine n (line (now (series .entry))))
         (now (out .entry)) r (now (out .exit)) ⌝ }
 {
-    let due = calls::answer_tick_window(series, n, out.len());
+    let due = checks::answer_tick_window(series, n, out.len());
     if let Answer::Cells(count) = due {
         if count > 0 {
             write_tick_means(series, n, out);

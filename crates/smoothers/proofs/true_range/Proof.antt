@@ -2,7 +2,7 @@
 use mathlib.Core.Path.{_≡_, sym, _∙_}
 use mathlib.Core.List.{[]}
 use lib.ListN.{length}
-use Rattle.calls.specs.Room.{Three, checked-three-room}
+use Rattle.triples.specs.Three.{Three, checked-three-room}
 use Rattle.calls.specs.Call.{refused, counted}
 use denote.Ref.{now}
 use Rattle.calls.specs.declared.Answer.the-variants.{Cells}

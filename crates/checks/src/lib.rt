@@ -1,0 +1,141 @@
+// The checks of a call with one series and one output: the refusals in document 01's order.
+use calls::Answer;
+use calls::Refusal;
+ghost use mathlib.Core.Path.{_≡_};
+ghost use mathlib.Core.List.{[], _∷_};
+ghost use Prim.Native.Nat.{_*_};
+ghost use lib.Dec.{leb};
+ghost use lib.ListN.{length};
+ghost use Rattle.values.specs.Accepted.{accepted, tick, all};
+ghost use Rattle.calls.specs.Answer.{unless, andThen, slices, checked, windowed, answered};
+ghost use Rattle.calls.specs.declared.Answer.the-variants.{Cells};
+ghost use Rattle.calls.specs.declared.Refusal.the-variants.{WorkTooShort, ValueNotAccepted};
+
+// The first refusal by the lengths of a series and its output; else the series' length.
+fn check_lengths(bars: usize, out: usize) -> Answer
+    ensures { λ r. ⌜ r ≡ slices (bars ∷ []) (out ∷ []) [] ⌝ }
+{
+    if bars > 65536 {
+        return Answer::Refused(Refusal::SeriesTooLong);
+    }
+    if out < bars {
+        return Answer::Refused(Refusal::OutputTooShort);
+    }
+    Answer::Cells(bars)
+}
+
+// The refusal of a work slice that is too short for a series.
+pub fn check_work(bars: usize, work: usize) -> Answer
+    ensures { λ r. ⌜ r ≡ unless (leb (8 * bars) work) WorkTooShort (Cells bars) ⌝ }
+{
+    if bars > work / 8 {
+        Answer::Refused(Refusal::WorkTooShort)
+    } else {
+        Answer::Cells(bars)
+    }
+}
+
+// A refusal stands, and after a count comes what is next.
+pub fn and_then(due: Answer, next: Answer) -> Answer
+    ensures { λ r. ⌜ r ≡ andThen due next ⌝ }
+{
+    if let Answer::Refused(_) = due {
+        return due;
+    }
+    next
+}
+
+// The refusal of a value that is not accepted, unless there was one before; the values are looked at only then.
+pub fn check_values(due: Answer, series: &[f64]) -> Answer
+    ensures { λ r. ⌜ r ≡ andThen due (unless (all accepted (now (series .entry))) ValueNotAccepted (Cells (length (now (series .entry))))) ⌝ }
+{
+    if let Answer::Refused(_) = due {
+        return due;
+    }
+    if values::all_accepted(series) {
+        Answer::Cells(series.len())
+    } else {
+        Answer::Refused(Refusal::ValueNotAccepted)
+    }
+}
+
+// The same for whole ticks.
+fn check_tick_values(due: Answer, series: &[f64]) -> Answer
+    ensures { λ r. ⌜ r ≡ andThen due (unless (all tick (now (series .entry))) ValueNotAccepted (Cells (length (now (series .entry))))) ⌝ }
+{
+    if let Answer::Refused(_) = due {
+        return due;
+    }
+    if values::all_ticks(series) {
+        Answer::Cells(series.len())
+    } else {
+        Answer::Refused(Refusal::ValueNotAccepted)
+    }
+}
+
+// The first refusal of a call with one series, its output and no work slice, before its parameters; else the series' length.
+pub fn check(series: &[f64], out: usize) -> Answer
+    ensures { λ r. ⌜ r ≡ checked accepted (now (series .entry) ∷ []) (out ∷ []) [] ⌝ }
+{
+    let due = check_lengths(series.len(), out);
+    check_values(due, series)
+}
+
+// The same with a work slice.
+pub fn check_with_work(series: &[f64], out: usize, work: usize) -> Answer
+    ensures { λ r. ⌜ r ≡ checked accepted (now (series .entry) ∷ []) (out ∷ []) (work ∷ []) ⌝ }
+{
+    let bars = series.len();
+    let lengths = check_lengths(bars, out);
+    let room = check_work(bars, work);
+    let due = and_then(lengths, room);
+    check_values(due, series)
+}
+
+// The same for whole ticks and no work slice.
+pub fn check_ticks(series: &[f64], out: usize) -> Answer
+    ensures { λ r. ⌜ r ≡ checked tick (now (series .entry) ∷ []) (out ∷ []) [] ⌝ }
+{
+    let due = check_lengths(series.len(), out);
+    check_tick_values(due, series)
+}
+
+// What one window makes of an answer of `bars` cells.
+fn check_window(bars: usize, n: usize) -> Answer
+    ensures { λ r. ⌜ r ≡ windowed bars (n ∷ []) (Cells bars) ⌝ }
+{
+    if n > 4096 {
+        return Answer::Refused(Refusal::WindowTooLong);
+    }
+    if n == 0 {
+        return Answer::Cells(0);
+    }
+    Answer::Cells(bars)
+}
+
+// The answer of a call with one series, one window, its output and no work slice.
+pub fn answer_window(series: &[f64], n: usize, out: usize) -> Answer
+    ensures { λ r. ⌜ r ≡ answered accepted (now (series .entry)) (n ∷ []) out [] ⌝ }
+{
+    let due = check(series, out);
+    let next = check_window(series.len(), n);
+    and_then(due, next)
+}
+
+// The same with a work slice.
+pub fn answer_window_with_work(series: &[f64], n: usize, out: usize, work: usize) -> Answer
+    ensures { λ r. ⌜ r ≡ answered accepted (now (series .entry)) (n ∷ []) out (work ∷ []) ⌝ }
+{
+    let due = check_with_work(series, out, work);
+    let next = check_window(series.len(), n);
+    and_then(due, next)
+}
+
+// The answer of a call with one series of whole ticks, one window, its output and no work slice.
+pub fn answer_tick_window(series: &[f64], n: usize, out: usize) -> Answer
+    ensures { λ r. ⌜ r ≡ answered tick (now (series .entry)) (n ∷ []) out [] ⌝ }
+{
+    let due = check_ticks(series, out);
+    let next = check_window(series.len(), n);
+    and_then(due, next)
+}
