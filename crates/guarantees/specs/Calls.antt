@@ -11,8 +11,8 @@ use Rattle.calls.specs.Answer.{checked, answered}
 use Rattle.calls.specs.Call.{Call, WorkCall}
 use Rattle.cells.specs.Line.{line}
 use Rattle.averages.specs.Averages.{smaLine, emaLine, exponentialLine, exponentialAnswer, tickMeanLine}
-use Rattle.smoothers.specs.Coefficients.{coefficients}
-use Rattle.smoothers.specs.Period.{wholePart}
+use Rattle.coefficients.specs.Coefficients.{coefficients}
+use Rattle.coefficients.specs.Period.{wholePart}
 use Rattle.ranges.specs.Range.{trueRangeLine}
 use Rattle.smoothers.specs.Smoother.{smooth, smootherAnswer}
 use Rattle.positions.specs.Rules.{singleLine, doubleLine, doubleAnswer, midLine}

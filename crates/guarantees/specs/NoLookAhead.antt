@@ -17,8 +17,8 @@ use Rattle.calls.specs.Room.{room, opened, andThen-cells, checked-room}
 use Rattle.triples.specs.Three.{Three, checked-three-room}
 use Rattle.cells.specs.Written.{written, getD-written}
 use Rattle.averages.specs.Averages.{causal-sma, causal-ema, causal-exponential, causal-tick-mean, exponentialAnswer}
-use Rattle.smoothers.specs.Coefficients.{coefficients}
-use Rattle.smoothers.specs.Period.{wholePart}
+use Rattle.coefficients.specs.Coefficients.{coefficients}
+use Rattle.coefficients.specs.Period.{wholePart}
 use Rattle.ranges.specs.Range.{causal-range}
 use Rattle.smoothers.specs.Smoother.{smootherAnswer, causal-smooth}
 use Rattle.positions.specs.Opened.{double-opened}

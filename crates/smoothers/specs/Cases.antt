@@ -14,9 +14,9 @@ use Rattle.calls.specs.Answer.{slices, checked}
 use Rattle.cells.specs.Line.{Line, line, plusZero, minusZero}
 use Rattle.cells.specs.Written.{written}
 use Rattle.rounding.specs.Leaves.{magnitudeOf}
-use Rattle.smoothers.specs.Recorded.{a1Bits, b1Bits}
-use Rattle.smoothers.specs.Coefficients.{a1Table, b1Table, a1Of, b1Of, ofPair, coefficients}
-use Rattle.smoothers.specs.Period.{isPeriod}
+use Rattle.coefficients.specs.Recorded.{a1Bits, b1Bits}
+use Rattle.coefficients.specs.Coefficients.{a1Table, b1Table, a1Of, b1Of, ofPair, coefficients}
+use Rattle.coefficients.specs.Period.{isPeriod}
 use Rattle.smoothers.specs.Smoother.{formula, smooth, smootherAnswer}
 use Rattle.ranges.specs.Range.{trueRange, trueRangeLine}
 

@@ -1,7 +1,3 @@
--- The ultimate smoother with its coefficients, and true range.
-pub mod Recorded
-pub mod Coefficients
-pub mod Bounds
-pub mod Period
+-- The ultimate smoother, and true range.
 pub mod Smoother
 pub mod Cases

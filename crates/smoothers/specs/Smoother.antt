@@ -14,9 +14,9 @@ use Rattle.values.specs.Accepted.{accepted, finite}
 use Rattle.calls.specs.Answer.{checked, andThen, unless}
 use Rattle.cells.specs.Line.{Line, line, Causal}
 use Rattle.cells.specs.Written.{Writing, writing-same}
-use Rattle.smoothers.specs.Period.{isPeriod}
-use Rattle.smoothers.specs.declared.Coefficients.{Coefficients}
-use Rattle.smoothers.specs.Coefficients.{power, a1Of, b1Of, ofPair, coefficients}
+use Rattle.coefficients.specs.Period.{isPeriod}
+use Rattle.coefficients.specs.declared.Coefficients.{Coefficients}
+use Rattle.coefficients.specs.Coefficients.{power, a1Of, b1Of, ofPair, coefficients}
 
 -- ---- the line
 

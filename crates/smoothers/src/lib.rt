@@ -1,8 +1,7 @@
-// The ultimate smoother with its coefficients, and true range.
-mod table;
-
+// The ultimate smoother, and true range.
 use calls::Answer;
 use calls::Refusal;
+use coefficients::Coefficients;
 ghost use mathlib.Core.Path.{_≡_};
 ghost use mathlib.Core.List.{[], _∷_};
 ghost use Prim.Native.Nat.{_<_, _≤_};
@@ -12,54 +11,10 @@ ghost use Rattle.calls.specs.Answer.{checked};
 ghost use Rattle.calls.specs.Call.{Call};
 ghost use Rattle.cells.specs.Line.{line};
 ghost use Rattle.cells.specs.Written.{Writing};
-ghost use Rattle.smoothers.specs.Coefficients.{ofPair, coefficients};
+ghost use Rattle.coefficients.specs.Coefficients.{coefficients};
 ghost use Rattle.smoothers.specs.Smoother.{formula, smooth, smootherAnswer, Begun, Smoothed};
-ghost use Rattle.smoothers.specs.Period.{isPeriod, wholePart};
+ghost use Rattle.coefficients.specs.Period.{wholePart};
 ghost use Rattle.ranges.specs.Range.{trueRangeLine};
-
-// What the smoother's step needs of its period.
-pub struct Coefficients {
-    pub c1: f64,
-    pub c2: f64,
-    pub c3: f64,
-}
-
-impl Coefficients {
-    // Period 0. Its c1 and c2 are NaN, which no constant holds today: here they are 0.0, and `of_period` divides each by itself.
-    const PERIOD_0: Coefficients = Coefficients {
-        c1: 0.0,
-        c2: 0.0,
-        c3: -0.0,
-    };
-
-    fn of_pair(a1: f64, b1: f64) -> Coefficients
-        ensures { λ r. ⌜ r ≡ ofPair a1 b1 ⌝ }
-    {
-        let c2 = b1;
-        let c3 = -a1 * a1;
-        Coefficients {
-            c1: (1.0 + c2 - c3) / 4.0,
-            c2: c2,
-            c3: c3,
-        }
-    }
-
-    // The coefficients of a whole period.
-    pub fn of_period(period: usize) -> Coefficients
-        requires { ⌜ period ≤ 512 ⌝ }
-        ensures { λ r. ⌜ r ≡ coefficients period ⌝ }
-    {
-        if period == 0 {
-            let zero = Coefficients::PERIOD_0;
-            return Coefficients {
-                c1: zero.c1 / zero.c1,
-                c2: zero.c2 / zero.c2,
-                c3: zero.c3,
-            };
-        }
-        Coefficients::of_pair(table::A1[period - 1], table::B1[period - 1])
-    }
-}
 
 // One cell, from the last three prices, the newest first, and the last two cells.
 pub fn step(c: Coefficients, p0: f64, p1: f64, p2: f64, us1: f64, us2: f64) -> f64
@@ -112,18 +67,6 @@ pub fn write_smooth(price: &[f64], period: usize, out: &mut [f64])
     }
 }
 
-// Whether x is whole from 0 to 512.
-fn is_period(x: f64) -> bool
-    ensures { λ r. ⌜ r ≡ isPeriod x ⌝ }
-{
-    if x >= 0.0 {
-        if x <= 512.0 {
-            return std::num::truncating_f64_to_u64(x) as f64 == x;
-        }
-    }
-    false
-}
-
 // The ultimate smoother: see `smootherAnswer` and `smooth`.
 pub fn ultimate_smoother(price: &[f64], period: f64, out: &mut [f64]) -> Answer
     ensures { λ r. ⌜ Call (smootherAnswer (now (price .entry)) period (length (now (out .entry))))
@@ -135,7 +78,7 @@ pub fn ultimate_smoother(price: &[f64], period: f64, out: &mut [f64]) -> Answer
         return due;
     }
     if values::is_finite(period) {
-        if is_period(period) {
+        if coefficients::is_period(period) {
             let whole = std::num::truncating_f64_to_u64(period) as usize;
             write_smooth(price, whole, out);
             return Answer::Cells(price.len());

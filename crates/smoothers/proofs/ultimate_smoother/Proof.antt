@@ -12,7 +12,7 @@ use Rattle.values.specs.Accepted.{finite}
 use Rattle.calls.specs.Answer.{unless}
 use Rattle.calls.specs.Room.{checked-room}
 use Rattle.calls.specs.Call.{refused, counted}
-use Rattle.smoothers.specs.Period.{isPeriod, Cut, cut-period}
+use Rattle.coefficients.specs.Period.{isPeriod, Cut, cut-period}
 use Rattle.smoothers.specs.Smoother.{smootherAnswer}
 use Rattle.smoothers.proofs.ultimate_smoother.Statement.{statement}
 use Rattle.smoothers.proofs.ultimate_smoother.Tie as tie

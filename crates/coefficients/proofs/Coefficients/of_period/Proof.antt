@@ -2,11 +2,11 @@
 use mathlib.Core.Path.{_∙_}
 use native.Mathlib.Omega.{arith}
 use lib.Ieee.{ofBits, neg, add, sub, mul, div}
-use Rattle.smoothers.specs.Coefficients.{a1Table, b1Table, a1Of, b1Of, ofPair, coefficients, at-index}
-use Rattle.smoothers.specs.Recorded.{a1Bits, b1Bits}
+use Rattle.coefficients.specs.Coefficients.{a1Table, b1Table, a1Of, b1Of, ofPair, coefficients, at-index}
+use Rattle.coefficients.specs.Recorded.{a1Bits, b1Bits}
 use borrow.Author.Needs.{needs}
-use Rattle.smoothers.proofs.Coefficients.of_period.Statement.{statement}
-use Rattle.smoothers.proofs.Coefficients.of_period.Tie as tie
+use Rattle.coefficients.proofs.Coefficients.of_period.Statement.{statement}
+use Rattle.coefficients.proofs.Coefficients.of_period.Tie as tie
 
 pub of-period-spec : {M : Type 1} → statement M
 of-period-spec =

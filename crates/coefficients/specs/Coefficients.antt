@@ -9,8 +9,8 @@ use lib.IntN.{pos}
 use lib.ListN.{getD}
 use lib.Ieee.{Float, nan, fin, binary64, ofBits, neg, add, sub, mul, div}
 use Rattle.cells.specs.Line.{plusZero}
-use Rattle.smoothers.specs.declared.Coefficients.{Coefficients}
-use Rattle.smoothers.specs.Recorded.{a1Bits, b1Bits}
+use Rattle.coefficients.specs.declared.Coefficients.{Coefficients}
+use Rattle.coefficients.specs.Recorded.{a1Bits, b1Bits}
 
 unfoldable pub a1Table : List Float
 a1Table = map (ofBits binary64) a1Bits

@@ -1,9 +1,9 @@
 -- `Coefficients::of_pair` meets its contract: the same operations in the same order. Assumes nothing.
 use lib.Ieee.{ofBits}
-use Rattle.smoothers.specs.Coefficients.{ofPair}
+use Rattle.coefficients.specs.Coefficients.{ofPair}
 use borrow.Author.Needs.{needs}
-use Rattle.smoothers.proofs.Coefficients.of_pair.Statement.{statement}
-use Rattle.smoothers.proofs.Coefficients.of_pair.Tie as tie
+use Rattle.coefficients.proofs.Coefficients.of_pair.Statement.{statement}
+use Rattle.coefficients.proofs.Coefficients.of_pair.Tie as tie
 
 pub of-pair-spec : {M : Type 1} → statement M
 of-pair-spec =

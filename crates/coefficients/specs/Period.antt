@@ -10,7 +10,7 @@ use lib.IntN.{pos}
 use lib.Ieee.{Float, nan, inf, fin, binary64, up, down, lt, eq, le, ofInt, toUnsigned}
 use lib.Ieee.Fits.{down-pos}
 use Rattle.cells.specs.Line.{plusZero}
-use Rattle.smoothers.specs.Coefficients.{power}
+use Rattle.coefficients.specs.Coefficients.{power}
 
 -- the whole part of a number that is not below 0
 abbrev pub wholePart : Float → ℕ

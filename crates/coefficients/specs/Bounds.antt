@@ -12,8 +12,8 @@ use lib.Ieee.{Float, nan, binary64, ofBits, mul, lt, eq, le}
 use Rattle.values.specs.Accepted.{and-parts}
 use Rattle.cells.specs.Line.{plusZero}
 use Rattle.rounding.specs.Leaves.{magnitudeOf}
-use Rattle.smoothers.specs.Recorded.{a1Bits, b1Bits}
-use Rattle.smoothers.specs.Coefficients.{power, a1Table, b1Table, a1Of, b1Of}
+use Rattle.coefficients.specs.Recorded.{a1Bits, b1Bits}
+use Rattle.coefficients.specs.Coefficients.{power, a1Table, b1Table, a1Of, b1Of}
 
 -- ---- the tests
 

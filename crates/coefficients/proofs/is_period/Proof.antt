@@ -3,9 +3,9 @@ use Prim.Native.Nat.{_^_}
 use native.Mathlib.Omega.{arith}
 use lib.Dec.{le→leb}
 use lib.Ieee.{ofBits, inFloat}
-use Rattle.smoothers.specs.Period.{isPeriod, Cut, cut}
-use Rattle.smoothers.proofs.is_period.Statement.{statement}
-use Rattle.smoothers.proofs.is_period.Tie as tie
+use Rattle.coefficients.specs.Period.{isPeriod, Cut, cut}
+use Rattle.coefficients.proofs.is_period.Statement.{statement}
+use Rattle.coefficients.proofs.is_period.Tie as tie
 
 -- what is known of a number from 0 to 512
 small : (c : tie.Then2) → Cut (c .before .before .args .x)
