@@ -2,7 +2,7 @@
 use mathlib.Core.Path.{_≡_}
 use Prim.Native.Nat.{ℕ, _+_, _<_, _≤_}
 use native.Mathlib.Omega.{arith}
-use lib.Ieee.{binary64, add}
+use lib.Ieee.{Float, binary64, add}
 use Rattle.cells.specs.Line.{Line, minusZero}
 use Rattle.windows.specs.declared.Lanes.{Lanes}
 use Rattle.windows.specs.Window.{Summing, none-summed, one-added, window-sum, windowSum, over, mean, mean-of}
@@ -35,6 +35,10 @@ pub record Eight (line : Line) (i : ℕ) (r : Lanes) : Type 0 where
 abbrev pub eachOver : ℕ → Lanes → Lanes
 eachOver n r = record { a = over n (r .a); b = over n (r .b); c = over n (r .c); d = over n (r .d); e = over n (r .e); f = over n (r .f); g = over n (r .g); h = over n (r .h) }
 
+-- each lane with one more cell: the eight cells from a on
+abbrev pub eachPlus : Line → ℕ → Lanes → Lanes
+eachPlus f a r = record { a = add binary64 (r .a) (f a); b = add binary64 (r .b) (f (a + 1)); c = add binary64 (r .c) (f (a + 2)); d = add binary64 (r .d) (f (a + 3)); e = add binary64 (r .e) (f (a + 4)); f = add binary64 (r .f) (f (a + 5)); g = add binary64 (r .g) (f (a + 6)); h = add binary64 (r .h) (f (a + 7)) }
+
 -- eight sums side by side, each k cells long: what the loop that sums keeps of eight of its lanes
 pub record Summed (f : Line) (a k : ℕ) (r : Lanes) : Type 0 where
   pub first : Summing minusZero f a k (r .a)
@@ -50,10 +54,23 @@ pub record Summed (f : Line) (a k : ℕ) (r : Lanes) : Type 0 where
 pub none-of-eight : {f : Line} {a : ℕ} → Summed f a 0 (record { a = minusZero; b = minusZero; c = minusZero; d = minusZero; e = minusZero; f = minusZero; g = minusZero; h = minusZero })
 none-of-eight = record { first = none-summed; second = none-summed; third = none-summed; fourth = none-summed; fifth = none-summed; sixth = none-summed; seventh = none-summed; eighth = none-summed }
 
+-- one more cell in a lane, which the loop finds at bar j
+one-more : {f : Line} {a k : ℕ} {x : Float} (j : ℕ) → Summing minusZero f a k x → j ≡ a + k → Summing minusZero f a (k + 1) (add binary64 x (f j))
+one-more j s e = rw e (one-added s)
+
 -- one more cell in each
-pub each-added : {f : Line} {a k : ℕ} {r : Lanes} → Summed f a k r
-    → Summed f a (k + 1) (record { a = add binary64 (r .a) (f (a + k)); b = add binary64 (r .b) (f (a + 1 + k)); c = add binary64 (r .c) (f (a + 2 + k)); d = add binary64 (r .d) (f (a + 3 + k)); e = add binary64 (r .e) (f (a + 4 + k)); f = add binary64 (r .f) (f (a + 5 + k)); g = add binary64 (r .g) (f (a + 6 + k)); h = add binary64 (r .h) (f (a + 7 + k)) })
-each-added s = record { first = one-added (s .first); second = one-added (s .second); third = one-added (s .third); fourth = one-added (s .fourth); fifth = one-added (s .fifth); sixth = one-added (s .sixth); seventh = one-added (s .seventh); eighth = one-added (s .eighth) }
+pub each-added : {f : Line} {a k : ℕ} {r : Lanes} → Summed f a k r → Summed f a (k + 1) (eachPlus f (a + k) r)
+each-added {f} {a} {k} s =
+    record {
+      first = one-added (s .first);
+      second = one-more (a + k + 1) (s .second) (omega arith);
+      third = one-more (a + k + 2) (s .third) (omega arith);
+      fourth = one-more (a + k + 3) (s .fourth) (omega arith);
+      fifth = one-more (a + k + 4) (s .fifth) (omega arith);
+      sixth = one-more (a + k + 5) (s .sixth) (omega arith);
+      seventh = one-more (a + k + 6) (s .seventh) (omega arith);
+      eighth = one-more (a + k + 7) (s .eighth) (omega arith);
+    }
 
 -- the windows' sums at the eight bars from i on, the first of which starts at bar a
 pub eight-sums : (n i a : ℕ) {f : Line} {k : ℕ} {r : Lanes} → Summed f a k r → (k ≡ n) × (a + n ≡ i + 1) → Eight (windowSum n f) i r

@@ -1,10 +1,10 @@
 // Sums and means of windows, each summed afresh from left to right: of one bar, and of eight bars side by side.
 ghost use mathlib.Core.Path.{_≡_};
-ghost use Prim.Native.Nat.{_≤_};
+ghost use Prim.Native.Nat.{_+_, _≤_};
 ghost use lib.ListN.{length};
 ghost use Rattle.cells.specs.Line.{line};
 ghost use Rattle.windows.specs.Window.{windowSum, mean};
-ghost use Rattle.windows.specs.Eight.{Windows, Eight, eachOver};
+ghost use Rattle.windows.specs.Eight.{Windows, Eight, eachPlus, eachOver};
 
 // A number for each of eight bars side by side.
 pub struct Lanes {
@@ -16,6 +16,37 @@ pub struct Lanes {
     pub f: f64,
     pub g: f64,
     pub h: f64,
+}
+
+impl Lanes {
+    // No price is summed yet.
+    pub const NONE: Lanes = Lanes {
+        a: -0.0,
+        b: -0.0,
+        c: -0.0,
+        d: -0.0,
+        e: -0.0,
+        f: -0.0,
+        g: -0.0,
+        h: -0.0,
+    };
+}
+
+// Each lane with one more price: the eight prices from `at` on.
+pub fn added(sums: Lanes, series: &[f64], at: usize) -> Lanes
+    requires { ⌜ at + 8 ≤ length (now series) ⌝ }
+    ensures { λ r. ⌜ r ≡ eachPlus (line (now (series .entry))) at sums ⌝ }
+{
+    Lanes {
+        a: sums.a + series[at],
+        b: sums.b + series[at + 1],
+        c: sums.c + series[at + 2],
+        d: sums.d + series[at + 3],
+        e: sums.e + series[at + 4],
+        f: sums.f + series[at + 5],
+        g: sums.g + series[at + 6],
+        h: sums.h + series[at + 7],
+    }
 }
 
 // The sum of the n prices up to bar i.
@@ -39,36 +70,13 @@ pub fn sums_at(series: &[f64], n: usize, i: usize) -> Lanes
     ensures { λ r. ⌜ Eight (windowSum n (line (now (series .entry)))) i r ⌝ }
 {
     let at = i + 1 - n;
-    let mut a = -0.0;
-    let mut b = -0.0;
-    let mut c = -0.0;
-    let mut d = -0.0;
-    let mut e = -0.0;
-    let mut f = -0.0;
-    let mut g = -0.0;
-    let mut h = -0.0;
+    let mut sums = Lanes::NONE;
     let mut k = 0;
     while k < n {
-        a = a + series[at + k];
-        b = b + series[at + 1 + k];
-        c = c + series[at + 2 + k];
-        d = d + series[at + 3 + k];
-        e = e + series[at + 4 + k];
-        f = f + series[at + 5 + k];
-        g = g + series[at + 6 + k];
-        h = h + series[at + 7 + k];
+        sums = added(sums, series, at + k);
         k += 1;
     }
-    Lanes {
-        a,
-        b,
-        c,
-        d,
-        e,
-        f,
-        g,
-        h,
-    }
+    sums
 }
 
 // Each lane divided by n.
