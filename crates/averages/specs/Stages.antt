@@ -1,21 +1,25 @@
 -- What the functions under the averages ask of each other. Assumes nothing.
-use mathlib.Core.Path.{_≡_, sym, _∙_}
-use mathlib.Core.Bool.{Bool}
+use mathlib.Core.Path.{_≡_, refl, sym, _∙_}
+use mathlib.Core.Bool.{Bool, true, false}
 use mathlib.Core.List.{List, [], _∷_}
-use Prim.Native.Nat.{ℕ, suc, _+_, _-_, _<_, _≤_}
+use Prim.Native.Nat.{ℕ, suc, _+_, _-_, _/_, _<_, _≤_}
 use native.Mathlib.Omega.{arith}
 use lib.ListN.{length, set}
 use lib.Ieee.{Float, nan}
 use Rattle.calls.specs.declared.Answer.{Answer}
-use Rattle.calls.specs.declared.Answer.the-variants.{Cells}
-use Rattle.calls.specs.Answer.{answered}
+use Rattle.calls.specs.declared.Answer.the-variants.{Cells, Refused}
+use Rattle.calls.specs.declared.Refusal.the-variants.{ValueNotAccepted}
+use Rattle.calls.specs.Answer.{unless, answered}
 use Rattle.calls.specs.Room.{room, opened}
-use Rattle.calls.specs.Call.{Call, counted}
+use Rattle.calls.specs.Call.{Call, refused, counted}
 use Rattle.cells.specs.Line.{Line, line, from-bar, Led, lead-stands}
 use Rattle.cells.specs.Recur.{recur}
 use Rattle.cells.specs.Written.{Writing, none-written, step, ends, then-written}
 use Rattle.windows.specs.Window.{windowSum, over, Running, first-running}
 use Rattle.windows.specs.Eight.{WindowRoom}
+use Rattle.values.specs.Accepted.{accepted, all}
+use Rattle.values.specs.Quick.{NoneAbove}
+use Rattle.averages.specs.declared.Found.{Found}
 use Rattle.averages.specs.Averages.{addDifference, smaLine, blend, smoothLine}
 
 -- ---- sma
@@ -33,6 +37,19 @@ pub record Sliding (s : List Float) (n : ℕ) (sum : Float) (now : List Float) :
   pub room : length s ≤ length now
   pub cells : Writing n (smaLine n (line s)) now now
   pub running : Running addDifference n (line s) n sum
+
+-- the sum of the first n bars, and their bits: no number among them has larger ones
+pub record First (s : List Float) (n : ℕ) (r : Found) : Type 0 where
+  pub sum : r .last ≡ windowSum n (line s) (n - 1)
+  pub bits : NoneAbove (r .together) s 0 n
+
+-- `sum` is that of the first n bars, and there is room for all cells
+pub record Summed (s : List Float) (n : ℕ) (sum : Float) (cells : ℕ) : Type 0 where
+  pub some : 0 < n
+  pub short : n ≤ 4096
+  pub inside : n ≤ length s
+  pub room : length s ≤ cells
+  pub is : sum ≡ windowSum n (line s) (n - 1)
 
 -- the lead of `sma`, and the first mean after it
 pub first-mean : (s : List Float) (n : ℕ) {r : ℕ} {sum : Float} {old now : List Float} → Led (n - 1) (length s) nan r old now
@@ -66,11 +83,33 @@ module _ {alpha : Float} {a : ℕ} {seed : Float} {f : Line} where
       let bar : a + 1 + (i - 1 - a) ≡ i = omega arith in
       record { is = rw (e, r .is, now, from-bar a nan _ i (omega arith), from-bar a nan _ (i - 1) (omega arith), one, bar) }
 
+  -- the bar, written in another way
+  pub at-bar : {i j : ℕ} {x : Float} → Blending alpha a seed f i x → i ≡ j → Blending alpha a seed f j x
+  at-bar r e = rw (← e) r
+
   -- the cell of bar i
   pub blended-cell : (i : ℕ) {x : Float} → Blending alpha a seed f (i + 1) x → x ≡ smoothLine alpha a seed f i
   blended-cell i r =
       let now : i + 1 - 1 ≡ i = omega arith in
       rw (r .is, now)
+
+-- how many bars half of those after bar `first` are
+abbrev pub half : ℕ → ℕ → ℕ
+half bars first = (bars - first - 1) / 2
+
+-- the bits of the bars up to the seed's
+pub record Seeded (s : List Float) (first together : ℕ) : Type 0 where
+  pub inside : first < length s
+  pub bits : NoneAbove together s 0 (first + 1)
+
+-- x is the cell half way through the bars after the seed
+abbrev pub Middle : List Float → Float → ℕ → Float → Float → Type 0
+Middle s alpha first seed x = Blending alpha first seed (line s) (first + 1 + half (length s) first) x
+
+-- that cell, and the bits of all bars
+pub record HalfWay (s : List Float) (alpha : Float) (first : ℕ) (seed : Float) (r : Found) : Type 0 where
+  pub middle : Middle s alpha first seed (r .last)
+  pub bits : NoneAbove (r .together) s 0 (length s)
 
 -- every cell of a smoothed line is written to `now`
 abbrev pub Smooth : List Float → Float → ℕ → Float → List Float → List Float → Type 0
@@ -81,6 +120,24 @@ pub record Smoothing (s : List Float) (alpha : Float) (first : ℕ) (seed : Floa
   pub inside : first < length s
   pub room : length s ≤ length now
   pub cells : Writing k (smoothLine alpha first seed (line s)) now now
+
+-- the lead of a smoothed line, and the seed after it
+pub seed-written : (s : List Float) (alpha : Float) (first : ℕ) (seed : Float) {r : ℕ} {old now : List Float} → Led first (length s) nan r old now
+    → (first < length s) × (length s ≤ length now) → Writing (first + 1) (smoothLine alpha first seed (line s)) old (set now first seed)
+unfolding smoothLine
+seed-written s alpha first seed w (p, h) =
+    step first (first + 1) (then-written (w .lead) (lead-stands _ w) (omega arith)) (blended-cell {f = line s} first seeded) (omega (arith, w .lead .long))
+
+-- ---- a call whose lengths are in order: the values decide
+
+module _ (s : List Float) {t : Bool} (e : t ≡ all accepted s) where
+  pub values-pass : {f : Line} {old now : List Float} → t ≡ true → Writing (length s) f old now
+      → Call (unless (all accepted s) ValueNotAccepted (Cells (length s))) f old (Cells (length s)) now
+  values-pass p w = counted (rw (← e, p)) w
+
+  pub values-fail : {f : Line} {old : List Float} → t ≡ false
+      → Call (unless (all accepted s) ValueNotAccepted (Cells (length s))) f old (Refused ValueNotAccepted) old
+  values-fail p = refused (rw (← e, p)) refl
 
 -- ---- a call with one window
 

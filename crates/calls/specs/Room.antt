@@ -1,11 +1,11 @@
 -- The table of refusals in the forms that the checks meet it, and what is known of a call that it let pass. Assumes nothing.
 use mathlib.Core.Path.{_≡_, refl, sym, _∙_}
-use mathlib.Core.Bool.{Bool, true, false, _&&_, _||_}
+use mathlib.Core.Bool.{Bool, true, false, _&&_, _||_, true≢false}
 use mathlib.Core.List.{List, [], _∷_}
 use Prim.Native.Nat.{ℕ, zero, suc, _*_, _<_, _≤_}
 use native.Mathlib.Omega.{arith}
-use borrow.Author.Tests.{leb-true, eq-eqb, eqb-false}
-use lib.Dec.{leb, eqb}
+use borrow.Author.Tests.{leb-true, leb-false, le-leb, ltb-true, lt-ltb, ne-eqb, eq-eqb, eqb-false}
+use lib.Dec.{leb, ltb, eqb}
 use lib.ListN.{length}
 use lib.Ieee.{Float}
 use Rattle.calls.specs.declared.Refusal.{Refusal}
@@ -13,7 +13,7 @@ use Rattle.calls.specs.declared.Refusal.the-variants.{SeriesTooLong, Len
 use Rattle.calls.specs.declared.Answer.{Answer}
 use Rattle.calls.specs.declared.Answer.the-variants.{Cells, Refused}
 use Rattle.values.specs.Accepted.{all, and-parts}
-use Rattle.calls.specs.Answer.{countOf, first, unless, andThen, emptyIf, slices, checked, anyZero, windowed, answered}
+use Rattle.calls.specs.Answer.{countOf, first, unless, andThen, emptyIf, slices, checked, anyZero, windowed, answered, windowFits}
 
 -- ---- the table for one series
 
@@ -144,3 +144,57 @@ opened ok s n out work k e h =
     let b = emptyIf-cells (eqb l 0 || eqb n 0) all-of-it k (a .1) h in
     let c = or-parts (eqb l 0) (eqb n 0) (b .0) in
     record { some = nonzero n (c .1); narrow = leb-true _ _ (a .0); whole = sym (same-count _ _ (b .1)) }
+
+-- ---- a window that fits
+
+-- what that says
+pub record Fits (bars n out : ℕ) : Type 0 where
+  pub some : 0 < n
+  pub narrow : n ≤ 4096
+  pub inside : n ≤ bars
+  pub short : bars ≤ 65536
+  pub room : bars ≤ out
+
+pub fits-parts : (bars n out : ℕ) → windowFits bars n out ≡ true → Fits bars n out
+unfolding windowFits
+fits-parts bars n out e =
+    let a = and-parts (ltb 0 n && leb n 4096 && leb n bars && leb bars 65536) (leb bars out) e in
+    let b = and-parts (ltb 0 n && leb n 4096 && leb n bars) (leb bars 65536) (a .0) in
+    let c = and-parts (ltb 0 n && leb n 4096) (leb n bars) (b .0) in
+    let d = and-parts (ltb 0 n) (leb n 4096) (c .0) in
+    record {
+      some = ltb-true _ _ (d .0);
+      narrow = leb-true _ _ (d .1);
+      inside = leb-true _ _ (c .1);
+      short = leb-true _ _ (b .1);
+      room = leb-true _ _ (a .1);
+    }
+
+-- where it does not fit though all else is in order, the bars end before the window does
+pub none-fits : (bars n out : ℕ) → windowFits bars n out ≡ false → 0 < n → n ≤ 4096 → bars ≤ 65536 → bars ≤ out → bars < n
+unfolding windowFits
+none-fits bars n out e p q r s = go (leb n bars) refl
+  where
+    go : (t : Bool) → leb n bars ≡ t → bars < n
+    go false f = leb-false _ _ f
+    go true f = absurd (true≢false (sym (rw (lt-ltb 0 n p, le-leb n 4096 q, f, le-leb bars 65536 r, le-leb bars out s)) ∙ e))
+
+-- a count that is answered twice
+pub counted-twice : (t : Bool) (q : Refusal) (k : ℕ) → andThen (unless t q (Cells k)) (Cells k) ≡ unless t q (Cells k)
+counted-twice true q k = refl
+counted-twice false q k = refl
+
+module _ (ok : Float → Bool) (s : List Float) (n out : ℕ) (f : windowFits (length s) n out ≡ true) where
+  -- then the values decide
+  pub fits-checked : checked ok (s ∷ []) (out ∷ []) [] ≡ unless (all ok s) ValueNotAccepted (Cells (length s))
+  fits-checked =
+      let h = fits-parts (length s) n out f in
+      rw (checked-one ok s (out ∷ []) [], slices-one (length s) out [], le-leb _ _ (h .short), le-leb _ _ (h .room))
+
+  pub fits-answered : answered ok s (n ∷ []) out [] ≡ unless (all ok s) ValueNotAccepted (Cells (length s))
+  unfolding answered
+  fits-answered =
+      let h = fits-parts (length s) n out f in
+      let bars : eqb (length s) 0 ≡ false = ne-eqb (length s) 0 (λ (e : length s ≡ 0). omega arith) in
+      let some : eqb n 0 ≡ false = ne-eqb n 0 (λ (e : n ≡ 0). omega arith) in
+      rw (fits-checked, windowed-one (length s) n (Cells (length s)), le-leb _ _ (h .narrow), bars, some, counted-twice (all ok s))

@@ -7,7 +7,7 @@ ghost use Prim.Native.Nat.{_*_};
 ghost use lib.Dec.{leb};
 ghost use lib.ListN.{length};
 ghost use Rattle.values.specs.Accepted.{accepted, tick, all};
-ghost use Rattle.calls.specs.Answer.{unless, andThen, slices, checked, windowed, answered};
+ghost use Rattle.calls.specs.Answer.{unless, andThen, slices, checked, windowed, answered, windowFits};
 ghost use Rattle.calls.specs.declared.Answer.the-variants.{Cells};
 ghost use Rattle.calls.specs.declared.Refusal.the-variants.{WorkTooShort, ValueNotAccepted};
 
@@ -111,6 +111,13 @@ fn check_window(bars: usize, n: usize) -> Answer
         return Answer::Cells(0);
     }
     Answer::Cells(bars)
+}
+
+// Whether a window is whole and all lengths are in order, so that only the values are left to be refused.
+pub fn window_fits(bars: usize, n: usize, out: usize) -> bool
+    ensures { λ r. ⌜ r ≡ windowFits bars n out ⌝ }
+{
+    (n > 0) & (n <= 4096) & (n <= bars) & (bars <= 65536) & (bars <= out)
 }
 
 // The answer of a call with one series, one window, its output and no work slice.

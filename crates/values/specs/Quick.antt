@@ -2,10 +2,11 @@
 use mathlib.Core.Path.{_≡_, refl, sym, _∙_, subst}
 use mathlib.Core.Bool.{Bool, true, false, not, cond, true≢false}
 use mathlib.Core.List.{List, [], _∷_}
-use Prim.Native.Nat.{ℕ, zero, suc, _+_, _*_, _/_, _%_, _^_, _<_, _≤_, suc-le-suc}
-use native.Mathlib.Nat.{le-trans, le-of-lt, le-of-eq, mul-one, one-mul, mul-pos, mod-lt, mod-eq-of-lt, div-add-mod', zero-lt-suc}
+use Prim.Native.Nat.{ℕ, zero, suc, _+_, _*_, _/_, _%_, _^_, _<_, _≤_, zero-le, suc-le-suc}
+use native.Mathlib.Nat.{le-trans, lt-of-lt-of-le, le-of-lt, le-of-eq, mul-one, one-mul, mul-pos, mod-lt, mod-eq-of-lt, div-add-mod', zero-lt-suc}
 use native.Mathlib.Omega.{arith}
 use borrow.Author.Tests.{lt-leb, lt-ltb, ltb-true, ltb-false, ne-eqb}
+use lib.Bits.{bitOr, or-add-and, and-le-l, and-le-r}
 use lib.Dec.{T, ltb}
 use lib.IntN.{pos}
 use lib.Pow.{pow-add, pow-pos, pow-mono, shl-lt}
@@ -21,9 +22,48 @@ use Rattle.values.specs.Accepted.{within, accepted, all}
 unfoldable pub capped : Float → Float
 capped x = cond (lt x (fin false 1 (pos 31))) x (fin false 1 (pos 31))
 
--- no number has larger bits than b
-abbrev pub NoneAbove : ℕ → List Float → Type 0
-NoneAbove b s = (i : ℕ) → i < length s → toBits binary64 (capped (getD s i nan)) ≤ b
+-- none of the numbers from index a up to k has larger bits than b
+pub record NoneAbove (b : ℕ) (s : List Float) (a k : ℕ) : Type 0 where
+  pub each : (i : ℕ) → a ≤ i → i < k → toBits binary64 (capped (getD s i nan)) ≤ b
+
+pub or-first : (a b : ℕ) → a ≤ bitOr a b
+or-first a b = omega (arith, or-add-and a b, and-le-r a b)
+
+pub or-second : (a b : ℕ) → b ≤ bitOr a b
+or-second a b = omega (arith, or-add-and a b, and-le-l a b)
+
+module _ {s : List Float} {a : ℕ} where
+  -- there are none
+  pub none-yet : {b k : ℕ} → k ≤ a → NoneAbove b s a k
+  none-yet h = record { each = λ i p q. absurd (omega arith) }
+
+  pub none-larger : {b c k : ℕ} → NoneAbove b s a k → b ≤ c → NoneAbove c s a k
+  none-larger n h = record { each = λ i p q. le-trans (n .each i p q) h }
+
+  -- a part of them
+  pub none-within : {b k : ℕ} (m l : ℕ) → NoneAbove b s a k → (a ≤ m) × (l ≤ k) → NoneAbove b s m l
+  none-within m l n (p, q) = record { each = λ i g h. n .each i (le-trans p g) (lt-of-lt-of-le h q) }
+
+  -- two parts that leave nothing out between them
+  pub none-joined : {b k m l : ℕ} → NoneAbove b s a k → NoneAbove b s m l → m ≤ k → NoneAbove b s a l
+  none-joined {b} {k} {m} {l} u v h = record { each = λ i p q. go i p q (ltb i k) refl }
+    where
+      go : (i : ℕ) → a ≤ i → i < l → (t : Bool) → ltb i k ≡ t → toBits binary64 (capped (getD s i nan)) ≤ b
+      go i p q true e = u .each i p (ltb-true _ _ e)
+      go i p q false e = let g : k ≤ i = ltb-false _ _ e in v .each i (le-trans h g) q
+
+-- number k alone
+pub none-of-one : {s : List Float} {k : ℕ} {x : Float} → x ≡ capped (getD s k nan) → NoneAbove (toBits binary64 x) s k (k + 1)
+none-of-one {s} {k} {x} e = record { each = λ i p q. go i (omega arith) }
+  where
+    go : (i : ℕ) → i ≡ k → toBits binary64 (capped (getD s i nan)) ≤ toBits binary64 x
+    go i h = rw (h, ← e) (le-of-eq refl)
+
+-- no bit is taken away by a further number, so nothing becomes larger than what is kept
+pub none-with : {s : List Float} {a b k : ℕ} {x : Float} → NoneAbove b s a k → x ≡ capped (getD s k nan)
+    → NoneAbove (bitOr b (toBits binary64 x)) s a (k + 1)
+none-with {b = b} {k} {x} n e =
+    none-joined (none-larger n (or-first b (toBits binary64 x))) (none-larger (none-of-one e) (or-second b (toBits binary64 x))) (le-of-eq refl)
 
 -- only a number is below another
 pub capped-number : (x : Float) → T (not (isNan (capped x)))
@@ -139,9 +179,9 @@ all-of : (p : Float → Bool) (s : List Float) → ((i : ℕ) → i < length s �
 all-of p [] h = refl
 all-of p (x ∷ s) h = rw (h 0 (zero-lt-suc _), all-of p s (λ i l. h (suc i) (suc-le-suc l)))
 
-module _ {b : ℕ} (s : List Float) (none : NoneAbove b s) (fit : (i : ℕ) → T (fits binary64 (getD s i nan))) where
+module _ {b : ℕ} (s : List Float) (none : NoneAbove b s 0 (length s)) (fit : (i : ℕ) → T (fits binary64 (getD s i nan))) where
   pub quick-all : b ≤ powerBits 30 → all accepted s ≡ true
-  quick-all h = all-of accepted s (λ i l. quick-accepted (getD s i nan) (fit i) (le-trans (none i l) h))
+  quick-all h = all-of accepted s (λ i l. quick-accepted (getD s i nan) (fit i) (le-trans (none .each i zero-le l) h))
 
   pub quick-up-to : (k : ℕ) → k ≤ 30 → b ≤ powerBits k → EachUpTo k s
-  quick-up-to k n h i l = quick k (getD s i nan) n (fit i) (le-trans (none i l) h)
+  quick-up-to k n h i l = quick k (getD s i nan) n (fit i) (le-trans (none .each i zero-le l) h)

@@ -3,6 +3,7 @@ ghost use mathlib.Core.Path.{_≡_};
 ghost use mathlib.Core.Bool.{not};
 ghost use Prim.Native.Nat.{_^_};
 ghost use lib.Dec.{eqb};
+ghost use lib.ListN.{length};
 ghost use lib.Ieee.{binary64, toBits};
 ghost use Rattle.values.specs.Accepted.{within, accepted, tick, finite, all};
 ghost use Rattle.values.specs.Quick.{capped, NoneAbove, UpTo, EachUpTo};
@@ -51,18 +52,18 @@ pub fn is_finite(x: f64) -> bool
 }
 
 // x, or 2^31 where x is not below it, as a NaN is not.
-fn cap(x: f64) -> f64
+pub fn cap(x: f64) -> f64
     ensures { λ r. ⌜ r ≡ capped x ⌝ }
 {
     if x < 2147483648.0 { x } else { 2147483648.0 }
 }
 
-// The bits of all numbers of s, one upon the other: those of no number are larger. What is not below 2^31 counts as that.
-fn bits_together(s: &[f64]) -> u64
-    ensures { λ r. ⌜ NoneAbove r (now (s .entry)) ⌝ }
+// The bits of the numbers of s from index `first` on, one upon the other: those of none are larger. What is not below 2^31 counts as that.
+pub fn bits_together(s: &[f64], first: usize) -> u64
+    ensures { λ r. ⌜ NoneAbove r (now (s .entry)) first (length (now (s .entry))) ⌝ }
 {
     let mut together = 0;
-    let mut i = 0;
+    let mut i = first;
     while i < s.len() {
         together = together | f64::to_bits(cap(s[i]));
         i += 1;
@@ -85,15 +86,24 @@ fn each_accepted(s: &[f64]) -> bool
     near & (minus_zeros == 0)
 }
 
-// Whether a series may hold every number of s. If all bits together are at most those of 2^30, every number lies from 0.0 to 2^30; most series pass this quick test.
-pub fn all_accepted(s: &[f64]) -> bool
+// Whether a series may hold every number of s, whose bits together are at hand. If those are at most the bits of 2^30, every number lies from 0.0 to 2^30; most
+// series pass this quick test.
+pub fn accepted_by(together: u64, s: &[f64]) -> bool
+    requires { ⌜ NoneAbove together (now s) 0 (length (now s)) ⌝ }
     ensures { λ r. ⌜ r ≡ all accepted (now (s .entry)) ⌝ }
 {
-    if bits_together(s) <= 4742290407621132288 {
+    if together <= 4742290407621132288 {
         true
     } else {
         each_accepted(s)
     }
+}
+
+// Whether a series may hold every number of s.
+pub fn all_accepted(s: &[f64]) -> bool
+    ensures { λ r. ⌜ r ≡ all accepted (now (s .entry)) ⌝ }
+{
+    accepted_by(bits_together(s, 0), s)
 }
 
 // Whether x, which lies from 0.0 to 2^24, is whole: beside 2^52 there is no room for a fraction.
@@ -141,7 +151,7 @@ pub fn all_ticks(s: &[f64]) -> bool
         return true;
     }
     if is_tick(s[0]) {
-        if bits_together(s) <= 4715268809856909312 {
+        if bits_together(s, 0) <= 4715268809856909312 {
             return all_whole(s);
         }
         return each_tick(s);

@@ -2,10 +2,10 @@
 use mathlib.Core.Path.{_≡_}
 use Prim.Native.Nat.{ℕ, _+_, _<_, _≤_}
 use native.Mathlib.Omega.{arith}
-use lib.Ieee.{Float, binary64, add}
+use lib.Ieee.{binary64, add}
 use Rattle.cells.specs.Line.{Line, minusZero}
 use Rattle.windows.specs.declared.Lanes.{Lanes}
-use Rattle.windows.specs.Window.{Summing, none-summed, one-added, window-sum, windowSum, over, mean, mean-of}
+use Rattle.windows.specs.Window.{Summing, none-summed, one-added, added-at, window-sum, windowSum, over, mean, mean-of}
 
 -- a whole window of n bars ends at each of `count` bars from i on
 pub record Windows (n i count bars : ℕ) : Type 0 where
@@ -54,22 +54,18 @@ pub record Summed (f : Line) (a k : ℕ) (r : Lanes) : Type 0 where
 pub none-of-eight : {f : Line} {a : ℕ} → Summed f a 0 (record { a = minusZero; b = minusZero; c = minusZero; d = minusZero; e = minusZero; f = minusZero; g = minusZero; h = minusZero })
 none-of-eight = record { first = none-summed; second = none-summed; third = none-summed; fourth = none-summed; fifth = none-summed; sixth = none-summed; seventh = none-summed; eighth = none-summed }
 
--- one more cell in a lane, which the loop finds at bar j
-one-more : {f : Line} {a k : ℕ} {x : Float} (j : ℕ) → Summing minusZero f a k x → j ≡ a + k → Summing minusZero f a (k + 1) (add binary64 x (f j))
-one-more j s e = rw e (one-added s)
-
 -- one more cell in each
 pub each-added : {f : Line} {a k : ℕ} {r : Lanes} → Summed f a k r → Summed f a (k + 1) (eachPlus f (a + k) r)
 each-added {f} {a} {k} s =
     record {
       first = one-added (s .first);
-      second = one-more (a + k + 1) (s .second) (omega arith);
-      third = one-more (a + k + 2) (s .third) (omega arith);
-      fourth = one-more (a + k + 3) (s .fourth) (omega arith);
-      fifth = one-more (a + k + 4) (s .fifth) (omega arith);
-      sixth = one-more (a + k + 5) (s .sixth) (omega arith);
-      seventh = one-more (a + k + 6) (s .seventh) (omega arith);
-      eighth = one-more (a + k + 7) (s .eighth) (omega arith);
+      second = added-at (a + k + 1) (s .second) (omega arith);
+      third = added-at (a + k + 2) (s .third) (omega arith);
+      fourth = added-at (a + k + 3) (s .fourth) (omega arith);
+      fifth = added-at (a + k + 4) (s .fifth) (omega arith);
+      sixth = added-at (a + k + 5) (s .sixth) (omega arith);
+      seventh = added-at (a + k + 6) (s .seventh) (omega arith);
+      eighth = added-at (a + k + 7) (s .eighth) (omega arith);
     }
 
 -- the windows' sums at the eight bars from i on, the first of which starts at bar a

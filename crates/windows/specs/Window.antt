@@ -45,6 +45,10 @@ pub one-added : {z : Float} {f : Line} {a k : ℕ} {x : Float} → Summing z f a
 unfolding sumFrom
 one-added s = record { is = rw (add-one, s .is) }
 
+-- the cell's bar, written in another way
+pub added-at : {z : Float} {f : Line} {a k : ℕ} {x : Float} (i : ℕ) → Summing z f a k x → a + k ≡ i → Summing z f a (k + 1) (add binary64 x (f i))
+added-at i s e = rw (← e) (one-added s)
+
 -- the window's sum at bar i, from the sum of its n cells, which start at bar a
 pub window-sum : (n i : ℕ) {f : Line} {a k : ℕ} {x : Float} → Summing minusZero f a k x → (k ≡ n) × (a + n ≡ i + 1) → x ≡ windowSum n f i
 unfolding windowSum

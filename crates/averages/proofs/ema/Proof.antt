@@ -1,37 +1,64 @@
--- `ema` meets its contract: the answer is that of the table, and with a count the cells are written. Assumes nothing.
+-- `ema` meets its contract: the smoothed line from the mean of the first bars on, where the window fits, and else all cells are NaN. Assumes nothing.
+use mathlib.Core.Path.{_≡_, sym, _∙_}
+use mathlib.Core.Bool.{true}
+use Prim.Native.Nat.{_-_}
 use native.Mathlib.Omega.{arith}
-use Rattle.calls.specs.Call.{refused}
-use Rattle.averages.specs.Stages.{window-room, all-called, none-called}
+use denote.Ref.{now}
+use lib.ListN.{length}
+use lib.Ieee.{ofBits}
+use Rattle.values.specs.Accepted.{accepted}
+use Rattle.values.specs.Quick.{none-within}
+use Rattle.calls.specs.Answer.{windowFits}
+use Rattle.calls.specs.Room.{Fits, fits-parts, fits-answered}
+use Rattle.cells.specs.Line.{line}
+use Rattle.windows.specs.Window.{mean-of, count-is-float}
+use Rattle.averages.specs.Averages.{smoothLine}
 use borrow.Author.Needs.{needs}
 use Rattle.averages.proofs.ema.Statement.{statement}
 use Rattle.averages.proofs.ema.Tie as tie
 
-write-ema-requires : tie.Need-write-ema-requires
-write-ema-requires c κs =
-    let at-due = c .before .before .before in
-    window-room _ _ _ _ (at-due .before .before .answer-window .ensures) (at-due .due .given .1) (omega arith)
+-- the window is whole, and the lengths are in order
+told : (c : tie.Then1) → let a = c .before .before .before .before .args in windowFits (length (now (a .series))) (a .n) (length (now (a .out))) ≡ true
+told c = sym (c .before .window-fits .ensures) ∙ c .if1 .taken
+
+fits : (c : tie.Then1) → let a = c .before .before .before .before .args in Fits (length (now (a .series))) (a .n) (length (now (a .out)))
+fits c = fits-parts _ _ _ (told c)
+
+answer-smooth-requires : tie.Need-answer-smooth-requires
+answer-smooth-requires c κs =
+    let at-sum = c .before .before .before .before in
+    let h = fits (at-sum .before) in
+    (record { inside = omega arith; bits = none-within _ _ (at-sum .sum-first .ensures .bits) (omega arith) }, h .room)
 
 returns : tie.Need-returns
+unfolding ofBits
 returns c =
-    let at-write = c .before .before in
-    let at-due = at-write .before .before .before .before in
-    all-called _ _ _ _ (at-due .before .before .answer-window .ensures) (at-due .due .given .1) (omega arith) (at-write .write-ema .ensures)
+    let at-smooth = c .before .before in
+    let at-sum = at-smooth .before .before .before .before .before in
+    let at-fits = at-sum .before .before in
+    let a = at-fits .before .before .before .args in
+    let h = fits (at-sum .before) in
+    let seed = mean-of (a .n) (a .n - 1) (line (now (a .series))) (at-sum .sum-first .ensures .sum) (omega arith) in
+    rw (fits-answered accepted (now (a .series)) (a .n) (length (now (a .out))) (told (at-sum .before)), ← seed) (at-smooth .answer-smooth .ensures)
 
 returns-2 : tie.Need-returns-2
-returns-2 c =
-    let at-due = c .before .before in
-    none-called _ _ _ _ (at-due .before .before .answer-window .ensures) (at-due .due .given .1) (omega arith)
+unfolding smoothLine
+returns-2 c = c .before .before .answer-lead .ensures _
 
 pub ema-spec : {M : Type 1} → statement M
 ema-spec =
     tie.close
     (tie.spec
-    (λ c κs. search needs)  -- answer-window-requires
-    (λ c. search needs)  -- enum-known-due
-    write-ema-requires
-    (λ c. search needs)  -- enum-told
+    (λ c κs. search needs)  -- window-fits-requires
+    (λ c κs. (fits c .some, fits c .inside))  -- sum-first-requires
+    (λ c. let h = fits (c .before .before) in count-is-float _ (omega arith))  -- int-to-float-answer-smooth
+    (λ c. let h = fits (c .before .before .before) in omega arith)  -- add-answer-smooth
+    (λ c. let h = fits (c .before .before .before .before) in count-is-float _ (omega arith))  -- int-to-float-answer-smooth-2
+    (λ c. let h = fits (c .before .before .before .before) in omega arith)  -- sub-answer-smooth
+    answer-smooth-requires
+    (λ c κs. sym (c .before .before .window-fits .ensures) ∙ c .before .if1 .left)  -- answer-lead-requires
     (λ c. search needs)  -- same-length
     returns
+    (λ c. search needs)  -- same-length-2
     returns-2
-    (λ c. refused (c .before .before .answer-window .ensures) (c .enum-told .given .1))  -- returns-3
     )

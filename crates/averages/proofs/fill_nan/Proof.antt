@@ -8,7 +8,6 @@ pub fill-nan-spec : {M : Type 1} → statement M
 fill-nan-spec =
     tie.close
     (tie.spec
-    (λ c. search needs)  -- sub-fill-lead
     (λ c κs. search needs)  -- fill-lead-requires
     (λ c. search needs)  -- same-length
     (λ c. unfold ofBits div in search needs)  -- returns

@@ -1,37 +1,69 @@
--- `sma` meets its contract: the answer is that of the table, and with a count the cells are written. Assumes nothing.
+-- `sma` meets its contract: the values decide where the window fits, and else all cells are NaN. Assumes nothing.
+use mathlib.Core.Path.{sym, _∙_}
 use native.Mathlib.Omega.{arith}
-use Rattle.calls.specs.Call.{refused}
-use Rattle.averages.specs.Stages.{window-room, all-called, none-called}
+use denote.Ref.{now}
+use lib.ListN.{length}
+use Rattle.values.specs.Accepted.{accepted}
+use Rattle.values.specs.Quick.{or-first, or-second, none-larger, none-joined}
+use Rattle.calls.specs.Room.{fits-parts, fits-answered}
+use Rattle.averages.specs.Averages.{smaLine}
+use Rattle.averages.specs.Stages.{values-pass, values-fail}
 use borrow.Author.Needs.{needs}
 use Rattle.averages.proofs.sma.Statement.{statement}
 use Rattle.averages.proofs.sma.Tie as tie
 
-write-sma-requires : tie.Need-write-sma-requires
-write-sma-requires c κs =
-    let at-due = c .before .before .before in
-    window-room _ _ _ _ (at-due .before .before .answer-window .ensures) (at-due .due .given .1) (omega arith)
+sum-first-requires : tie.Need-sum-first-requires
+sum-first-requires c κs =
+    let fits = fits-parts _ _ _ (sym (c .before .window-fits .ensures) ∙ c .if1 .taken) in
+    (fits .some, fits .inside)
+
+accepted-by-requires : tie.Need-accepted-by-requires
+accepted-by-requires c κs =
+    let at-rest = c .before in
+    let first = at-rest .before .sum-first in
+    none-joined (none-larger (first .ensures .bits) (or-first _ _)) (none-larger (at-rest .bits-together .ensures) (or-second (first .result .together) _)) (omega arith)
+
+write-means-requires : tie.Need-write-means-requires
+write-means-requires c κs =
+    let at-first = c .before .before .before .before .before in
+    let fits = fits-parts _ _ _ (sym (at-first .before .before .window-fits .ensures) ∙ at-first .before .if1 .taken) in
+    record { some = fits .some; short = fits .narrow; inside = fits .inside; room = fits .room; is = at-first .sum-first .ensures .sum }
 
 returns : tie.Need-returns
 returns c =
     let at-write = c .before .before in
-    let at-due = at-write .before .before .before .before in
-    all-called _ _ _ _ (at-due .before .before .answer-window .ensures) (at-due .due .given .1) (omega arith) (at-write .write-sma .ensures)
+    let at-then = at-write .before .before in
+    let at-test = at-then .before in
+    let at-fits = at-test .before .before .before .before .before in
+    let a = at-fits .before .before .before .args in
+    rw (fits-answered accepted (now (a .series)) (a .n) (length (now (a .out))) (sym (at-fits .window-fits .ensures) ∙ at-test .before .before .before .before .if1 .taken))
+    (values-pass (now (a .series)) (at-test .accepted-by .ensures) (at-then .if2 .taken) (at-write .write-means .ensures))
 
 returns-2 : tie.Need-returns-2
 returns-2 c =
-    let at-due = c .before .before in
-    none-called _ _ _ _ (at-due .before .before .answer-window .ensures) (at-due .due .given .1) (omega arith)
+    let at-test = c .before in
+    let at-fits = at-test .before .before .before .before .before in
+    let a = at-fits .before .before .before .args in
+    rw (fits-answered accepted (now (a .series)) (a .n) (length (now (a .out))) (sym (at-fits .window-fits .ensures) ∙ at-test .before .before .before .before .if1 .taken))
+    (values-fail (now (a .series)) (at-test .accepted-by .ensures) (c .if2 .left))
+
+returns-3 : tie.Need-returns-3
+unfolding smaLine
+returns-3 c = c .before .before .answer-lead .ensures _
 
 pub sma-spec : {M : Type 1} → statement M
 sma-spec =
     tie.close
     (tie.spec
-    (λ c κs. search needs)  -- answer-window-requires
-    (λ c. search needs)  -- enum-known-due
-    write-sma-requires
-    (λ c. search needs)  -- enum-told
+    (λ c κs. search needs)  -- window-fits-requires
+    sum-first-requires
+    (λ c κs. search needs)  -- bits-together-requires
+    accepted-by-requires
+    write-means-requires
+    (λ c κs. sym (c .before .before .window-fits .ensures) ∙ c .before .if1 .left)  -- answer-lead-requires
     (λ c. search needs)  -- same-length
     returns
     returns-2
-    (λ c. refused (c .before .before .answer-window .ensures) (c .enum-told .given .1))  -- returns-3
+    (λ c. search needs)  -- same-length-2
+    returns-3
     )
