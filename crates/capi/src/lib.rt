@@ -43,7 +43,7 @@ pub extern "C" fn tegbalowu_ema(series: &[f64], n: usize, out: &mut [f64]) -> CA
     ensures { λ r. ⌜ CCall (answered accepted (now (series .entry)) (n ∷ []) (length (now (out .entry))) []) (emaLine n (line (now (series .entry))))
         (now (out .entry)) r (now (out .exit)) ⌝ }
 {
-    numbers(averages::ema(series, n, out))
+    numbers(exponential::ema(series, n, out))
 }
 
 #[no_mangle]
@@ -55,7 +55,7 @@ pub extern "C" fn tegbalowu_exponential_smoothing(
     ensures { λ r. ⌜ CCall (exponentialAnswer (now (series .entry)) alpha (length (now (out .entry)))) (exponentialLine alpha (line (now (series .entry))))
         (now (out .entry)) r (now (out .exit)) ⌝ }
 {
-    numbers(averages::exponential_smoothing(series, alpha, out))
+    numbers(exponential::exponential_smoothing(series, alpha, out))
 }
 
 #[no_mangle]

@@ -11,8 +11,8 @@ use Rattle.numbers.specs.Integers.{abs-add}
 use Rattle.numbers.specs.Whole.{add-whole, sub-whole}
 use Rattle.numbers.specs.Quotient.{quotient, quotient-sign}
 use Rattle.cells.specs.Line.{Line, plusZero, from-bar}
-use Rattle.averages.specs.Exact.{TickLine, Slides, running-exact, window-size, window-whole}
-use Rattle.averages.specs.Errors.{windowTotal, products}
+use Rattle.positions.specs.Exact.{TickLine, Slides, running-exact, window-size, window-whole}
+use Rattle.positions.specs.Errors.{windowTotal, products}
 use Rattle.positions.specs.Rules.{addThenSubtract, runningMean, doubleLine}
 
 -- the new price added, and then the old one subtracted

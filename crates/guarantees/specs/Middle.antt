@@ -16,8 +16,8 @@ use Rattle.numbers.specs.Quotient.{quotient, Whole, quotient-lt, quotient-worth
 use Rattle.cells.specs.Line.{Line, plusZero, from-bar}
 use Rattle.averages.specs.Averages.{two}
 use Rattle.windows.specs.Window.{mean}
-use Rattle.averages.specs.Exact.{TickLine, window-whole, mean-exact}
-use Rattle.averages.specs.Errors.{windowTotal, products, window-total-size}
+use Rattle.positions.specs.Exact.{TickLine, window-whole, mean-exact}
+use Rattle.positions.specs.Errors.{windowTotal, products, window-total-size}
 use Rattle.positions.specs.TickPositions.{some-abs}
 use Rattle.extremes.specs.Extreme.{larger, smaller, pickFrom, extreme}
 use Rattle.positions.specs.Rules.{midLine}

@@ -19,8 +19,8 @@ use Rattle.cells.specs.Line.{plusZero, minusZero, line}
 use Rattle.cells.specs.Written.{getD-written}
 use Rattle.positions.specs.Opened.{double-opened}
 use Rattle.positions.specs.Rules.{doubleLine}
-use Rattle.averages.specs.Exact.{window-whole, sma-exact}
-use Rattle.averages.specs.Errors.{windowTotal}
+use Rattle.positions.specs.Exact.{window-whole, sma-exact}
+use Rattle.positions.specs.Errors.{windowTotal}
 use Rattle.guarantees.specs.Calls.{SmaCall, DoubleCall, SingleCall, MidCall}
 use Rattle.guarantees.specs.Series.{WholeTicks, price, whole-ticks, bar}
 use Rattle.guarantees.specs.Double.{double-exact}

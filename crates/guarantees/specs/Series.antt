@@ -16,7 +16,7 @@ use Rattle.calls.specs.Room.{room, opened}
 use Rattle.cells.specs.Written.{written, getD-written}
 use Rattle.cells.specs.Line.{Line, line}
 use Rattle.values.specs.Ticks.{ticked}
-use Rattle.averages.specs.Exact.{TickLine}
+use Rattle.positions.specs.Exact.{TickLine}
 
 -- each is an f64, and a whole tick: a whole number from -16,777,216 to 16,777,216, and not -0.0
 pub record WholeTicks (s : List Float) : Type 0 where

@@ -14,7 +14,7 @@ use Rattle.cells.specs.Line.{Line, line, plusZero, Led, before-bar}
 use Rattle.values.specs.Ticks.{ticked}
 use Rattle.cells.specs.Written.{written, Writing, written-same}
 use Rattle.averages.specs.Averages.{smaLine}
-use Rattle.averages.specs.Exact.{TickLine, mean-exact, sma-exact}
+use Rattle.positions.specs.Exact.{TickLine, mean-exact, sma-exact}
 use Rattle.windows.specs.Window.{mean}
 
 -- a series of floats that are whole ticks, as a line of whole numbers

@@ -23,8 +23,8 @@ use Rattle.calls.specs.Room.{or-parts}
 use Rattle.cells.specs.Rows.{beside, beside-first, beside-second}
 use Rattle.cells.specs.Written.{Writing, read-back}
 use Rattle.averages.specs.Averages.{addDifference}
-use Rattle.averages.specs.Exact.{WholeLine, TickLine, window-size, difference-slides, running-whole}
-use Rattle.averages.specs.Errors.{windowTotal, mean-of-means-about}
+use Rattle.positions.specs.Exact.{WholeLine, TickLine, window-size, difference-slides, running-whole}
+use Rattle.positions.specs.Errors.{windowTotal, mean-of-means-about}
 use Rattle.windows.specs.Window.{mean, causal-mean, runningSum, Running, runningSum-same}
 use Rattle.positions.specs.Rules.{againstMean, singleLine}
 use Rattle.positions.specs.Stages.{single-at}

@@ -69,8 +69,8 @@ fn answer_floats(
     let x = records::floats::float_of(call.a);
     match function {
         1 => averages::sma(first, n, out),
-        2 => averages::ema(first, n, out),
-        3 => averages::exponential_smoothing(first, x, out),
+        2 => exponential::ema(first, n, out),
+        3 => exponential::exponential_smoothing(first, x, out),
         5 => rules::single_sma_positions(first, n, out, work),
         6 => rules::double_sma_positions(first, n, m, out),
         7 => rules::mid_positions(first, n, out, work),

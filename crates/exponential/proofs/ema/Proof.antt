@@ -12,10 +12,10 @@ use Rattle.calls.specs.Answer.{windowFits}
 use Rattle.calls.specs.Room.{Fits, fits-parts, fits-answered}
 use Rattle.cells.specs.Line.{line}
 use Rattle.windows.specs.Window.{mean-of, count-is-float}
 use Rattle.averages.specs.Averages.{smoothLine}
 use borrow.Author.Needs.{needs}
-use Rattle.averages.proofs.ema.Statement.{statement}
-use Rattle.averages.proofs.ema.Tie as tie
+use Rattle.exponential.proofs.ema.Statement.{statement}
+use Rattle.exponential.proofs.ema.Tie as tie
 
 -- the window is whole, and the lengths are in order
 told : (c : tie.Then1) → let a = c .before .before .before .before .args in windowFits (length (now (a .series))) (a .n) (length (now (a .out))) ≡ true

@@ -13,10 +13,10 @@ use Rattle.calls.specs.Answer.{unless, windowFits}
 use Rattle.calls.specs.Call.{refused, counted}
 use Rattle.calls.specs.Room.{fits-parts, fits-checked, none-fits, counted-twice, checked-room}
 use Rattle.cells.specs.Written.{none-written}
 use Rattle.averages.specs.Averages.{exponentialAnswer}
 use borrow.Author.Needs.{needs}
-use Rattle.averages.proofs.exponential_smoothing.Statement.{statement}
-use Rattle.averages.proofs.exponential_smoothing.Tie as tie
+use Rattle.exponential.proofs.exponential_smoothing.Statement.{statement}
+use Rattle.exponential.proofs.exponential_smoothing.Tie as tie
 
 -- the series has a bar, and the lengths are in order
 told : (c : tie.Then1) → let a = c .before .before .before .before .before .args in windowFits (length (now (a .series))) 1 (length (now (a .out))) ≡ true

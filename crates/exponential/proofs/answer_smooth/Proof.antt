@@ -1,9 +1,9 @@
 -- `answer_smooth` meets its contract: the bits of all prices tell whether the values are accepted. Assumes nothing.
 use denote.Ref.{now}
 use Rattle.averages.specs.Stages.{values-pass, values-fail}
 use borrow.Author.Needs.{needs}
-use Rattle.averages.proofs.answer_smooth.Statement.{statement}
-use Rattle.averages.proofs.answer_smooth.Tie as tie
+use Rattle.exponential.proofs.answer_smooth.Statement.{statement}
+use Rattle.exponential.proofs.answer_smooth.Tie as tie
 
 returns : tie.Need-returns
 returns c =

@@ -4,10 +4,10 @@ use native.Mathlib.Omega.{arith}
 use lib.ListN.{length-set}
 use denote.Ref.{now}
 use Rattle.cells.specs.Written.{stands, then-written}
-use Rattle.averages.specs.Stages.{seed-written}
+use Rattle.exponential.specs.Blending.{seed-written}
 use borrow.Author.Needs.{needs}
-use Rattle.averages.proofs.write_smooth.Statement.{statement}
-use Rattle.averages.proofs.write_smooth.Tie as tie
+use Rattle.exponential.proofs.write_smooth.Statement.{statement}
+use Rattle.exponential.proofs.write_smooth.Tie as tie
 
 blend-halves-requires : tie.Need-blend-halves-requires
 blend-halves-requires c κs =

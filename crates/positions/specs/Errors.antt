@@ -10,7 +10,7 @@ use Rattle.numbers.specs.About.{About, about-weaken, about-minus-zero, about-ad
 use Rattle.numbers.specs.Quotient.{about-quotient}
 use Rattle.cells.specs.Line.{Line, plusZero, minusZero, from-bar}
 use Rattle.windows.specs.Window.{sumFrom, windowSum, mean}
-use Rattle.averages.specs.Exact.{TickLine, window-size, window-whole, mean-exact}
+use Rattle.positions.specs.Exact.{TickLine, window-size, window-whole, mean-exact}
 
 -- the cells of f from bar a on stand for the fractions z / c, of size at most b / c, within e
 pub record Standing (f : Line) (z : ℕ → ℤ) (a k c e b : ℕ) : Type 0 where

@@ -4,10 +4,10 @@ use native.Mathlib.Omega.{arith}
 use lib.ListN.{length}
 use Rattle.cells.specs.Line.{line}
 use Rattle.values.specs.Quick.{NoneAbove, capped-number, or-first, or-second, none-yet, none-larger, none-within, none-joined, none-of-one, none-with}
-use Rattle.averages.specs.Stages.{Blending, seeded, next-blended, at-bar}
+use Rattle.exponential.specs.Blending.{Blending, seeded, next-blended, at-bar}
 use borrow.Author.Needs.{needs}
-use Rattle.averages.proofs.blend_half.Statement.{statement}
-use Rattle.averages.proofs.blend_half.Tie as tie
+use Rattle.exponential.proofs.blend_half.Statement.{statement}
+use Rattle.exponential.proofs.blend_half.Tie as tie
 
 abbrev Inv-loop : tie.InvT-loop
 Inv-loop series alpha first half low high together₀ last₀ i₀ together last i =

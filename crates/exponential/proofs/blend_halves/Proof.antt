@@ -6,12 +6,12 @@ use lib.ListN.{length, length-set}
 use lib.Ieee.{nan}
 use Rattle.cells.specs.Line.{line}
 use Rattle.cells.specs.Written.{step, ends}
 use Rattle.averages.specs.Averages.{smoothLine}
-use Rattle.averages.specs.Stages.{Blending, seeded, next-blended, at-bar, blended-cell}
-use Rattle.averages.specs.Halves.{Parts, one-part, both-parts, joined}
+use Rattle.exponential.specs.Blending.{Blending, seeded, next-blended, at-bar, blended-cell}
+use Rattle.exponential.specs.Halves.{Parts, one-part, both-parts, joined}
 use borrow.Author.Needs.{needs}
-use Rattle.averages.proofs.blend_halves.Statement.{statement}
-use Rattle.averages.proofs.blend_halves.Tie as tie
+use Rattle.exponential.proofs.blend_halves.Statement.{statement}
+use Rattle.exponential.proofs.blend_halves.Tie as tie
 
 abbrev Inv-loop : tie.InvT-loop
 Inv-loop series alpha first seed middle out₀ half low high lower₀ upper₀ i₀ out lower upper i =
