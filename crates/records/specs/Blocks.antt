@@ -14,7 +14,7 @@ pub record Holds (unused block : List ℕ) (at end : ℕ) : Type 0 where
   pub inside : (at ≤ end) × (end ≤ length block)
   pub kept : take (length unused) (slice at end block) ≡ unused
 
--- the k words before `at` are in the cells: they are the first of the bytes that were not used and of what was read
+-- the k words in the cells stand right before `at`; from the first of them on the block holds the bytes that were not used, and then what was read
 pub record Taken (unused block : List ℕ) (at end : ℕ) (old : List ℕ) (k : ℕ) (now : List ℕ) : Type 0 where
   pub used : 17 * k ≤ at
   pub text : Holds unused block (at - 17 * k) end
@@ -23,7 +23,7 @@ pub record Taken (unused block : List ℕ) (at end : ℕ) (old : List ℕ) (k : 
 -- ---- numbers past the end of a block mean its end
 
 take-min : {A : Type 0} (e : ℕ) (l : List A) → take (min e (length l)) l ≡ take e l
-take-min e [] = rw (take-nil, take-nil)
+take-min e [] = rw (take-nil (min e 0), take-nil e)
 take-min zero (x ∷ l) =
     let m : min 0 (suc (length l)) ≡ 0 = omega arith in
     rw m
@@ -32,7 +32,7 @@ take-min (suc e) (x ∷ l) =
     rw m (ap (λ t. x ∷ t) (take-min e l))
 
 drop-min : {A : Type 0} (a : ℕ) (l : List A) → drop (min a (length l)) l ≡ drop a l
-drop-min a [] = rw (drop-nil, drop-nil)
+drop-min a [] = rw (drop-nil (min a 0), drop-nil a)
 drop-min zero (x ∷ l) =
     let m : min 0 (suc (length l)) ≡ 0 = omega arith in
     rw m
