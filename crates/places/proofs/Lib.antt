@@ -1,4 +1,3 @@
 pub mod Lines
 pub mod Strict
 pub mod Prices
-pub mod Keeping

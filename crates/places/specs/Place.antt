@@ -1,10 +1,9 @@
--- Where a request stands in a block of bytes, in the program's numbers and buffers, and what reading its prices and keeping bytes promise. Assumes nothing.
+-- Where a request stands in a block of bytes, in the program's numbers and buffers, and what reading its prices promises. Assumes nothing.
 use mathlib.Core.Path.{_≡_}
 use mathlib.Core.Bool.{true, cond}
 use mathlib.Core.List.{List, _++_}
 use Prim.Native.Nat.{ℕ, _+_, _-_, _*_, _<_, _≤_}
 use lib.ListN.{length, take, drop}
-use lib.Seq.{slice}
 use lib.Ieee.{Float}
 use Rattle.columns.specs.Print.{Adds}
 use Rattle.headers.specs.declared.Request.{Request}
@@ -57,8 +56,3 @@ pub record Ran (block : List ℕ) (at : ℕ) (r : Request) (got : ℕ) (old : Li
   pub most : run .got ≤ r .bars
   pub within : run .at ≤ length block
   pub long : length now ≡ length old
-
--- The first r bytes are now those from `from` to `to`.
-pub record Kept (from to : ℕ) (old : List ℕ) (r : ℕ) (now : List ℕ) : Type 0 where
-  pub count : r ≡ to - from
-  pub bytes : take r now ≡ slice from to old

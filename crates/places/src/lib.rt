@@ -8,7 +8,7 @@ ghost use Prim.Native.Nat.{_+_, _<_, _≤_, min};
 ghost use lib.Ieee.{Float};
 ghost use lib.ListN.{length};
 ghost use Rattle.requests.specs.Sheet.{broken};
-ghost use Rattle.places.specs.Place.{Stepped, Ran, Kept};
+ghost use Rattle.places.specs.Place.{Stepped, Ran};
 
 // Where a request stands: before its first line; with so many of its prices; or where a line broke its columns.
 pub enum Stage {
@@ -84,18 +84,4 @@ pub fn stop(counts: Counts, at: usize, text: &mut [u8], filled: usize) -> Place
         at: at,
         filled: filled + 19,
     }
-}
-
-// Moves the bytes from `from` to `to` to the front of the block, and gives how many they are.
-pub fn keep(block: &mut [u8], from: usize, to: usize) -> usize
-    requires { ⌜ (from ≤ to) × (to ≤ length (now block)) ⌝ }
-    ensures { λ r. ⌜ Kept from to (now (block .entry)) r (now (block .exit)) ⌝ }
-{
-    let kept = to - from;
-    let mut i = 0;
-    while i < kept {
-        block[i] = block[from + i];
-        i += 1;
-    }
-    kept
 }

@@ -1,3 +1,5 @@
--- Recorded words, and the f64 that one stands for.
+-- Recorded words, how they are taken from a text and from blocks of input, and the f64 that one stands for.
 pub mod Words
+pub mod Texts
+pub mod Blocks
 pub mod Floats

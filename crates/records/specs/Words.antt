@@ -7,10 +7,10 @@ use Prim.Native.Nat.{ℕ, zero, suc, _+_, _-_, _*_, _^_, _≤_, _<_}
 use native.Mathlib.Nat.{lt-of-lt-of-le, not-suc-le-zero, le-of-suc-le-suc, eq-or-lt-of-le}
 use native.Mathlib.Numerals.{add-one}
 use native.Mathlib.Omega.{arith}
-use borrow.Author.Tests.{lt-ltb, le-ltb, le-leb, lt-leb}
+use borrow.Author.Tests.{lt-ltb, le-ltb, le-leb, lt-leb, leb-true, leb-false}
 use lib.Dec.{leb, ltb, eqb, lit<}
 use lib.Pow.{pow-add, pow-mono}
-use lib.ListN.{length, getD, take, replicate}
+use lib.ListN.{length, getD, replicate}
 use Rattle.records.specs.declared.Word.{Word}
 use Rattle.records.specs.declared.Word.the-variants.{Bits, Missing}
 
@@ -119,12 +119,13 @@ module _ (s : List ℕ) (at : ℕ) where
   unfolding wordAt
   has-end h e = rw (le-leb (at + 17) (length s) h, e)
 
--- the word that was read stands before the place where the next one is looked for, in the part of the block that was filled
-pub record Stepped (block : List ℕ) (at end : ℕ) (w : Word) : Type 0 where
-  pub filled : end ≤ length block
-  pub word : w ≡ wordAt (take end block) (at - 17)
-
-pub stepped : {block : List ℕ} {end : ℕ} {w : Word} (at : ℕ) → end ≤ length block → w ≡ wordAt (take end block) at → Stepped block (at + 17) end w
-stepped at h e =
-    let back : at + 17 - 17 ≡ at = omega arith in
-    record { filled = h; word = rw back e }
+-- a word stands within the text
+pub word-fits : (s : List ℕ) (at b : ℕ) → Bits b ≡ wordAt s at → at + 17 ≤ length s
+word-fits s at b e = go (leb (at + 17) (length s)) refl
+  where
+    go : (t : Bool) → leb (at + 17) (length s) ≡ t → at + 17 ≤ length s
+    go true h = leb-true (at + 17) (length s) h
+    go false h =
+        let none = text-ends s at (leb-false (at + 17) (length s) h) in
+        let z : _≡_ {A = ℕ} 0 1 = cc in
+        omega arith

@@ -5,6 +5,7 @@ pub mod stream;
 ghost use mathlib.Core.Path.{_≡_};
 ghost use Prim.Native.Nat.{_+_, _≤_};
 ghost use lib.ListN.{length};
+ghost use Rattle.records.specs.Texts.{Words};
 ghost use Rattle.records.specs.Words.{digitOf, isEnd, numberIn, wordAt};
 
 // What stands where a word is looked for.
@@ -62,7 +63,7 @@ fn number_at(text: &[u8], at: usize) -> Word
 }
 
 // The word that stands at an index of the text.
-pub fn word_at(text: &[u8], at: usize) -> Word
+fn word_at(text: &[u8], at: usize) -> Word
     ensures { λ r. ⌜ r ≡ wordAt (now (text .entry)) at ⌝ }
 {
     if text.len() < 17 {
@@ -76,4 +77,21 @@ pub fn word_at(text: &[u8], at: usize) -> Word
     } else {
         Word::Missing
     }
+}
+
+// Writes the words that stand one after the other at the start of the text, up to the first that is missing, and gives
+// how many they are.
+pub fn words_in(text: &[u8], cells: &mut [u64]) -> usize
+    ensures { λ r. ⌜ Words (now (text .entry)) (now (cells .entry)) r (now (cells .exit)) ⌝ }
+{
+    let mut count = 0;
+    while count < cells.len() {
+        let word = word_at(text, 17 * count);
+        let Word::Bits(bits) = word else {
+            return count;
+        };
+        cells[count] = bits;
+        count += 1;
+    }
+    count
 }

@@ -1,20 +1,14 @@
 // A stream of recorded words, read in blocks.
 ghost use mathlib.Core.Path.{_≡_};
-ghost use Prim.Native.Nat.{_≤_};
+ghost use Prim.Native.Nat.{_≤_, min};
 ghost use lib.ListN.{length};
-ghost use Rattle.records.specs.Words.{Stepped};
-use crate::Word;
+ghost use lib.Seq.{slice};
+ghost use Rattle.records.specs.Blocks.{Holds, Taken};
 
-// Where the next word stands in the block, and where the filled part of the block ends.
+// The bytes of the block that were read and not used: those from `at` to `end`.
 pub struct Place {
     pub at: usize,
     pub end: usize,
-}
-
-// A word, and the place after it.
-pub struct Next {
-    pub word: Word,
-    pub place: Place,
 }
 
 // How many cells were filled, and the place after the words in them.
@@ -30,50 +24,58 @@ pub fn start() -> Place
     Place { at: 0, end: 0 }
 }
 
-// The next word. Where the block is used up, it is filled again from the input, so its length is a multiple of 17, the
-// length of a word.
-pub fn next_word(input: i32, block: &mut [u8], place: Place) -> Next
-    ensures { λ r. ⌜ Stepped (now (block .exit)) (r .place .at) (r .place .end) (r .word) ⌝ }
+// The same place, where it lies within a block of this length.
+fn within(place: Place, length: usize) -> Place
+    ensures { λ r. ⌜ (r .end ≡ min (place .end) length) × (r .at ≡ min (place .at) (r .end)) ⌝ }
 {
-    let at = place.at;
-    let end = place.end;
-    if end <= block.len() {
-        if at < end {
-            let word = crate::word_at(&block[..end], at);
-            return Next {
-                word,
-                place: Place { at: at + 17, end },
-            };
-        }
-    }
-    let end = io::read_full(input, block);
-    let word = crate::word_at(&block[..end], 0);
-    Next {
-        word,
-        place: Place { at: 17, end },
+    let end = cells::smaller(place.end, length);
+    Place {
+        at: cells::smaller(place.at, end),
+        end,
     }
 }
 
-// Fills the cells with the next words, up to the first that is missing.
-pub fn fill(input: i32, block: &mut [u8], place: Place, cells: &mut [u64]) -> Filled
-    ensures { λ r. ⌜ r .count ≤ length (now (cells .entry)) ⌝ }
+// Moves the bytes from `at` to `end` to the start of the block, and reads on behind them.
+fn read_on(input: i32, block: &mut [u8], at: usize, end: usize) -> Place
+    requires { ⌜ (at ≤ end) × (end ≤ length (now block)) ⌝ }
+    ensures { λ r. ⌜ Holds (slice at end (now (block .entry))) (now (block .exit)) (r .at) (r .end) ⌝ }
 {
-    let mut count = 0;
-    let mut at = place;
-    while count < cells.len() {
-        let next = next_word(input, block, at);
-        let after = next.place;
-        at = after;
-        let word = next.word;
-        match word {
-            Word::Bits(bits) => {
-                cells[count] = bits;
-                count += 1;
-            }
-            Word::Missing => {
-                return Filled { count, place: at };
-            }
-        }
+    let kept = front::keep(block, at, end);
+    let more = io::read_full(input, &mut block[kept..]);
+    Place {
+        at: 0,
+        end: kept + more,
     }
-    Filled { count, place: at }
+}
+
+// Reads on where fewer words than `count` are left in the block.
+fn ready(input: i32, block: &mut [u8], place: Place, count: usize) -> Place
+    ensures { λ r. ⌜ Holds (slice (place .at) (place .end) (now (block .entry))) (now (block .exit)) (r .at) (r .end) ⌝ }
+{
+    let from = within(place, block.len());
+    let at = from.at;
+    let end = from.end;
+    if (end - at) / 17 < count {
+        read_on(input, block, at, end)
+    } else {
+        from
+    }
+}
+
+// Fills the cells with the next words, up to the first that is missing. Words that run over the end of the block are
+// moved to its start, so a block has room for as many words as there are cells.
+pub fn fill(input: i32, block: &mut [u8], place: Place, cells: &mut [u64]) -> Filled
+    ensures { λ r. ⌜ Taken (slice (place .at) (place .end) (now (block .entry))) (now (block .exit)) (r .place .at) (r .place .end) (now (cells .entry)) (r .count) (now (cells .exit)) ⌝ }
+{
+    let from = ready(input, block, place, cells.len());
+    let at = from.at;
+    let end = from.end;
+    let count = crate::words_in(&block[at..end], cells);
+    Filled {
+        count,
+        place: Place {
+            at: at + 17 * count,
+            end,
+        },
+    }
 }

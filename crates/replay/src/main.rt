@@ -3,7 +3,6 @@
 // many records there are and how many were not run: those from the first on that breaks off, is too long or is of a
 // function that is not here.
 use calls::Answer;
-use records::Word;
 use records::stream::Place;
 use same::Call;
 ghost use mathlib.Core.Path.{_≡_};
@@ -245,17 +244,19 @@ fn main() {
     let mut block = [0u8; 17408];
     let mut calls = [0u64; 10];
     let mut differ = [0u64; 10];
-    let first = records::stream::next_word(
+    let mut first = [0u64; 1];
+    let read = records::stream::fill(
         libc::STDIN_FILENO,
         &mut block,
         records::stream::start(),
+        &mut first,
     );
-    let word = first.word;
-    let Word::Bits(recorded) = word else {
+    if read.count < 1 {
         io::write_all(1, b"no records\n");
         return;
-    };
-    let place = first.place;
+    }
+    let place = read.place;
+    let recorded = first[0];
     let left = run_all(&mut block, place, recorded, &mut calls, &mut differ);
     print_line(b"sma ", calls[1], differ[1]);
     print_line(b"ema ", calls[2], differ[2]);

@@ -73,7 +73,7 @@ fn turn(
     let at = place.at;
     let next = place.sheet;
     let written = io::write_all(STDOUT_FILENO, &text[..filled]);
-    let left = places::keep(block, at, end);
+    let left = front::keep(block, at, end);
     Carried {
         sheet: next,
         kept: left,

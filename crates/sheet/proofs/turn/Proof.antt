@@ -13,7 +13,6 @@ use Rattle.sheet.proofs.turn.Reads as reads
 use Rattle.sheet.proofs.turn.Lts as lts
 use Rattle.io.proofs.write_all.Reads as write-all-reads
 use Rattle.blocks.proofs.feed.Reads as feed-reads
-use Rattle.places.proofs.keep.Reads as keep-reads
 use Rattle.sheet.proofs.read_on.Reads as read-on-reads
 use Rattle.sheet.proofs.reads_on.Reads as reads-on-reads
 

@@ -1,20 +1,31 @@
--- What the loop that moves bytes to the front of a block goes by. Assumes nothing.
+-- What moving bytes to the front of a block means, and what the loop that moves them keeps. Assumes nothing.
 use mathlib.Core.Path.{_≡_, refl, sym, ap, _∙_}
-use mathlib.Core.List.{List, _∷_, [], _++_}
-use Prim.Native.Nat.{ℕ, suc, _+_, _-_, _<_, _≤_}
-use native.Mathlib.Nat.{add-comm}
+use mathlib.Core.List.{List, [], _∷_, _++_}
+use Prim.Native.Nat.{ℕ, zero, suc, _+_, _-_, _<_, _≤_}
+use native.Mathlib.Nat.{add-comm, zero-add, suc-add}
 use native.Mathlib.Numerals.{add-one}
 use native.Mathlib.Omega.{arith}
 use lib.ListN.{length, take, drop, set, getD, length-set, length-drop}
-use lib.Seq.{slice, drop-set-lt, drop-drop, take-suc, take-suc-set, getD-drop}
-use Rattle.places.specs.Place.{Kept}
-use Rattle.headers.proofs.Places.{take-drop}
+use lib.Seq.{slice, drop-set-lt, drop-drop, take-nil, take-suc, take-suc-set, getD-drop}
+
+-- the first r bytes are now those from `from` to `to`
+pub record Kept (from to : ℕ) (old : List ℕ) (r : ℕ) (now : List ℕ) : Type 0 where
+  pub count : r ≡ to - from
+  pub bytes : take r now ≡ slice from to old
+
+-- ---- moving byte by byte
 
 -- i bytes are moved, and from there on the block is as it was
 pub record Moved (from : ℕ) (old : List ℕ) (i : ℕ) (now : List ℕ) : Type 0 where
   pub long : length now ≡ length old
   pub rest : drop i now ≡ drop i old
   pub front : take i now ≡ take i (drop from old)
+
+-- a part by its length, and by its end
+pub take-drop : {A : Type 0} (a k : ℕ) (l : List A) → take k (drop a l) ≡ drop a (take (a + k) l)
+take-drop zero k l = rw zero-add
+take-drop (suc a) k [] = rw (suc-add, take-nil)
+take-drop (suc a) k (x ∷ l) = rw suc-add (take-drop a k l)
 
 module _ {from : ℕ} {old : List ℕ} where
   pub none-moved : Moved from old 0 old

@@ -1,0 +1,2 @@
+-- Bytes moved to the front of a block.
+pub mod Kept
