@@ -7,10 +7,9 @@ use records::stream::Place;
 use same::Call;
 ghost use mathlib.Core.Path.{_≡_};
 ghost use mathlib.Core.Bool.{true};
-ghost use Prim.Native.Nat.{_+_, _%_, _^_, _<_, _≤_};
+ghost use Prim.Native.Nat.{_+_, _%_, _^_, _<_};
 ghost use lib.ListN.{length, getD, set};
-ghost use Rattle.cells.specs.Written.{Writing};
-ghost use Rattle.same.specs.Agree.{Same, floats, words};
+ghost use Rattle.same.specs.Agree.{Same, words};
 ghost use Rattle.same.specs.Recorded.{Left, Runs, wordsOf, Given};
 ghost use Rattle.replay.specs.Agree.{Counted};
 
@@ -38,18 +37,6 @@ fn call_of(head: &[u64; 13]) -> Call {
         refusal: head[10],
         count: head[11],
         cleared: head[12],
-    }
-}
-
-// Writes the numbers that the words stand for.
-fn write_floats(words: &[u64], cells: &mut [f64])
-    requires { ⌜ length (now words) ≤ length (now cells) ⌝ }
-    ensures { λ _. ⌜ Writing (length (now (words .entry))) (floats (now (words .entry))) (now (cells .entry)) (now (cells .exit)) ⌝ }
-{
-    let mut i = 0;
-    while i < words.len() {
-        cells[i] = records::floats::float_of(words[i]);
-        i += 1;
     }
 }
 
@@ -145,7 +132,7 @@ fn words_agree(call: Call, words: &[u64]) -> bool
 {
     let bars = call.first + call.second + call.third;
     let mut series = [0.0; 180];
-    write_floats(&words[..bars], &mut series);
+    same::write_floats(&words[..bars], &mut series);
     agrees(call, &series[..bars], &words[bars..])
 }
 

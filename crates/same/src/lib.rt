@@ -2,9 +2,11 @@
 use calls::Answer;
 ghost use mathlib.Core.Path.{_≡_};
 ghost use mathlib.Core.Bool.{cond};
+ghost use Prim.Native.Nat.{_≤_};
 ghost use lib.ListN.{length, getD};
 ghost use Rattle.calls.specs.Answer.{refusalOf, countOf};
 ghost use Rattle.cells.specs.Line.{line};
+ghost use Rattle.cells.specs.Written.{Writing};
 ghost use Rattle.same.specs.Agree.{Decides, Agree, floats, twosComplement, words, workWord, worked};
 ghost use Rattle.same.specs.Recorded.{Runs};
 
@@ -139,4 +141,16 @@ pub fn same_work(work: &[f64], cleared: u64) -> bool
         }
     }
     true
+}
+
+// Writes the numbers that the words stand for.
+pub fn write_floats(words: &[u64], cells: &mut [f64])
+    requires { ⌜ length (now words) ≤ length (now cells) ⌝ }
+    ensures { λ _. ⌜ Writing (length (now (words .entry))) (floats (now (words .entry))) (now (cells .entry)) (now (cells .exit)) ⌝ }
+{
+    let mut i = 0;
+    while i < words.len() {
+        cells[i] = records::floats::float_of(words[i]);
+        i += 1;
+    }
 }

@@ -3,10 +3,10 @@ use Prim.Native.Nat.{_-_, _≤_}
 use native.Mathlib.Omega.{arith}
 use lib.ListN.{length}
 use Rattle.cells.specs.Written.{Writing, none-written, one-more, ends}
 use Rattle.same.specs.Agree.{floats}
 use borrow.Author.Needs.{needs}
-use Rattle.replay.proofs.write_floats.Statement.{statement}
-use Rattle.replay.proofs.write_floats.Tie as tie
+use Rattle.same.proofs.write_floats.Statement.{statement}
+use Rattle.same.proofs.write_floats.Tie as tie
 
 abbrev Inv-loop : tie.InvT-loop
 Inv-loop words cells₀ i₀ cells i = (i ≤ length words) × Writing i (floats words) cells₀ cells
