@@ -1,26 +1,21 @@
 -- `take_header` meets its contract: the line is a request, which then gathers its prices, or it is broken. Assumes nothing.
-use mathlib.Core.Path.{_≡_, sym, _∙_}
-use Prim.Native.Nat.{ℕ, _+_}
+use mathlib.Core.Path.{sym, _∙_}
+use Prim.Native.Nat.{_+_}
 use native.Mathlib.Omega.{arith}
-use lib.ListN.{length}
-use mathlib.Core.List.{List, [], _++_}
-use lib.ListN.{drop}
 use denote.Ref.{now}
-use Rattle.requests.specs.Sheet.{begun, lines, outcome}
-use Rattle.places.specs.Place.{stateOf, finally}
-use Rattle.places.proofs.Lines.{line-at, finally-broken}
+use Rattle.requests.specs.Sheet.{begun}
+use Rattle.places.proofs.Lines.{line-at}
 use Rattle.places.proofs.Strict.{header-reader}
-use Rattle.steps.proofs.Steps.{onward, header-small}
+use Rattle.steps.proofs.Steps.{Comes, gathers, stops, header-small}
 use borrow.Author.Needs.{needs}
 use Rattle.steps.proofs.take_header.Statement.{statement}
 use Rattle.steps.proofs.take_header.Tie as tie
 
 -- what the line is read as
-read : (c : tie.After-read-header) (more : List ℕ) →
+read : (c : tie.After-read-header) →
     let a = c .before .before .before .before .before .before .before .before .args in
     let p = a .place in
-    outcome (stateOf (p .sheet .stage) (p .sheet .counts .refused) (now (a .series))) (lines (drop (p .at) (now (a .block)) ++ more))
-    ≡ finally (begun (p .sheet .counts .refused) (c .read-header .result)) (lines (drop (p .at + 27) (now (a .block)) ++ more))
+    Comes (now (a .block)) p (now (a .series)) (begun (p .sheet .counts .refused) (c .read-header .result)) (p .at + 27)
 read c more =
     let start = c .before .before .before .before .before .before .before .before in
     let p = start .args .place in
@@ -30,17 +25,10 @@ returns : tie.Need-returns
 returns c =
     let stop = c .before .before in
     let told = stop .before .before in
-    let start = told .before .before .before .before .before .before .before .before .before .before in
+    let header = told .before .before in
+    let start = header .before .before .before .before .before .before .before .before in
     let room = rw (start .pre .0) at (start .pre .2 .room) in
-    let block = now (start .args .block) in
-    let k = start .args .place .sheet .counts .refused in
-    let (made, stage, filled) = stop .stop .ensures in
-    let at-end = made [] .place in
-    onward
-    (λ more. read (told .before .before) more ∙ rw (told .enum-told .given .1) (finally-broken k (lines (drop (start .args .place .at + 27) block ++ more)) (lines (drop (length block) block ++ more))))
-    (made _)
-    (record { sound = rw stage tt; within = omega arith; room = rw stage (omega arith) })
-    (omega arith)
+    stops (start .args .place .at + 27) (stop .stop .ensures) (λ more. read header more ∙ rw (told .enum-told .given .1)) (omega arith)
 
 gather-requires : tie.Need-gather-requires
 gather-requires c κs =
@@ -57,13 +45,7 @@ returns-2 c =
     let header = told .before .before in
     let start = header .before .before .before .before .before .before .before .before in
     let room = rw (start .pre .0) at (start .pre .2 .room) in
-    let (made, sound, owed) = gather .gather .ensures in
-    let at-next = made .place in
-    onward
-    (λ more. read header more ∙ rw (told .request .given .1))
-    made
-    (record { sound = sound; within = omega arith; room = omega arith })
-    (omega arith)
+    gathers (gather .gather .ensures) (λ more. read header more ∙ rw (told .request .given .1)) (omega arith)
 
 pub take-header-spec : {M : Type 1} → statement M
 take-header-spec =

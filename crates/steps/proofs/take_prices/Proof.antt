@@ -1,13 +1,6 @@
 -- `take_prices` meets its contract: the lines are prices, which are gathered, or one of them is broken. Assumes nothing.
-use Prim.Native.Nat.{_+_}
 use native.Mathlib.Omega.{arith}
-use lib.ListN.{length}
-use mathlib.Core.List.{[], _++_}
-use lib.ListN.{drop}
-use denote.Ref.{now}
-use Rattle.requests.specs.Sheet.{lines}
-use Rattle.places.proofs.Lines.{finally-broken}
-use Rattle.steps.proofs.Steps.{onward}
+use Rattle.steps.proofs.Steps.{gathers, stops}
 use borrow.Author.Needs.{needs}
 use Rattle.steps.proofs.take_prices.Statement.{statement}
 use Rattle.steps.proofs.take_prices.Tie as tie
@@ -40,15 +33,8 @@ returns c =
     let start = run .before .before .before .before .before .before .before .before .before in
     let ran = run .read-prices .ensures in
     let room = rw (start .pre .0) at (start .pre .2 .room) in
-    let sound = rw (start .pre .0) at (start .pre .2 .sound) in
-    let (made, next, owed) = gather .gather .ensures in
-    let at-next = made .place in
     let forth = ran .forth (test .if1 .taken) in
-    onward
-    (λ more. rw (start .pre .0, ran .same (start .args .place .sheet .counts .refused) more, test .if1 .taken))
-    made
-    (record { sound = next; within = omega (arith, ran .within); room = omega (arith, ran .pace) })
-    (omega (arith, ran .pace))
+    gathers (gather .gather .ensures) (λ more. rw (start .pre .0, ran .same _ more, test .if1 .taken)) (omega (arith, ran .pace, ran .within))
 
 returns-2 : tie.Need-returns-2
 returns-2 c =
@@ -56,16 +42,8 @@ returns-2 c =
     let test = stop .before .before in
     let run = test .before .before .before in
     let start = run .before .before .before .before .before .before .before .before .before in
-    let block = now (start .args .block) in
-    let k = start .args .place .sheet .counts .refused in
     let room = rw (start .pre .0) at (start .pre .2 .room) in
-    let (made, stage, filled) = stop .stop .ensures in
-    let at-end = made [] .place in
-    onward
-    (λ more. rw (start .pre .0, run .read-prices .ensures .same k more, test .if1 .left) (finally-broken k (lines (drop (run .read-prices .result .at) block ++ more)) (lines (drop (length block) block ++ more))))
-    (made _)
-    (record { sound = rw stage tt; within = omega arith; room = rw stage (omega arith) })
-    (omega arith)
+    stops (run .read-prices .result .at) (stop .stop .ensures) (λ more. rw (start .pre .0, run .read-prices .ensures .same _ more, test .if1 .left)) (omega arith)
 
 pub take-prices-spec : {M : Type 1} → statement M
 take-prices-spec =
