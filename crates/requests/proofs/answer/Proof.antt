@@ -4,6 +4,7 @@ use native.Mathlib.Omega.{arith}
 use borrow.Author.Tests.{eq-eqb, ne-eqb}
 use lib.Seq.{length-take-le}
 use Rattle.requests.specs.Answer.{ruleAnswer, ruleLine}
+use Rattle.requests.proofs.Answers.{seen}
 use borrow.Author.Needs.{needs}
 use Rattle.requests.proofs.answer.Statement.{statement}
 use Rattle.requests.proofs.answer.Tie as tie
@@ -14,39 +15,24 @@ returns c =
     let rule = c .before .before .before .before in
     let test = rule .before .before .before in
     let start = test .before .before .before .before .before .before in
-    let one = eq-eqb _ _ (test .if1 .taken) in
-    record {
-      answer = rw one (rw (start .pre .1, start .pre .2) at (rule .single-sma-positions .ensures .answer));
-      cells = rw one (rule .single-sma-positions .ensures .cells);
-    }
+    rw (eq-eqb _ _ (test .if1 .taken)) (seen (rw (start .pre .1, start .pre .2) at (rule .single-sma-positions .ensures)))
 
 returns-2 : tie.Need-returns-2
 unfolding ruleAnswer ruleLine
 returns-2 c =
     let rule = c .before .before in
     let test = rule .before .before in
-    let before = test .before .before in
-    let start = before .before .before .before .before .before .before in
-    let one = ne-eqb _ _ (before .if1 .left) in
-    let two = eq-eqb _ _ (test .if2 .taken) in
-    record {
-      answer = rw (one, two) (rw (start .pre .1) at (rule .double-sma-positions .ensures .answer));
-      cells = rw (one, two) (rule .double-sma-positions .ensures .cells);
-    }
+    let start = test .before .before .before .before .before .before .before .before in
+    rw (ne-eqb _ _ (test .before .before .if1 .left), eq-eqb _ _ (test .if2 .taken)) (rw (start .pre .1) at (rule .double-sma-positions .ensures))
 
 returns-3 : tie.Need-returns-3
 unfolding ruleAnswer ruleLine
 returns-3 c =
     let rule = c .before .before .before .before in
     let test = rule .before .before .before in
-    let before = test .before .before in
-    let start = before .before .before .before .before .before .before in
-    let one = ne-eqb _ _ (before .if1 .left) in
-    let two = ne-eqb _ _ (test .if2 .left) in
-    record {
-      answer = rw (one, two) (rw (start .pre .1, start .pre .2) at (rule .mid-positions .ensures .answer));
-      cells = rw (one, two) (rule .mid-positions .ensures .cells);
-    }
+    let start = test .before .before .before .before .before .before .before .before in
+    rw (ne-eqb _ _ (test .before .before .if1 .left), ne-eqb _ _ (test .if2 .left))
+    (seen (rw (start .pre .1, start .pre .2) at (rule .mid-positions .ensures)))
 
 pub answer-spec : {M : Type 1} → statement M
 answer-spec =
