@@ -1,5 +1,5 @@
 -- `feed` meets its contract: each step goes onward, and the last one leaves too few bytes for a line. Assumes nothing.
-use mathlib.Core.Path.{refl, sym, _∙_}
+use mathlib.Core.Path.{refl, _∙_}
 use Prim.Native.Nat.{_-_}
 use native.Mathlib.Nat.{zero-add}
 use native.Mathlib.Omega.{arith}
@@ -47,13 +47,8 @@ loop-again c =
     record {
       same = λ more. at .loop .inv .same more ∙ advance .advance .ensures .same more;
       well = advance .advance .ensures .well;
-      lent = record {
-        series-long = kept .1 .1 .0 ∙ lent .series-long;
-        out-long = kept .1 .1 .1 .0 ∙ lent .out-long;
-        work-long = kept .1 .1 .1 .1 .0 ∙ lent .work-long;
-        text-long = omega (arith, kept .1 .1 .1 .1 .1 .0, lent .text-long);
-      };
-      long = kept .1 .1 .1 .1 .1 .0 ∙ long;
+      lent = search needs;
+      long = search needs;
     }
 
 returns : tie.Need-returns Inv-loop μ-loop
@@ -77,9 +72,9 @@ feed-spec =
     advance-requires
     loop-less
     loop-again
-    (λ c. c .before .before .before .loop .inv .lent .series-long ∙ sym (c .before .before .before .before .before .before .before .before .before .pre .1 .series-long))  -- same-length
-    (λ c. c .before .before .before .loop .inv .lent .out-long ∙ sym (c .before .before .before .before .before .before .before .before .before .pre .1 .out-long))  -- same-length-2
-    (λ c. c .before .before .before .loop .inv .lent .work-long ∙ sym (c .before .before .before .before .before .before .before .before .before .pre .1 .work-long))  -- same-length-3
+    (λ c. search needs)  -- same-length
+    (λ c. search needs)  -- same-length-2
+    (λ c. search needs)  -- same-length-3
     (λ c. c .before .before .before .loop .inv .long)  -- same-length-4
     returns
     )
