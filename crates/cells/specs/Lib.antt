@@ -2,4 +2,5 @@
 pub mod Written
 pub mod Rows
 pub mod Line
+pub mod Leads
 pub mod Recur

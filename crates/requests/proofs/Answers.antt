@@ -1,4 +1,4 @@
--- How many positions an answer has. Assumes nothing.
+-- A rule's call as the sheet sees it, and how many positions an answer has. Assumes nothing.
 use mathlib.Core.Bool.{Bool, true, false, cond}
 use mathlib.Core.List.{List, [], _∷_}
 use Prim.Native.Nat.{ℕ, _≤_}
@@ -12,9 +12,15 @@ use Rattle.calls.specs.declared.Answer.{Answer}
 use Rattle.calls.specs.declared.Answer.the-variants.{Cells, Refused}
 use Rattle.values.specs.Accepted.{accepted, all}
 use Rattle.calls.specs.Answer.{anyZero, countOf, unless, andThen, emptyIf, checked, windowed, answered}
+use Rattle.calls.specs.Call.{Call, WorkCall}
 use Rattle.positions.specs.Rules.{doubleAnswer}
 use Rattle.headers.specs.declared.Request.{Request}
 use Rattle.requests.specs.Answer.{byRule, ruleAnswer}
+
+-- a call with a work slice, of which only the output is looked at
+pub seen : {A : Type 0} {due : Answer} {f : ℕ → A} {out₀ : List A} {l : ℕ} {work₀ : List Float} {r : Answer} {out₁ : List A} {work₁ : List Float}
+    → WorkCall due f out₀ l work₀ r out₁ work₁ → Call due f out₀ r out₁
+seen call = record { answer = call .answer; cells = call .cells }
 
 -- an answer has at most n positions
 record AtMost (n : ℕ) (a : Answer) : Type 0 where

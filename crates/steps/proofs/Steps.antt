@@ -1,37 +1,62 @@
 -- From a step that was made to what holds of the whole output. Assumes nothing.
-use mathlib.Core.Path.{_≡_, refl}
+use mathlib.Core.Path.{_≡_, refl, _∙_}
 use mathlib.Core.Bool.{Bool, true, false, cond, _&&_, false≢true}
 use mathlib.Core.List.{List, _++_, append-assoc}
-use Prim.Native.Nat.{ℕ, _<_, _≤_}
+use Prim.Native.Nat.{ℕ, _+_, _<_, _≤_}
 use native.Mathlib.Omega.{arith}
 use borrow.Author.Tests.{leb-true}
 use lib.Dec.{leb}
-use lib.ListN.{drop}
+use lib.ListN.{length, drop}
 use lib.Seq.{slice}
 use lib.Ieee.{Float}
 use Rattle.columns.specs.declared.Field.{Field}
 use Rattle.columns.specs.declared.Field.the-variants.{Value, Broken}
 use Rattle.columns.specs.Read.{readField}
 use Rattle.places.specs.declared.Place.{Place}
+use Rattle.places.specs.declared.Stage.the-variants.{Stopped}
 use Rattle.headers.specs.declared.Request.{Request}
 use Rattle.headers.specs.declared.Header.{Header}
 use Rattle.headers.specs.declared.Header.the-variants.{Asked, Malformed}
 use Rattle.headers.specs.Header.{columned, given, accepted, requestOf, readHeader}
-use Rattle.requests.specs.Sheet.{Step, lines, outcome}
-use Rattle.places.specs.Place.{stateOf, finally, Stepped}
+use Rattle.requests.specs.Sheet.{Step, broken, lines, outcome}
+use Rattle.places.specs.Place.{stateOf, owed, Sound, finally, Stepped}
+use Rattle.places.proofs.Lines.{finally-broken}
 use Rattle.steps.specs.Onward.{Well, Onward}
 
--- Where the lines from p on come to the step t and the lines from `at` on, making that step goes onward.
-pub onward : {block : List ℕ} {p q : Place} {series series′ : List Float} {text text′ : List ℕ} {t : Step} {at : ℕ}
-    → ((more : List ℕ) → outcome (stateOf (p .sheet .stage) (p .sheet .counts .refused) series) (lines (drop (p .at) block ++ more))
-    ≡ finally t (lines (drop at block ++ more)))
-    → Stepped t series′ at (p .filled) q text text′ → Well block q → p .at < q .at → Onward block p series text q series′ text′
-onward {p = p} {text = text} {t = t} lead made well forth =
-    record {
-      same = λ more. rw (lead more, made .state, made .place, made .text .text, append-assoc);
-      well = well;
-      forth = forth;
-    }
+-- The lines from p on come to the step t and the lines from `at` on.
+abbrev pub Comes : List ℕ → Place → List Float → Step → ℕ → Type 0
+Comes block p series t at =
+    (more : List ℕ) → outcome (stateOf (p .sheet .stage) (p .sheet .counts .refused) series) (lines (drop (p .at) block ++ more))
+    ≡ finally t (lines (drop at block ++ more))
+
+module _ {block : List ℕ} {p q : Place} {series series′ : List Float} {text text′ : List ℕ} where
+  -- making that step goes onward
+  onward : {t : Step} {at : ℕ} → Stepped t series′ at (p .filled) q text text′ → Comes block p series t at → Well block q → p .at < q .at
+      → Onward block p series text q series′ text′
+  onward made comes well forth =
+      record {
+        same = λ more. rw (comes more, made .state, made .place, made .text .text, append-assoc);
+        well = well;
+        forth = forth;
+      }
+
+  -- a step that gathers as many prices as it has room to print
+  pub gathers : {t : Step} {at room : ℕ}
+      → Stepped t series′ at (p .filled) q text text′ × Sound (q .sheet .stage) × (q .filled + owed (q .sheet .stage) ≤ room)
+      → Comes block p series t at → (p .at < at) × (at ≤ length block) × (room ≤ at + 2579) → Onward block p series text q series′ text′
+  gathers (made, sound, owed) comes (forth, within, room) =
+      let at-next = made .place in
+      onward made comes (record { sound = sound; within = omega arith; room = omega arith }) (omega arith)
+
+  -- a step that meets a broken line, and passes the rest of the block
+  pub stops : (at : ℕ) → let k = p .sheet .counts .refused in
+      ((series : List Float) → Stepped (broken k) series (length block) (p .filled) q text text′) × (q .sheet .stage ≡ Stopped) × (q .filled ≡ p .filled + 19)
+      → Comes block p series (broken k) at → (p .at < length block) × (p .filled + 19 ≤ length block + 2579) → Onward block p series text q series′ text′
+  stops at (made, stage, filled) comes (forth, room) =
+      let at-end = made series′ .place in
+      onward (made series′) (λ more. comes more ∙ finally-broken (p .sheet .counts .refused) _ _)
+      (record { sound = rw stage tt; within = omega arith; room = rw stage (omega arith) })
+      (omega arith)
 
 -- ---- a request that was read has at most 512 bars
 

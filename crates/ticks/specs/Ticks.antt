@@ -8,7 +8,8 @@ use native.Mathlib.Numerals.{add-one}
 use native.Mathlib.Omega.{arith}
 use lib.IntN.{ℤ, pos, natAbs, _+ℤ_, _-ℤ_, +ℤ-idl, +ℤ-idr, +ℤ-assoc, +ℤ-comm, +ℤ-negℤ-cancel}
 use lib.ListN.{length, getD}
-use lib.Ieee.{Float, nan, toSigned}
+use lib.Dec.{T}
+use lib.Ieee.{Float, nan, binary64, toSigned, inSigned}
 use mir.Syntax.{w64}
 use mir.Val.{SFits}
 use Rattle.values.specs.Accepted.{tick, all, and-parts, all-at}
@@ -28,8 +29,12 @@ use Rattle.ticks.specs.Whole.{in-i64, held, kept}
 pub record Ticks (s : List Float) : Type 0 where
   pub each : all tick s ≡ true
 
-pub tick-at : {s : List Float} (i : ℕ) → Ticks s → i < length s → tick (line s i) ≡ true
+tick-at : {s : List Float} (i : ℕ) → Ticks s → i < length s → tick (line s i) ≡ true
 tick-at {s} i t h = all-at tick s i (t .each) h
+
+-- each is an i64
+pub castable-at : {s : List Float} (i : ℕ) → Ticks s → i < length s → T (inSigned binary64 63 (line s i))
+castable-at i t h = ticked _ (tick-at i t h) .castable
 
 -- every cell of the line counts for at most 2 ^ 24, since a bar that is not there counts for nothing
 near-at : (s : List Float) (i : ℕ) → all tick s ≡ true → natAbs (toSigned 63 (getD s i nan)) ≤ 2 ^ 24

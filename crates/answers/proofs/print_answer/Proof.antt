@@ -1,56 +1,12 @@
-use mathlib.Core.Path.{_≡_, refl, sym, ap, _∙_, subst}
-use Prim.Native.Nat.{ℕ, _+_, _-_, _*_, _≤_, _<_}
-use native.Mathlib.Omega.{arith}
-use lib.ListN.{length, length-set}
+-- `print_answer` meets its contract: the positions follow the first line, and the place after them is counted. Assumes nothing.
+use mathlib.Core.Path.{refl, ap}
+use Prim.Native.Nat.{ℕ, _+_, _*_}
 use Rattle.columns.proofs.Printing.{add-more}
 use Rattle.answers.specs.Printed.{answerText}
 use borrow.Author.Needs.{needs}
 use Rattle.answers.proofs.print_answer.Statement.{statement}
 use Rattle.answers.proofs.print_answer.Tie as tie
-use Rattle.answers.proofs.print_answer.Reads as reads
-use Rattle.answers.proofs.print_answer.Lts as lts
-use Rattle.calls.proofs.count_of.Reads as count-of-reads
-use Rattle.calls.proofs.refusal_of.Reads as refusal-of-reads
-use Rattle.answers.proofs.print_head.Reads as print-head-reads
-use Rattle.answers.proofs.print_positions.Reads as print-positions-reads
 
--- src/lib.rt:280:9
-count-of-requires : tie.Need-count-of-requires
-count-of-requires c κs = search needs
-
--- src/lib.rt:281:54
-refusal-of-requires : tie.Need-refusal-of-requires
-refusal-of-requires c κs = search needs
-
--- src/lib.rt:281:5
-print-head-requires : tie.Need-print-head-requires
-print-head-requires c κs = search needs
-
--- src/lib.rt:282:27
-add-print-positions : tie.Need-add-print-positions
-add-print-positions c = search needs
-
--- src/lib.rt:282:5
-print-positions-requires : tie.Need-print-positions-requires
-print-positions-requires c κs = search needs
-
--- src/lib.rt:283:5
-add-result : tie.Need-add-result
-add-result c = search needs
-
--- src/lib.rt:283:15
-mul-result : tie.Need-mul-result
-mul-result c = search needs
-
--- src/lib.rt:283:5
-add-result-2 : tie.Need-add-result-2
-add-result-2 c = search needs
-
--- src/lib.rt:276:1
-same-length : tie.Need-same-length
-same-length c = search needs
-
--- src/lib.rt:276:1
 returns : tie.Need-returns
 unfolding answerText
 returns c =
@@ -64,13 +20,14 @@ pub print-answer-spec : {M : Type 1} → statement M
 print-answer-spec =
     tie.close
     (tie.spec
-    count-of-requires
-    refusal-of-requires
-    print-head-requires
-    add-print-positions
-    print-positions-requires
-    add-result
-    mul-result
-    add-result-2
-    same-length
-    returns)
+    (λ c κs. search needs)  -- count-of-requires
+    (λ c κs. search needs)  -- refusal-of-requires
+    (λ c κs. search needs)  -- print-head-requires
+    (λ c. search needs)  -- add-print-positions
+    (λ c κs. search needs)  -- print-positions-requires
+    (λ c. search needs)  -- add-result
+    (λ c. search needs)  -- mul-result
+    (λ c. search needs)  -- add-result-2
+    (λ c. search needs)  -- same-length
+    returns
+    )

@@ -1,55 +1,12 @@
-use mathlib.Core.Path.{_≡_, refl, sym, ap, _∙_, subst}
-use Prim.Native.Nat.{ℕ, _+_, _-_, _*_, _≤_, _<_}
+-- `print_cell` meets its contract: each store prints one byte more. Assumes nothing.
+use Prim.Native.Nat.{_+_}
 use native.Mathlib.Omega.{arith}
-use lib.ListN.{length, length-set}
+use lib.ListN.{length-set}
 use Rattle.columns.proofs.Printing.{add-none, add-byte}
 use borrow.Author.Needs.{needs}
 use Rattle.answers.proofs.print_cell.Statement.{statement}
 use Rattle.answers.proofs.print_cell.Tie as tie
-use Rattle.answers.proofs.print_cell.Reads as reads
-use Rattle.answers.proofs.print_cell.Lts as lts
 
--- src/lib.rt:143:5
-slice-write-text : tie.Need-slice-write-text
-slice-write-text c = search needs
-
--- src/lib.rt:144:10
-add-text : tie.Need-add-text
-add-text c = search needs
-
--- src/lib.rt:144:5
-slice-write-text-2 : tie.Need-slice-write-text-2
-slice-write-text-2 c = simp length-set (omega arith)
-
--- src/lib.rt:145:10
-add-text-2 : tie.Need-add-text-2
-add-text-2 c = search needs
-
--- src/lib.rt:145:5
-slice-write-text-3 : tie.Need-slice-write-text-3
-slice-write-text-3 c = simp length-set (omega arith)
-
--- src/lib.rt:146:10
-add-text-3 : tie.Need-add-text-3
-add-text-3 c = search needs
-
--- src/lib.rt:146:5
-slice-write-text-4 : tie.Need-slice-write-text-4
-slice-write-text-4 c = simp length-set (omega arith)
-
--- src/lib.rt:147:10
-add-text-4 : tie.Need-add-text-4
-add-text-4 c = search needs
-
--- src/lib.rt:147:5
-slice-write-text-5 : tie.Need-slice-write-text-5
-slice-write-text-5 c = simp length-set (omega arith)
-
--- src/lib.rt:139:1
-same-length : tie.Need-same-length
-same-length c = simp length-set
-
--- src/lib.rt:139:1
 returns : tie.Need-returns
 returns c =
     let at = c .args .at in
@@ -63,14 +20,15 @@ pub print-cell-spec : {M : Type 1} → statement M
 print-cell-spec =
     tie.close
     (tie.spec
-    slice-write-text
-    add-text
-    slice-write-text-2
-    add-text-2
-    slice-write-text-3
-    add-text-3
-    slice-write-text-4
-    add-text-4
-    slice-write-text-5
-    same-length
-    returns)
+    (λ c. search needs)  -- slice-write-text
+    (λ c. search needs)  -- add-text
+    (λ c. simp length-set (omega arith))  -- slice-write-text-2
+    (λ c. search needs)  -- add-text-2
+    (λ c. simp length-set (omega arith))  -- slice-write-text-3
+    (λ c. search needs)  -- add-text-3
+    (λ c. simp length-set (omega arith))  -- slice-write-text-4
+    (λ c. search needs)  -- add-text-4
+    (λ c. simp length-set (omega arith))  -- slice-write-text-5
+    (λ c. simp length-set)  -- same-length
+    returns
+    )

@@ -1,49 +1,11 @@
-use mathlib.Core.Path.{_≡_, refl, sym, ap, _∙_, subst}
-use Prim.Native.Nat.{ℕ, _+_, _-_, _*_, _≤_, _<_}
+-- `finish` meets its contract: each arm prints what the end of the input gives in its stage. Assumes nothing.
+use mathlib.Core.Path.{_∙_}
 use native.Mathlib.Omega.{arith}
-use lib.ListN.{length, length-set}
 use Rattle.blocks.proofs.Ends.{ends-waiting, ends-stopped, cut-waiting, cut-collecting}
 use borrow.Author.Needs.{needs}
 use Rattle.blocks.proofs.finish.Statement.{statement}
 use Rattle.blocks.proofs.finish.Tie as tie
-use Rattle.blocks.proofs.finish.Reads as reads
-use Rattle.blocks.proofs.finish.Lts as lts
-use Rattle.blocks.proofs.print_cut.Reads as print-cut-reads
-use Rattle.answers.proofs.print_last.Reads as print-last-reads
 
--- src/lib.rt:294:16
-enum-told : tie.Need-enum-told
-enum-told c = search needs
-
--- src/lib.rt:295:17
-print-last-requires : tie.Need-print-last-requires
-print-last-requires c κs = search needs
-
--- src/lib.rt:298:17
-print-cut-requires : tie.Need-print-cut-requires
-print-cut-requires c κs = search needs
-
--- src/lib.rt:301:46
-enum-told-2 : tie.Need-enum-told-2
-enum-told-2 c = search needs
-
--- src/lib.rt:301:36
-print-cut-requires-2 : tie.Need-print-cut-requires-2
-print-cut-requires-2 c κs = search needs
-
--- src/lib.rt:303:24
-enum-told-3 : tie.Need-enum-told-3
-enum-told-3 c = search needs
-
--- src/lib.rt:303:13
-print-last-requires-2 : tie.Need-print-last-requires-2
-print-last-requires-2 c κs = search needs
-
--- src/lib.rt:286:1
-same-length : tie.Need-same-length
-same-length c = search needs
-
--- src/lib.rt:286:1
 returns : tie.Need-returns
 returns c =
     let print = c .before .before in
@@ -53,11 +15,6 @@ returns c =
       is = λ series rest e. print .print-last .ensures .text ∙ rw (test .before .enum-told .given .1, ends-waiting _ rest (e ∙ test .if1 .taken));
     }
 
--- src/lib.rt:286:1
-same-length-2 : tie.Need-same-length-2
-same-length-2 c = search needs
-
--- src/lib.rt:286:1
 returns-2 : tie.Need-returns-2
 returns-2 c =
     let print = c .before .before in
@@ -69,11 +26,6 @@ returns-2 c =
       is = λ series rest e. print .print-cut .ensures ∙ rw (told, cut-waiting _ rest (λ z. test .if1 .left (rw e at z)) (rw e few));
     }
 
--- src/lib.rt:286:1
-same-length-3 : tie.Need-same-length-3
-same-length-3 c = search needs
-
--- src/lib.rt:286:1
 returns-3 : tie.Need-returns-3
 returns-3 c =
     let print = c .before .before in
@@ -84,11 +36,6 @@ returns-3 c =
       is = λ series rest e. print .print-cut2 .ensures ∙ rw (told, cut-collecting _ _ _ rest (rw e few));
     }
 
--- src/lib.rt:286:1
-same-length-4 : tie.Need-same-length-4
-same-length-4 c = search needs
-
--- src/lib.rt:286:1
 returns-4 : tie.Need-returns-4
 returns-4 c =
     let print = c .before .before in
@@ -101,18 +48,19 @@ pub finish-spec : {M : Type 1} → statement M
 finish-spec =
     tie.close
     (tie.spec
-    enum-told
-    print-last-requires
-    print-cut-requires
-    enum-told-2
-    print-cut-requires-2
-    enum-told-3
-    print-last-requires-2
-    same-length
+    (λ c. search needs)  -- enum-told
+    (λ c κs. search needs)  -- print-last-requires
+    (λ c κs. search needs)  -- print-cut-requires
+    (λ c. search needs)  -- enum-told-2
+    (λ c κs. search needs)  -- print-cut-requires-2
+    (λ c. search needs)  -- enum-told-3
+    (λ c κs. search needs)  -- print-last-requires-2
+    (λ c. search needs)  -- same-length
     returns
-    same-length-2
+    (λ c. search needs)  -- same-length-2
     returns-2
-    same-length-3
+    (λ c. search needs)  -- same-length-3
     returns-3
-    same-length-4
-    returns-4)
+    (λ c. search needs)  -- same-length-4
+    returns-4
+    )

@@ -2,8 +2,9 @@
 -- Assumes nothing.
 use lib.Ieee.{nan, ofBits}
 use Rattle.cells.specs.Line.{line, lead-stands}
+use Rattle.cells.specs.Leads.{lead-then}
 use Rattle.cells.specs.Rows.{beside-first, beside-second}
-use Rattle.cells.specs.Written.{Writing, one-more, then-written, ends, read-back}
+use Rattle.cells.specs.Written.{Writing, one-more, read-back}
 use Rattle.positions.specs.Rules.{midLine}
 use Rattle.positions.specs.Stages.{still, mid-at}
 use mathlib.Core.Path.{_∙_}
@@ -21,12 +22,6 @@ Inv-loop series n out₀ work bars i₀ out i =
 abbrev μ-loop : tie.MeasureT-loop
 μ-loop series n out₀ work bars i₀ out i = length series - i
 
-loop-holds : tie.Need-loop-holds Inv-loop μ-loop
-unfolding midLine ofBits
-loop-holds c =
-    let lead = c .before .before .fill-lead .ensures in
-    (omega arith, omega arith, lead-stands _ lead)
-
 loop-again : tie.Need-loop-again Inv-loop μ-loop
 loop-again c =
     let at = c .before .before .before .before .before in
@@ -41,11 +36,6 @@ loop-again c =
       one-more (at .loop .inv .2) (c .against-middle .ensures ∙ mid-at _ _ _ mean-is high-is low-is (omega arith)) (omega arith),
     )
 
-returns : tie.Need-returns Inv-loop μ-loop
-returns c =
-    let lead = c .before .before .before .before .fill-lead .ensures in
-    ends (then-written (lead .lead) (c .before .loop .inv .2) (omega arith)) (omega arith)
-
 pub write-against-middles-spec : {M : Type 1} → statement M
 write-against-middles-spec =
     tie.close
@@ -55,7 +45,7 @@ write-against-middles-spec =
     (λ c. search needs)  -- mul-fill-lead
     (λ c. search needs)  -- sub-fill-lead
     (λ c κs. search needs)  -- fill-lead-requires
-    loop-holds
+    (λ c. unfold midLine ofBits in search (needs, lead-stands))  -- loop-holds
     (λ c. search needs)  -- mul-against-middle
     (λ c. search needs)  -- slice-read-against-middle
     (λ c. search needs)  -- mul-against-middle-2
@@ -70,5 +60,5 @@ write-against-middles-spec =
     (λ c. search needs)  -- loop-less
     loop-again
     (λ c. search needs)  -- same-length
-    returns
+    (λ c. lead-then (c .before .before .before .before .fill-lead .ensures) (c .before .loop .inv .2) (omega arith))  -- returns
     )

@@ -4,15 +4,12 @@ use borrow.Author.Needs.{needs}
 use Rattle.rules.proofs.answer_double.Statement.{statement}
 use Rattle.rules.proofs.answer_double.Tie as tie
 
-enum-told : tie.Need-enum-told
-enum-told c = search needs
-
 pub answer-double-spec : {M : Type 1} → statement M
 answer-double-spec =
     tie.close
     (tie.spec
     (λ c κs. search needs)  -- check-requires
-    enum-told
+    (λ c. search needs)  -- enum-told
     (λ c. unfold doubleAnswer in rw (← c .before .before .check .ensures, c .enum-told .given .1))  -- returns
     (λ c. search needs)  -- enum-told-2
     (λ c κs. search needs)  -- check-windows-requires

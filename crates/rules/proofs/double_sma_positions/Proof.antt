@@ -13,9 +13,6 @@ write-double-requires c κs =
     let told = c .before .before .before in
     omega (arith, double-opened _ _ _ _ _ (sym (told .before .before .answer-double .ensures) ∙ told .due .given .1) (c .before .if1 .taken))
 
-enum-told : tie.Need-enum-told
-enum-told c = search needs
-
 returns : tie.Need-returns
 returns c =
     let at = c .before .before in
@@ -36,7 +33,7 @@ double-sma-positions-spec =
     (λ c κs. search needs)  -- answer-double-requires
     (λ c. search needs)  -- enum-known-due
     write-double-requires
-    enum-told
+    (λ c. search needs)  -- enum-told
     (λ c. search needs)  -- same-length
     returns
     returns-2

@@ -15,9 +15,6 @@ Inv-loop series n i sum₀ j₀ sum j = (n ≤ j) × (j ≤ i) × Running addThe
 abbrev μ-loop : tie.MeasureT-loop
 μ-loop series n i sum₀ j₀ sum j = i - j
 
-returns : tie.Need-returns Inv-loop μ-loop
-returns c = let reached : c .before .loop .j ≡ c .before .before .before .before .args .i = omega arith in rw (← reached) (c .before .loop .inv .2)
-
 pub running-sum-spec : {M : Type 1} → statement M
 running-sum-spec =
     tie.close
@@ -35,5 +32,5 @@ running-sum-spec =
     (λ c. search needs)  -- add-j
     (λ c. search needs)  -- loop-less
     (λ c. (omega arith, omega arith, next-running (c .before .before .before .loop .inv .2) (omega arith)))  -- loop-again
-    returns
+    (λ c. let reached : c .before .loop .j ≡ c .before .before .before .before .args .i = omega arith in rw (← reached) (c .before .loop .inv .2))  -- returns
     )

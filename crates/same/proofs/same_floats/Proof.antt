@@ -17,9 +17,6 @@ Inv-loop cells recorded i₀ i = (i ≤ length cells) × Agreeing (line cells) (
 abbrev μ-loop : tie.MeasureT-loop
 μ-loop cells recorded i₀ i = length cells - i
 
-loop-again : tie.Need-loop-again Inv-loop μ-loop
-loop-again c = (search needs, one-agrees (c .before .before .before .before .before .loop .inv .1) (c .before .is-float-of .ensures .yes (c .if1 .taken)))
-
 returns : tie.Need-returns Inv-loop μ-loop
 returns c =
     let at-loop = c .before .before .before .before .before in
@@ -39,7 +36,7 @@ same-floats-spec =
     (λ c κs. search needs)  -- is-float-of-requires
     (λ c. search needs)  -- add-i
     (λ c. search needs)  -- loop-less
-    loop-again
+    (λ c. (search needs, one-agrees (c .before .before .before .before .before .loop .inv .1) (c .before .is-float-of .ensures .yes (c .if1 .taken))))  -- loop-again
     returns
     (λ c. all-agree (c .before .loop .inv .1) (omega arith))  -- returns-2
     )

@@ -27,9 +27,6 @@ word c =
     let cell = getD (at-loop .before .before .args .cells .now) (at-loop .loop .i) (pos 0) in
     c .word-of .ensures ∙ ap twosComplement (toZ-ofZ w64 cell (record { sfits = c .before .word-of-arg .given }))
 
-loop-again : tie.Need-loop-again Inv-loop μ-loop
-loop-again c = (search needs, one-agrees (c .before .before .before .before .before .loop .inv .1) (sym (word (c .before .before)) ∙ c .if1 .taken))
-
 returns : tie.Need-returns Inv-loop μ-loop
 returns c =
     let at-loop = c .before .before .before .before .before in
@@ -49,7 +46,7 @@ same-ticks-spec =
     (λ c. search needs)  -- shared-slice-read-if1
     (λ c. search needs)  -- add-i
     (λ c. search needs)  -- loop-less
-    loop-again
+    (λ c. (search needs, one-agrees (c .before .before .before .before .before .loop .inv .1) (sym (word (c .before .before)) ∙ c .if1 .taken)))  -- loop-again
     returns
     (λ c. all-agree (c .before .loop .inv .1) (omega arith))  -- returns-2
     )

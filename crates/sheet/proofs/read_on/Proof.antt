@@ -1,42 +1,12 @@
-use mathlib.Core.Path.{_≡_, refl, sym, ap, _∙_, subst}
-use Prim.Native.Nat.{ℕ, _+_, _-_, _*_, _≤_, _<_}
+-- `read_on` meets its contract: what was kept stands before what was read. Assumes nothing.
 use native.Mathlib.Omega.{arith}
-use lib.ListN.{length, length-set}
 use denote.Ref.{now}
-use lib.ListN.{take, drop, length-drop, length-take}
+use lib.ListN.{take, length-drop, length-take}
 use lib.Seq.{take-at, length-take-le}
 use borrow.Author.Needs.{needs}
 use Rattle.sheet.proofs.read_on.Statement.{statement}
 use Rattle.sheet.proofs.read_on.Tie as tie
-use Rattle.sheet.proofs.read_on.Reads as reads
-use Rattle.sheet.proofs.read_on.Lts as lts
-use Rattle.sheet.proofs.read_some.Reads as read-some-reads
 
--- src/main.rt:47:22
-sub-read-some : tie.Need-sub-read-some
-sub-read-some c = search needs
-
--- src/main.rt:47:22
-part-read-some-start : tie.Need-part-read-some-start
-part-read-some-start c = search needs
-
--- src/main.rt:47:22
-part-read-some-end : tie.Need-part-read-some-end
-part-read-some-end c = search needs
-
--- src/main.rt:47:12
-read-some-requires : tie.Need-read-some-requires
-read-some-requires c κs = search needs
-
--- src/main.rt:47:5
-add-result : tie.Need-add-result
-add-result c = search needs
-
--- src/main.rt:43:1
-same-length : tie.Need-same-length
-same-length c = search needs
-
--- src/main.rt:43:1
 returns : tie.Need-returns
 returns c =
     let read = c .before .before in
@@ -50,10 +20,11 @@ pub read-on-spec : {M : Type 1} → statement M
 read-on-spec =
     tie.close
     (tie.spec
-    sub-read-some
-    part-read-some-start
-    part-read-some-end
-    read-some-requires
-    add-result
-    same-length
-    returns)
+    (λ c. search needs)  -- sub-read-some
+    (λ c. search needs)  -- part-read-some-start
+    (λ c. search needs)  -- part-read-some-end
+    (λ c κs. search needs)  -- read-some-requires
+    (λ c. search needs)  -- add-result
+    (λ c. search needs)  -- same-length
+    returns
+    )

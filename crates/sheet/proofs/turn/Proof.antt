@@ -1,20 +1,13 @@
-use mathlib.Core.Path.{_≡_, refl, sym, ap, _∙_, subst}
-use Prim.Native.Nat.{ℕ, _+_, _-_, _*_, _≤_, _<_}
+-- `turn` meets its contract: what is kept lies in what was read, and what was printed in the text. Assumes nothing.
+use mathlib.Core.Path.{sym}
+use Prim.Native.Nat.{_≤_}
 use native.Mathlib.Omega.{arith}
-use lib.ListN.{length, length-set}
-use denote.Ref.{now}
-use lib.ListN.{take}
+use lib.ListN.{length}
 use lib.Seq.{length-take-le}
 use Rattle.sheet.proofs.Bounds.{kept-few}
 use borrow.Author.Needs.{needs}
 use Rattle.sheet.proofs.turn.Statement.{statement}
 use Rattle.sheet.proofs.turn.Tie as tie
-use Rattle.sheet.proofs.turn.Reads as reads
-use Rattle.sheet.proofs.turn.Lts as lts
-use Rattle.io.proofs.write_all.Reads as write-all-reads
-use Rattle.blocks.proofs.feed.Reads as feed-reads
-use Rattle.sheet.proofs.read_on.Reads as read-on-reads
-use Rattle.sheet.proofs.reads_on.Reads as reads-on-reads
 
 -- what was read lies in the block
 within : (c : tie.After-read-on) → c .read-on .result ≤ length (c .read-on .last .0)
@@ -38,29 +31,11 @@ printed c =
       buffers .text-long,
     )
 
--- src/main.rt:47:9
 read-on-requires : tie.Need-read-on-requires
 read-on-requires c κs =
     let start = c .before .before .before .before .before .before in
     omega (arith, kept-few (start .pre .0), start .pre .1 .block-long)
 
--- src/main.rt:49:9
-same-length : tie.Need-same-length
-same-length c = search needs
-
--- src/main.rt:49:9
-returns : tie.Need-returns
-returns c = search needs
-
--- src/main.rt:55:39
-slice-reshare-prefix-feed : tie.Need-slice-reshare-prefix-feed
-slice-reshare-prefix-feed c = search needs
-
--- src/main.rt:55:39
-slice-aggregate-feed : tie.Need-slice-aggregate-feed
-slice-aggregate-feed c = sym (length-take-le _ _ (within (c .before .before .before .before)))
-
--- src/main.rt:55:9
 feed-requires : tie.Need-feed-requires
 feed-requires c κs =
     let read = c .before .before .before .before .before .before .before .before in
@@ -75,49 +50,11 @@ feed-requires c κs =
       },
     )
 
--- src/main.rt:59:48
-slice-reshare-prefix-write-all : tie.Need-slice-reshare-prefix-write-all
-slice-reshare-prefix-write-all c = printed (c .before .before .before .before .before .before .before .before .before)
-
--- src/main.rt:59:48
-slice-aggregate-write-all : tie.Need-slice-aggregate-write-all
-slice-aggregate-write-all c = sym (length-take-le _ _ (printed (c .before .before .before .before .before .before .before .before .before .before)))
-
--- src/main.rt:59:9
-write-all-requires : tie.Need-write-all-requires
-write-all-requires c κs = search needs
-
--- src/main.rt:60:9
 keep-requires : tie.Need-keep-requires
 keep-requires c κs =
     let feed = c .before .before .before .before .before .before .before .before .before .before .before .before in
     (left feed, within (feed .before .before .before .before .before .before .before .before .before))
 
--- src/main.rt:64:18
-reads-on-requires : tie.Need-reads-on-requires
-reads-on-requires c κs = search needs
-
--- src/main.rt:43:1
-same-length-2 : tie.Need-same-length-2
-same-length-2 c = search needs
-
--- src/main.rt:43:1
-same-length-3 : tie.Need-same-length-3
-same-length-3 c = search needs
-
--- src/main.rt:43:1
-same-length-4 : tie.Need-same-length-4
-same-length-4 c = search needs
-
--- src/main.rt:43:1
-same-length-5 : tie.Need-same-length-5
-same-length-5 c = search needs
-
--- src/main.rt:43:1
-same-length-6 : tie.Need-same-length-6
-same-length-6 c = search needs
-
--- src/main.rt:43:1
 returns-2 : tie.Need-returns-2
 returns-2 c =
     let keep = c .before .before .before in
@@ -130,19 +67,20 @@ turn-spec =
     tie.close
     (tie.spec
     read-on-requires
-    same-length
-    returns
-    slice-reshare-prefix-feed
-    slice-aggregate-feed
+    (λ c. search needs)  -- same-length
+    (λ c. search needs)  -- returns
+    (λ c. search needs)  -- slice-reshare-prefix-feed
+    (λ c. sym (length-take-le _ _ (within (c .before .before .before .before))))  -- slice-aggregate-feed
     feed-requires
-    slice-reshare-prefix-write-all
-    slice-aggregate-write-all
-    write-all-requires
+    (λ c. printed (c .before .before .before .before .before .before .before .before .before))  -- slice-reshare-prefix-write-all
+    (λ c. sym (length-take-le _ _ (printed (c .before .before .before .before .before .before .before .before .before .before))))  -- slice-aggregate-write-all
+    (λ c κs. search needs)  -- write-all-requires
     keep-requires
-    reads-on-requires
-    same-length-2
-    same-length-3
-    same-length-4
-    same-length-5
-    same-length-6
-    returns-2)
+    (λ c κs. search needs)  -- reads-on-requires
+    (λ c. search needs)  -- same-length-2
+    (λ c. search needs)  -- same-length-3
+    (λ c. search needs)  -- same-length-4
+    (λ c. search needs)  -- same-length-5
+    (λ c. search needs)  -- same-length-6
+    returns-2
+    )

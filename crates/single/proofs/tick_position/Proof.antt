@@ -8,12 +8,6 @@ use borrow.Author.Needs.{needs}
 use Rattle.single.proofs.tick_position.Statement.{statement}
 use Rattle.single.proofs.tick_position.Tie as tie
 
-mul-scaled-2 : tie.Need-mul-scaled-2
-mul-scaled-2 c = let l = c .before .before .before .pre .0 .narrow in record { fits = omega (arith, mul-le-mul l l) }
-
-int-to-float-scaled : tie.Need-int-to-float-scaled
-int-to-float-scaled c = let l = c .before .before .before .before .pre .0 .narrow in whole-is-float _ (omega (arith, mul-le-mul l l))
-
 returns : tie.Need-returns
 returns c =
     let floats = c .before .before .before .before .before .before .before .before .before in
@@ -42,8 +36,8 @@ tick-position-spec =
     (tie.spec
     (λ c. search needs)  -- mul-scaled
     (λ c. search needs)  -- shared-slice-read-scaled
-    mul-scaled-2
-    int-to-float-scaled
+    (λ c. let l = c .before .before .before .pre .0 .narrow in record { fits = omega (arith, mul-le-mul l l) })  -- mul-scaled-2
+    (λ c. let l = c .before .before .before .before .pre .0 .narrow in whole-is-float _ (omega (arith, mul-le-mul l l)))  -- int-to-float-scaled
     (λ c. search needs)  -- add-total
     (λ c. search needs)  -- mul-total
     (λ c. search needs)  -- shared-slice-read-total

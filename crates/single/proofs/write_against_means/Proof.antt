@@ -1,7 +1,8 @@
 -- `write_against_means` meets its contract: each turn reads a mean that still stands and writes the bar's cell. Assumes nothing.
 use lib.Ieee.{ofBits}
 use Rattle.cells.specs.Line.{line, lead-stands}
-use Rattle.cells.specs.Written.{Writing, one-more, then-written, ends}
+use Rattle.cells.specs.Leads.{lead-then}
+use Rattle.cells.specs.Written.{Writing, one-more}
 use Rattle.positions.specs.Rules.{singleLine}
 use Rattle.positions.specs.Stages.{still, single-at}
 use mathlib.Core.Path.{_∙_}
@@ -19,12 +20,6 @@ Inv-loop series n out₀ i₀ out i =
 abbrev μ-loop : tie.MeasureT-loop
 μ-loop series n out₀ i₀ out i = length series - i
 
-loop-holds : tie.Need-loop-holds Inv-loop μ-loop
-unfolding singleLine ofBits
-loop-holds c =
-    let lead = c .before .before .fill-lead .ensures in
-    (omega arith, omega arith, lead-stands _ lead)
-
 loop-again : tie.Need-loop-again Inv-loop μ-loop
 loop-again c =
     let at = c .before .before .before .before in
@@ -32,11 +27,6 @@ loop-again c =
     let means = lead .before .before .before .before .pre .means in
     let mean-is = still (at .loop .i) means (lead .fill-lead .ensures .lead) (at .loop .inv .2) (omega arith) in
     (omega arith, omega arith, one-more (at .loop .inv .2) (c .against-mean .ensures ∙ single-at _ _ _ mean-is (omega arith)) (omega arith))
-
-returns : tie.Need-returns Inv-loop μ-loop
-returns c =
-    let lead = c .before .before .before .before .fill-lead .ensures in
-    ends (then-written (lead .lead) (c .before .loop .inv .2) (omega arith)) (omega arith)
 
 pub write-against-means-spec : {M : Type 1} → statement M
 write-against-means-spec =
@@ -47,7 +37,7 @@ write-against-means-spec =
     (λ c. search needs)  -- mul-fill-lead
     (λ c. search needs)  -- sub-fill-lead
     (λ c κs. search needs)  -- fill-lead-requires
-    loop-holds
+    (λ c. unfold singleLine ofBits in search (needs, lead-stands))  -- loop-holds
     (λ c. search needs)  -- mul-against-mean
     (λ c. search needs)  -- shared-slice-read-against-mean
     (λ c. search needs)  -- mul-against-mean-2
@@ -59,5 +49,5 @@ write-against-means-spec =
     (λ c. search needs)  -- loop-less
     loop-again
     (λ c. search needs)  -- same-length
-    returns
+    (λ c. lead-then (c .before .before .before .before .fill-lead .ensures) (c .before .loop .inv .2) (omega arith))  -- returns
     )

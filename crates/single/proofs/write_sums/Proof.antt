@@ -1,36 +1,10 @@
 -- `write_sums` meets its contract: the lead, and the sums where there are bars after it. Assumes nothing.
 use lib.Ieee.{ofBits}
-use Rattle.cells.specs.Line.{lead-stands}
-use Rattle.cells.specs.Written.{then-written, ends}
+use Rattle.cells.specs.Leads.{up-to-bar, lead-then, lead-only}
 use Rattle.positions.specs.TickPositions.{runs}
-use native.Mathlib.Omega.{arith}
 use borrow.Author.Needs.{needs}
 use Rattle.single.proofs.write_sums.Statement.{statement}
 use Rattle.single.proofs.write_sums.Tie as tie
-
-slide-sums-requires : tie.Need-slide-sums-requires
-unfolding runs ofBits
-slide-sums-requires c κs =
-    let lead = c .before .before .before .before .fill-lead .ensures in
-    record {
-      some = search needs;
-      narrow = search needs;
-      full = omega arith;
-      room = search needs;
-      before = ends (lead-stands _ lead) (omega arith);
-    }
-
-returns : tie.Need-returns
-returns c =
-    let after = c .before .before in
-    let lead = after .before .before .before .before .before .fill-lead .ensures in
-    then-written (lead .lead) (after .slide-sums .ensures) (omega arith)
-
-returns-2 : tie.Need-returns-2
-unfolding runs ofBits
-returns-2 c =
-    let lead = c .before .before .before .fill-lead .ensures in
-    ends (then-written (lead .lead) (lead-stands _ lead) (omega arith)) (omega arith)
 
 pub write-sums-spec : {M : Type 1} → statement M
 write-sums-spec =
@@ -38,9 +12,9 @@ write-sums-spec =
     (tie.spec
     (λ c. search needs)  -- sub-fill-lead
     (λ c κs. search needs)  -- fill-lead-requires
-    slide-sums-requires
+    (λ c κs. unfold runs ofBits in search (needs, up-to-bar))  -- slide-sums-requires
     (λ c. search needs)  -- same-length
-    returns
+    (λ c. search (needs, lead-then))  -- returns
     (λ c. search needs)  -- same-length-2
-    returns-2
+    (λ c. unfold runs ofBits in search (needs, lead-only))  -- returns-2
     )

@@ -1,7 +1,8 @@
 -- `write_tick_positions` meets its contract: each turn writes the bar's cell. Assumes nothing.
 use lib.Ieee.{ofBits}
 use Rattle.cells.specs.Line.{line, lead-stands}
-use Rattle.cells.specs.Written.{Writing, one-more, then-written, ends}
+use Rattle.cells.specs.Leads.{lead-then}
+use Rattle.cells.specs.Written.{Writing, one-more}
 use Rattle.positions.specs.Rules.{singleLine}
 use Prim.Native.Nat.{_-_, _*_, _≤_, min}
 use native.Mathlib.Omega.{arith}
@@ -17,22 +18,6 @@ Inv-loop series work n out₀ i₀ out i =
 abbrev μ-loop : tie.MeasureT-loop
 μ-loop series work n out₀ i₀ out i = length series - i
 
-loop-holds : tie.Need-loop-holds Inv-loop μ-loop
-unfolding singleLine ofBits
-loop-holds c =
-    let lead = c .before .before .fill-lead .ensures in
-    (omega arith, omega arith, lead-stands _ lead)
-
-loop-again : tie.Need-loop-again Inv-loop μ-loop
-loop-again c =
-    let at = c .before .before in
-    (omega arith, omega arith, one-more (at .loop .inv .2) (c .tick-position .ensures) (omega arith))
-
-returns : tie.Need-returns Inv-loop μ-loop
-returns c =
-    let lead = c .before .before .before .before .fill-lead .ensures in
-    ends (then-written (lead .lead) (c .before .loop .inv .2) (omega arith)) (omega arith)
-
 pub write-tick-positions-spec : {M : Type 1} → statement M
 write-tick-positions-spec =
     tie.close
@@ -42,13 +27,13 @@ write-tick-positions-spec =
     (λ c. search needs)  -- mul-fill-lead
     (λ c. search needs)  -- sub-fill-lead
     (λ c κs. search needs)  -- fill-lead-requires
-    loop-holds
+    (λ c. unfold singleLine ofBits in search (needs, lead-stands))  -- loop-holds
     (λ c κs. search needs)  -- tick-position-requires
     (λ c. search needs)  -- mul-out
     (λ c. search needs)  -- slice-write-out
     (λ c. search needs)  -- add-i
     (λ c. search needs)  -- loop-less
-    loop-again
+    (λ c. (omega arith, omega arith, one-more (c .before .before .loop .inv .2) (c .tick-position .ensures) (omega arith)))  -- loop-again
     (λ c. search needs)  -- same-length
-    returns
+    (λ c. lead-then (c .before .before .before .before .fill-lead .ensures) (c .before .loop .inv .2) (omega arith))  -- returns
     )

@@ -1,21 +1,10 @@
-use mathlib.Core.Path.{_≡_, refl, sym, ap, _∙_, subst}
-use Prim.Native.Nat.{ℕ, _+_, _-_, _*_, _≤_, _<_}
+-- `advance` meets its contract: the stage picks the step, and where it is stopped nothing more is read. Assumes nothing.
 use native.Mathlib.Omega.{arith}
-use lib.ListN.{length, length-set}
 use Rattle.places.proofs.Lines.{outcome-stopped}
 use borrow.Author.Needs.{needs}
 use Rattle.steps.proofs.advance.Statement.{statement}
 use Rattle.steps.proofs.advance.Tie as tie
-use Rattle.steps.proofs.advance.Reads as reads
-use Rattle.steps.proofs.advance.Lts as lts
-use Rattle.steps.proofs.take_header.Reads as take-header-reads
-use Rattle.steps.proofs.take_prices.Reads as take-prices-reads
 
--- src/lib.rt:369:53
-enum-told : tie.Need-enum-told
-enum-told c = search needs
-
--- src/lib.rt:369:27
 take-header-requires : tie.Need-take-header-requires
 take-header-requires c κs =
     let told = c .before .before .before .before in
@@ -23,11 +12,6 @@ take-header-requires c κs =
     let enough = rw (told .enum-told .given .1) at (start .pre .0) in
     (told .enum-told .given .1, omega arith, start .pre .1, start .pre .2)
 
--- src/lib.rt:370:27
-enum-known-stage : tie.Need-enum-known-stage
-enum-known-stage c = search needs
-
--- src/lib.rt:370:44
 take-prices-requires : tie.Need-take-prices-requires
 take-prices-requires c κs =
     let told = c .before .before .before .before .before in
@@ -35,51 +19,6 @@ take-prices-requires c κs =
     let enough = rw (told .stage .given .1) at (start .pre .0) in
     (told .stage .given .1, omega arith, start .pre .1, start .pre .2)
 
--- src/lib.rt:373:17
-enum-told-2 : tie.Need-enum-told-2
-enum-told-2 c = search needs
-
--- src/lib.rt:361:1
-same-length : tie.Need-same-length
-same-length c = search needs
-
--- src/lib.rt:361:1
-same-length-2 : tie.Need-same-length-2
-same-length-2 c = search needs
-
--- src/lib.rt:361:1
-same-length-3 : tie.Need-same-length-3
-same-length-3 c = search needs
-
--- src/lib.rt:361:1
-same-length-4 : tie.Need-same-length-4
-same-length-4 c = search needs
-
--- src/lib.rt:361:1
-returns : tie.Need-returns
-returns c = search needs
-
--- src/lib.rt:361:1
-same-length-5 : tie.Need-same-length-5
-same-length-5 c = search needs
-
--- src/lib.rt:361:1
-same-length-6 : tie.Need-same-length-6
-same-length-6 c = search needs
-
--- src/lib.rt:361:1
-same-length-7 : tie.Need-same-length-7
-same-length-7 c = search needs
-
--- src/lib.rt:361:1
-same-length-8 : tie.Need-same-length-8
-same-length-8 c = search needs
-
--- src/lib.rt:361:1
-returns-2 : tie.Need-returns-2
-returns-2 c = search needs
-
--- src/lib.rt:361:1
 returns-3 : tie.Need-returns-3
 returns-3 c =
     let start = c .before .before .before .before .before .before .before .before in
@@ -96,19 +35,20 @@ pub advance-spec : {M : Type 1} → statement M
 advance-spec =
     tie.close
     (tie.spec
-    enum-told
+    (λ c. search needs)  -- enum-told
     take-header-requires
-    enum-known-stage
+    (λ c. search needs)  -- enum-known-stage
     take-prices-requires
-    enum-told-2
-    same-length
-    same-length-2
-    same-length-3
-    same-length-4
-    returns
-    same-length-5
-    same-length-6
-    same-length-7
-    same-length-8
-    returns-2
-    returns-3)
+    (λ c. search needs)  -- enum-told-2
+    (λ c. search needs)  -- same-length
+    (λ c. search needs)  -- same-length-2
+    (λ c. search needs)  -- same-length-3
+    (λ c. search needs)  -- same-length-4
+    (λ c. search needs)  -- returns
+    (λ c. search needs)  -- same-length-5
+    (λ c. search needs)  -- same-length-6
+    (λ c. search needs)  -- same-length-7
+    (λ c. search needs)  -- same-length-8
+    (λ c. search needs)  -- returns-2
+    returns-3
+    )

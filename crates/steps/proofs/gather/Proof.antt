@@ -1,34 +1,13 @@
-use mathlib.Core.Path.{_≡_, refl, sym, ap, _∙_, subst}
-use Prim.Native.Nat.{ℕ, _+_, _-_, _*_, _≤_, _<_}
+-- `gather` meets its contract: with all its prices the request is settled, and else it waits. Assumes nothing.
+use mathlib.Core.Path.{_≡_, refl}
 use native.Mathlib.Omega.{arith}
-use lib.ListN.{length, length-set}
 use denote.Ref.{now}
 use Rattle.columns.proofs.Printing.{add-none}
 use Rattle.places.proofs.Prices.{waits, all-there}
 use borrow.Author.Needs.{needs}
 use Rattle.steps.proofs.gather.Statement.{statement}
 use Rattle.steps.proofs.gather.Tie as tie
-use Rattle.steps.proofs.gather.Reads as reads
-use Rattle.steps.proofs.gather.Lts as lts
-use Rattle.steps.proofs.settle.Reads as settle-reads
 
--- src/lib.rt:313:9
-settle-requires : tie.Need-settle-requires
-settle-requires c κs = search needs
-
--- src/lib.rt:306:1
-same-length : tie.Need-same-length
-same-length c = search needs
-
--- src/lib.rt:306:1
-same-length-2 : tie.Need-same-length-2
-same-length-2 c = search needs
-
--- src/lib.rt:306:1
-same-length-3 : tie.Need-same-length-3
-same-length-3 c = search needs
-
--- src/lib.rt:306:1
 returns : tie.Need-returns
 returns c =
     let settle = c .before .before .before .before .before .before in
@@ -38,7 +17,6 @@ returns c =
     let whole : a .got ≡ a .request .bars = test .if1 .taken in
     (rw (all-there (a .counts .refused) (a .request) (now (a .series)) (a .got) (omega arith) whole) made, rw stage tt, rw stage (omega arith))
 
--- src/lib.rt:306:1
 returns-2 : tie.Need-returns-2
 returns-2 c =
     let a = c .before .before .before .before .before .before .args in
@@ -50,4 +28,12 @@ returns-2 c =
 
 pub gather-spec : {M : Type 1} → statement M
 gather-spec =
-    tie.close (tie.spec settle-requires same-length same-length-2 same-length-3 returns returns-2)
+    tie.close
+    (tie.spec
+    (λ c κs. search needs)  -- settle-requires
+    (λ c. search needs)  -- same-length
+    (λ c. search needs)  -- same-length-2
+    (λ c. search needs)  -- same-length-3
+    returns
+    returns-2
+    )

@@ -1,30 +1,16 @@
-use mathlib.Core.Path.{_≡_, refl, sym, ap, _∙_, subst}
-use Prim.Native.Nat.{ℕ, _+_, _-_, _*_, _≤_, _<_}
+-- `take_prices` meets its contract: the lines are prices, which are gathered, or one of them is broken. Assumes nothing.
 use native.Mathlib.Omega.{arith}
-use lib.ListN.{length, length-set}
-use mathlib.Core.List.{List, [], _++_}
-use lib.ListN.{drop}
-use denote.Ref.{now}
-use Rattle.requests.specs.Sheet.{lines}
-use Rattle.places.proofs.Lines.{finally-broken}
-use Rattle.steps.proofs.Steps.{onward}
+use Rattle.steps.proofs.Steps.{gathers, stops}
 use borrow.Author.Needs.{needs}
 use Rattle.steps.proofs.take_prices.Statement.{statement}
 use Rattle.steps.proofs.take_prices.Tie as tie
-use Rattle.steps.proofs.take_prices.Reads as reads
-use Rattle.steps.proofs.take_prices.Lts as lts
-use Rattle.steps.proofs.gather.Reads as gather-reads
-use Rattle.places.proofs.read_prices.Reads as read-prices-reads
-use Rattle.places.proofs.stop.Reads as stop-reads
 
--- src/lib.rt:352:9
 read-prices-requires : tie.Need-read-prices-requires
 read-prices-requires c κs =
     let start = c .before .before .before .before .before .before .before .before in
     let sound = rw (start .pre .0) at (start .pre .2 .sound) in
     omega (arith, start .pre .3 .series-long)
 
--- src/lib.rt:354:9
 gather-requires : tie.Need-gather-requires
 gather-requires c κs =
     let run = c .before .before .before .before .before .before .before in
@@ -33,30 +19,12 @@ gather-requires c κs =
     let room = rw (start .pre .0) at (start .pre .2 .room) in
     omega (arith, run .read-prices .ensures .pace, run .read-prices .ensures .most, run .read-prices .ensures .within, run .read-prices .ensures .long, start .pre .3)
 
--- src/lib.rt:356:9
 stop-requires : tie.Need-stop-requires
 stop-requires c κs =
     let start = c .before .before .before .before .before .before .before .before .before .before .before .before .before in
     let room = rw (start .pre .0) at (start .pre .2 .room) in
     omega (arith, start .pre .3 .text-long)
 
--- src/lib.rt:343:1
-same-length : tie.Need-same-length
-same-length c = search needs
-
--- src/lib.rt:343:1
-same-length-2 : tie.Need-same-length-2
-same-length-2 c = search needs
-
--- src/lib.rt:343:1
-same-length-3 : tie.Need-same-length-3
-same-length-3 c = search needs
-
--- src/lib.rt:343:1
-same-length-4 : tie.Need-same-length-4
-same-length-4 c = search needs
-
--- src/lib.rt:343:1
 returns : tie.Need-returns
 returns c =
     let gather = c .before .before .before .before .before .before in
@@ -65,41 +33,17 @@ returns c =
     let start = run .before .before .before .before .before .before .before .before .before in
     let ran = run .read-prices .ensures in
     let room = rw (start .pre .0) at (start .pre .2 .room) in
-    let sound = rw (start .pre .0) at (start .pre .2 .sound) in
-    let (made, next, owed) = gather .gather .ensures in
-    let at-next = made .place in
     let forth = ran .forth (test .if1 .taken) in
-    onward
-    (λ more. rw (start .pre .0, ran .same (start .args .place .sheet .counts .refused) more, test .if1 .taken))
-    made
-    (record { sound = next; within = omega (arith, ran .within); room = omega (arith, ran .pace) })
-    (omega (arith, ran .pace))
+    gathers (gather .gather .ensures) (λ more. rw (start .pre .0, ran .same _ more, test .if1 .taken)) (omega (arith, ran .pace, ran .within))
 
--- src/lib.rt:343:1
-same-length-5 : tie.Need-same-length-5
-same-length-5 c = search needs
-
--- src/lib.rt:343:1
-same-length-6 : tie.Need-same-length-6
-same-length-6 c = search needs
-
--- src/lib.rt:343:1
 returns-2 : tie.Need-returns-2
 returns-2 c =
     let stop = c .before .before in
     let test = stop .before .before in
     let run = test .before .before .before in
     let start = run .before .before .before .before .before .before .before .before .before in
-    let block = now (start .args .block) in
-    let k = start .args .place .sheet .counts .refused in
     let room = rw (start .pre .0) at (start .pre .2 .room) in
-    let (made, stage, filled) = stop .stop .ensures in
-    let at-end = made [] .place in
-    onward
-    (λ more. rw (start .pre .0, run .read-prices .ensures .same k more, test .if1 .left) (finally-broken k (lines (drop (run .read-prices .result .at) block ++ more)) (lines (drop (length block) block ++ more))))
-    (made _)
-    (record { sound = rw stage tt; within = omega arith; room = rw stage (omega arith) })
-    (omega arith)
+    stops (run .read-prices .result .at) (stop .stop .ensures) (λ more. rw (start .pre .0, run .read-prices .ensures .same _ more, test .if1 .left)) (omega arith)
 
 pub take-prices-spec : {M : Type 1} → statement M
 take-prices-spec =
@@ -108,11 +52,12 @@ take-prices-spec =
     read-prices-requires
     gather-requires
     stop-requires
-    same-length
-    same-length-2
-    same-length-3
-    same-length-4
+    (λ c. search needs)  -- same-length
+    (λ c. search needs)  -- same-length-2
+    (λ c. search needs)  -- same-length-3
+    (λ c. search needs)  -- same-length-4
     returns
-    same-length-5
-    same-length-6
-    returns-2)
+    (λ c. search needs)  -- same-length-5
+    (λ c. search needs)  -- same-length-6
+    returns-2
+    )

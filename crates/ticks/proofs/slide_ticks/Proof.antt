@@ -9,11 +9,10 @@ use mir.Syntax.{w64}
 use mir.Val.{toZ}
 use mir.ValLaws.{toZ-ofZ}
 use Rattle.cells.specs.Line.{line}
-use Rattle.values.specs.Ticks.{ticked}
 use Rattle.cells.specs.Written.{Writing, one-more, ends}
 use Rattle.averages.specs.Averages.{tickMeanLine}
 use Rattle.ticks.specs.Whole.{held}
-use Rattle.ticks.specs.Ticks.{TickSum, HeldSum, tick-at, sum-small, hold, hold-in, hold-out, ticks-same, tick-cell}
+use Rattle.ticks.specs.Ticks.{TickSum, HeldSum, castable-at, sum-small, hold, hold-in, hold-out, ticks-same, tick-cell}
 use borrow.Author.Needs.{needs, sfits-of}
 use Rattle.ticks.proofs.slide_ticks.Statement.{statement}
 use Rattle.ticks.proofs.slide_ticks.Tie as tie
@@ -30,11 +29,6 @@ loop-holds c =
     let pre = c .before .before .pre in
     (omega arith, omega arith, pre .cells, ticks-same (hold (pre .ticks) (pre .sum) (omega arith) .sum) (omega arith))
 
-float-to-int-sum : tie.Need-float-to-int-sum Inv-loop μ-loop
-float-to-int-sum c =
-    let at = c .before .before .before in
-    ticked _ (tick-at (at .loop .i) (at .before .before .before .pre .ticks) (omega arith)) .castable
-
 -- the sum of the window that ends at bar i
 window : (c : tie.After-row-known Inv-loop μ-loop)
     → let at = c .before .before .before in
@@ -49,12 +43,6 @@ to-tick-requires c κs =
     let at = c .before .before .before in
     let pre = at .before .before .before .pre in
     record { some = pre .some; short = pre .short; small = sum-small (pre .ticks) (window c .sum); is = at .before .share-of .ensures }
-
-float-to-int-rest : tie.Need-float-to-int-rest Inv-loop μ-loop
-float-to-int-rest c =
-    let at = c .before .before .before .before .before .before in
-    let start = at .before .before .before in
-    ticked _ (tick-at (at .loop .i + 1 - start .args .n) (start .pre .ticks) (omega arith)) .castable
 
 -- and of those that stay in the next one
 rest : (c : tie.After-row-known2 Inv-loop μ-loop)
@@ -75,9 +63,6 @@ loop-again c =
     let mean = tick-cell (at .before .before .before .args .n) (at .loop .i) (window (c .before .before .before) .sum) (omega arith) in
     (omega arith, omega arith, one-more (at .loop .inv .2) (rw (cell, call .ensures) mean) (omega arith), rest c .sum)
 
-returns : tie.Need-returns Inv-loop μ-loop
-returns c = ends (c .before .loop .inv .2) (omega arith)
-
 pub slide-ticks-spec : {M : Type 1} → statement M
 slide-ticks-spec =
     tie.close
@@ -89,7 +74,7 @@ slide-ticks-spec =
     loop-holds
     (λ c. search needs)  -- mul-sum
     (λ c. search needs)  -- shared-slice-read-sum
-    float-to-int-sum
+    (λ c. castable-at _ (c .before .before .before .before .before .before .pre .ticks) (omega arith))  -- float-to-int-sum
     (λ c. window c .fits)  -- add-sum
     to-tick-requires
     (λ c. search needs)  -- mul-rest
@@ -98,11 +83,11 @@ slide-ticks-spec =
     (λ c. search needs)  -- sub-rest
     (λ c. search needs)  -- mul-rest-2
     (λ c. search needs)  -- shared-slice-read-rest
-    float-to-int-rest
+    (λ c. castable-at _ (c .before .before .before .before .before .before .before .before .before .pre .ticks) (omega arith))  -- float-to-int-rest
     (λ c. rest c .fits)  -- sub-rest-2
     (λ c. search needs)  -- add-i
     (λ c. search needs)  -- loop-less
     loop-again
     (λ c. search needs)  -- same-length
-    returns
+    (λ c. ends (c .before .loop .inv .2) (omega arith))  -- returns
     )

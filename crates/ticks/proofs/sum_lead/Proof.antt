@@ -8,10 +8,9 @@ use denote.Ref.{now}
 use mir.Syntax.{w64}
 use mir.Val.{toZ}
 use Rattle.cells.specs.Line.{line}
-use Rattle.values.specs.Ticks.{ticked}
 use Rattle.cells.specs.Written.{Writing, none-written, one-more, ends}
 use Rattle.ticks.specs.Whole.{held}
-use Rattle.ticks.specs.Ticks.{TickSum, HeldSum, tick-at, no-ticks, hold-in, ticks-same}
+use Rattle.ticks.specs.Ticks.{TickSum, HeldSum, castable-at, no-ticks, hold-in, ticks-same}
 use borrow.Author.Needs.{needs}
 use Rattle.ticks.proofs.sum_lead.Statement.{statement}
 use Rattle.ticks.proofs.sum_lead.Tie as tie
@@ -22,12 +21,6 @@ Inv-loop series first out₀ sum₀ i₀ out sum i = (i ≤ first) × Writing i 
 abbrev μ-loop : tie.MeasureT-loop
 μ-loop series first out₀ sum₀ i₀ out sum i = first - i
 
-loop-holds : tie.Need-loop-holds Inv-loop μ-loop
-loop-holds c = (omega arith, none-written, no-ticks 0)
-
-float-to-int-sum : tie.Need-float-to-int-sum Inv-loop μ-loop
-float-to-int-sum c = ticked _ (tick-at (c .before .before .before .loop .i) (c .before .before .before .before .pre .ticks) (omega arith)) .castable
-
 -- the sum with one tick more
 next : (c : tie.After-row-known Inv-loop μ-loop)
     → let at = c .before .before .before .loop in
@@ -36,9 +29,6 @@ next : (c : tie.After-row-known Inv-loop μ-loop)
 next c =
     let at = c .before .before .before .loop in
     hold-in (c .before .before .before .before .pre .ticks) (at .i) (at .inv .2) (omega arith)
-
-loop-again : tie.Need-loop-again Inv-loop μ-loop
-loop-again c = (omega arith, one-more (c .before .before .before .loop .inv .1) refl (omega arith), next c .sum)
 
 returns : tie.Need-returns Inv-loop μ-loop
 returns c =
@@ -51,16 +41,16 @@ sum-lead-spec =
     (tie.spec
     Inv-loop
     μ-loop
-    loop-holds
+    (λ c. (omega arith, none-written, no-ticks 0))  -- loop-holds
     (λ c. search needs)  -- mul-sum
     (λ c. search needs)  -- shared-slice-read-sum
-    float-to-int-sum
+    (λ c. castable-at _ (c .before .before .before .before .pre .ticks) (omega arith))  -- float-to-int-sum
     (λ c. next c .fits)  -- add-sum
     (λ c. search needs)  -- mul-out
     (λ c. search needs)  -- slice-set-of-out
     (λ c. search needs)  -- add-i
     (λ c. search needs)  -- loop-less
-    loop-again
+    (λ c. (omega arith, one-more (c .before .before .before .loop .inv .1) refl (omega arith), next c .sum))  -- loop-again
     (λ c. search needs)  -- same-length
     returns
     )

@@ -13,14 +13,8 @@ use Rattle.ticks.proofs.to_tick.Tie as tie
 near : {size n share : ℕ} → Shared size n share → size ≤ 2 ^ 40
 near h = let l = sum-near h in omega arith
 
-size-of-requires : tie.Need-size-of-requires
-size-of-requires c κs = rw (kept (c .args .sum) (near (c .pre))) (sum-near (c .pre))
-
 size-is : (c : tie.After-size-of) → c .size-of .result ≡ natAbs (c .before .args .sum)
 size-is c = c .size-of .ensures ∙ ap natAbs (kept (c .before .args .sum) (near (c .before .pre)))
-
-half-up-requires : tie.Need-half-up-requires
-half-up-requires c κs = rw (size-is c) (c .before .pre)
 
 -- the rounded size, and that it is small
 rounded : (c : tie.After-half-up)
@@ -68,8 +62,8 @@ pub to-tick-spec : {M : Type 1} → statement M
 to-tick-spec =
     tie.close
     (tie.spec
-    size-of-requires
-    half-up-requires
+    (λ c κs. rw (kept (c .args .sum) (near (c .pre))) (sum-near (c .pre)))  -- size-of-requires
+    (λ c κs. rw (size-is c) (c .before .pre))  -- half-up-requires
     (λ c. in-i64 (pos (c .half-up .result)) (small c))  -- cast-size
     sub-result
     returns

@@ -21,9 +21,6 @@ slide-ticks-requires c κs =
       cells = stands (lead-cells (start .args .n) lead (omega arith));
     }
 
-returns : tie.Need-returns
-returns c = lead-cells (c .before .before .before .before .before .args .n) (c .before .sum-lead .ensures) (omega arith)
-
 returns-2 : tie.Need-returns-2
 returns-2 c =
     let call = c .before in
@@ -39,7 +36,7 @@ write-tick-means-spec =
     (λ c κs. search needs)  -- sum-lead-requires-2
     slide-ticks-requires
     (λ c. search needs)  -- same-length
-    returns
+    (λ c. lead-cells (c .before .before .before .before .before .args .n) (c .before .sum-lead .ensures) (omega arith))  -- returns
     (λ c. search needs)  -- same-length-2
     returns-2
     )
