@@ -7,6 +7,7 @@ use native.Mathlib.Omega.{arith}
 use lib.IntN.{ℤ, pos, negsuc, negℤ, _+ℤ_}
 use lib.ListN.{length}
 use lib.Ieee.{Float, nan, fin, binary64, add, sub, mul, div, ofInt, toSigned}
+use Rattle.numbers.specs.Integers.{total, total-same}
 use Rattle.calls.specs.declared.Refusal.the-variants.{ParameterNotFinite}
 use Rattle.calls.specs.declared.Answer.{Answer}
 use Rattle.calls.specs.declared.Answer.the-variants.{Cells}
@@ -77,9 +78,8 @@ causal-exponential alpha = causal-smooth alpha 0 (λ f. f 0) (λ f g s. s 0 (ome
 -- ---- tick_mean, our own: on whole numbers
 
 -- the whole ticks f a + .. + f (a + k - 1): `toSigned 63` is Rust's `as i64`
-unfoldable pub tickSum : Line → ℕ → ℕ → ℤ
-tickSum f a zero = pos 0
-tickSum f a (suc k) = tickSum f a k +ℤ toSigned 63 (f (a + k))
+abbrev pub tickSum : Line → ℕ → ℕ → ℤ
+tickSum f = total (λ j. toSigned 63 (f j))
 
 -- z / n to a whole tick, half away from zero
 unfoldable pub toTick : ℤ → ℕ → ℤ
@@ -90,12 +90,7 @@ toTick (negsuc a) n = negℤ (pos ((2 * suc a + n) / (2 * n)))
 unfoldable pub tickMeanLine : ℕ → Line → ℕ → ℤ
 tickMeanLine n f = fromBar (n - 1) (pos 0) (λ i. toTick (tickSum f (i + 1 - n) n) n)
 
-tickSum-same : (f g : Line) (a k : ℕ) → ((j : ℕ) → j < a + k → f j ≡ g j) → tickSum f a k ≡ tickSum g a k
-unfolding tickSum
-tickSum-same f g a zero h = refl
-tickSum-same f g a (suc k) h = rw (tickSum-same f g a k (λ j l. h j (omega arith)), h (a + k) (omega arith))
-
 pub causal-tick-mean : (n : ℕ) → Causal (tickMeanLine n)
 unfolding tickMeanLine
 causal-tick-mean n =
-    causal-from (n - 1) (pos 0) (λ f g b s l. ap (λ (z : ℤ). toTick z n) (tickSum-same f g (b + 1 - n) n (λ j m. s j (omega arith))))
+    causal-from (n - 1) (pos 0) (λ f g b s l. ap (λ (z : ℤ). toTick z n) (total-same _ _ (b + 1 - n) n (λ j m. ap (toSigned 63) (s (b + 1 - n + j) (omega arith)))))

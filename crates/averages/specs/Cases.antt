@@ -6,6 +6,7 @@ use Prim.Native.Nat.{ℕ}
 use lib.IntN.{ℤ, pos, negsuc}
 use lib.ListN.{replicate}
 use lib.Ieee.{Float, nan, inf, fin, round, add, sub, mul, div, ofInt, lt, eq, le, toBits, toSigned, whole}
+use Rattle.numbers.specs.Integers.{total}
 use Rattle.calls.specs.declared.Refusal.the-variants.{OutputTooShort, ValueNotAccepted, ParameterNotFinite, WindowTooLong}
 use Rattle.calls.specs.declared.Answer.the-variants.{Cells, Refused}
 use Rattle.values.specs.Accepted.{accepted, tick, finite}
@@ -14,7 +15,7 @@ use Rattle.cells.specs.Line.{Line, line, fromBar}
 use Rattle.cells.specs.Recur.{recur}
 use Rattle.cells.specs.Written.{written}
 use Rattle.windows.specs.Window.{sumFrom, windowSum, mean, runningSum}
-use Rattle.averages.specs.Averages.{smaLine, smoothLine, emaLine, exponentialLine, exponentialAnswer, tickSum, toTick, tickMeanLine}
+use Rattle.averages.specs.Averages.{smaLine, smoothLine, emaLine, exponentialLine, exponentialAnswer, toTick, tickMeanLine}
 
 -- 1, 2, 4, and 2, 4, 6, 10
 short : List Float
@@ -43,7 +44,7 @@ exponential-case = refl
 -- n 2 gives 0 and 3 for 2 and 3, and 0 and -3 for their negatives: a half goes away from zero
 tick-case : map (λ s. written 2 (tickMeanLine 2 (line (fin s 1 (pos 1) ∷ fin s 3 (pos 0) ∷ []))) (replicate 2 (pos 7))) (false ∷ true ∷ [])
     ≡ (pos 0 ∷ pos 3 ∷ []) ∷ (pos 0 ∷ negsuc 2 ∷ []) ∷ []
-unfolding tickMeanLine tickSum toTick fromBar toSigned
+unfolding tickMeanLine total toTick fromBar toSigned
 tick-case = refl
 
 -- all of three bars; no bars or a window of 0 give the empty answer; a window of 4,097, an output of two cells and a value that is no

@@ -6,6 +6,7 @@ use Prim.Native.Nat.{ℕ, zero, suc, _*_}
 use lib.IntN.{ℤ, pos, negsuc}
 use lib.ListN.{length}
 use lib.Ieee.{Float, nan, fin, binary64, add, sub, mul, div, ofInt, toSigned, whole, lt, eq, le, toBits}
+use Rattle.numbers.specs.Integers.{total}
 use Rattle.rounding.specs.Leaves.{signOf}
 use Rattle.calls.specs.declared.Answer.{Answer}
 use Rattle.calls.specs.declared.Answer.the-variants.{Cells}
@@ -14,7 +15,7 @@ use Rattle.calls.specs.Answer.{slices, checked, windowed, answered, countOf}
 use Rattle.cells.specs.Line.{line, fromBar}
 use Rattle.cells.specs.Recur.{recur}
 use Rattle.windows.specs.Window.{sumFrom, windowSum, mean, runningSum}
-use Rattle.averages.specs.Averages.{smaLine, smoothLine, emaLine, tickSum, toTick, tickMeanLine}
+use Rattle.averages.specs.Averages.{smaLine, smoothLine, emaLine, toTick, tickMeanLine}
 use Rattle.positions.specs.Rules.{singleLine, runningMean, doubleLine, doubleAnswer}
 
 -- a cell of an output: an f64 or a whole number
@@ -88,5 +89,5 @@ found c =
     record { function = c .function; series = c .series; answer = a; cells = cellsOf (c .function) s (countOf a) }
 
 pub starred : map found table ≡ table
-unfolding smaLine smoothLine tickSum toTick tickMeanLine singleLine runningMean doubleLine doubleAnswer mean windowSum sumFrom runningSum recur fromBar slices checked windowed answered accepted tick signOf add sub mul div ofInt toSigned whole lt eq le toBits
+unfolding smaLine smoothLine total toTick tickMeanLine singleLine runningMean doubleLine doubleAnswer mean windowSum sumFrom runningSum recur fromBar slices checked windowed answered accepted tick signOf add sub mul div ofInt toSigned whole lt eq le toBits
 starred = refl

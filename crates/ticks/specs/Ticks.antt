@@ -22,7 +22,7 @@ use Rattle.values.specs.Ticks.{ticked}
 use Rattle.cells.specs.Written.{Writing, writing-same}
 use Rattle.averages.specs.Averages.{tickSum, toTick, tickMeanLine}
 use Rattle.averages.specs.Stages.{window-room}
-use Rattle.numbers.specs.Integers.{abs-add}
+use Rattle.numbers.specs.Integers.{total, total-size, total-slides}
 use Rattle.ticks.specs.Whole.{in-i64, held, kept}
 
 -- a series of whole ticks
@@ -43,25 +43,6 @@ near-at [] i e = omega arith
 near-at (x ∷ s) zero e = ticked x (and-parts (tick x) (all tick s) e .0) .near
 near-at (x ∷ s) (suc i) e = near-at s i (and-parts (tick x) (all tick s) e .1)
 
-sum-near : (s : List Float) (a k : ℕ) → all tick s ≡ true → natAbs (tickSum (line s) a k) ≤ k * 2 ^ 24
-unfolding tickSum
-sum-near s a zero e = omega arith
-sum-near s a (suc k) e =
-    let rest = sum-near s a k e in
-    let next = near-at s (a + k) e in
-    let join = abs-add (tickSum (line s) a k) (toSigned 63 (line s (a + k))) in
-    omega arith
-
--- the first tick apart from the others
-first-apart : (f : Line) (a k : ℕ) → tickSum f a (suc k) ≡ toSigned 63 (f a) +ℤ tickSum f (a + 1) k
-unfolding tickSum
-first-apart f a zero =
-    let bar : a + 0 ≡ a = omega arith in
-    rw (bar, +ℤ-idl (toSigned 63 (f a)), +ℤ-idr (toSigned 63 (f a)))
-first-apart f a (suc k) =
-    let bar : a + suc k ≡ a + 1 + k = omega arith in
-    rw (first-apart f a k, bar) (+ℤ-assoc (toSigned 63 (f a)) (tickSum f (a + 1) k) (toSigned 63 (f (a + 1 + k))))
-
 -- z is the sum of the k ticks from bar a on: what the loops keep
 pub record TickSum (s : List Float) (a k : ℕ) (z : ℤ) : Type 0 where
   pub is : z ≡ tickSum (line s) a k
@@ -73,7 +54,7 @@ pub record HeldSum (s : List Float) (a k : ℕ) (z : ℤ) : Type 0 where
 
 module _ {s : List Float} where
   pub no-ticks : (a : ℕ) → TickSum s a 0 (pos 0)
-  unfolding tickSum
+  unfolding total
   no-ticks a = record { is = refl }
 
   -- the same, counted in another way
@@ -82,20 +63,21 @@ module _ {s : List Float} where
 
   -- the next tick comes in
   tick-in : {a k : ℕ} {z : ℤ} (i : ℕ) → TickSum s a k z → i ≡ a + k → TickSum s a (k + 1) (z +ℤ toSigned 63 (line s i))
-  unfolding tickSum
+  unfolding total
   tick-in i r e = rw (add-one, e) (record { is = rw (r .is) })
 
   -- the first one goes out
   tick-out : {a k : ℕ} {z : ℤ} → TickSum s a (k + 1) z → TickSum s (a + 1) k (z -ℤ toSigned 63 (line s a))
+  unfolding total
   tick-out {a} {k} {z} r =
-      let all : z ≡ tickSum (line s) a (suc k) = rw add-one at (r .is) in
-      let turned = all ∙ first-apart (line s) a k ∙ +ℤ-comm (toSigned 63 (line s a)) (tickSum (line s) (a + 1) k) in
-      record { is = rw (turned, +ℤ-negℤ-cancel (tickSum (line s) (a + 1) k) (toSigned 63 (line s a))) }
+      let tick : ℕ → ℤ = λ j. toSigned 63 (line s j) in
+      let all : z ≡ total tick a k +ℤ tick (a + k) = rw add-one at (r .is) in
+      record { is = rw all (+ℤ-assoc (total tick a k) (tick (a + k)) _ ∙ sym (total-slides tick a k)) }
 
   module _ (t : Ticks s) where
     -- the sum is small
     pub sum-small : {a k : ℕ} {z : ℤ} → TickSum s a k z → natAbs z ≤ k * 16777216
-    sum-small {a} {k} r = let size = sum-near s a k (t .each) in rw (r .is) (omega arith)
+    sum-small {a} {k} r = let size = total-size (λ j. toSigned 63 (line s j)) a k 16777216 (λ j l. near-at s (a + j) (t .each)) in rw (r .is) size
 
     -- so an i64 holds it
     pub hold : {a k : ℕ} {z : ℤ} → TickSum s a k z → k ≤ 4096 → HeldSum s a k z

@@ -18,12 +18,13 @@ mod source;
 mod table;
 mod tick_mean;
 
+use bench::Prices;
 use std::io::{BufWriter, stdin, stdout};
 use std::process::ExitCode;
 
 const USAGE: &str = "usage: oracle compare CALLS SEED..   compare the library's calls and check its exactness
        oracle notice CALLS [NAME..]     whether a difference shows: for tools/mutate
-       oracle bench                 the table of times
+       oracle bench [ticks|hundredths|differences]   the table of times
        oracle record                a sample of calls for a program to replay
        oracle sheet                 the sheet program, in Rust over pure.rs
        oracle sheet-compare PROGRAM SEED DAMAGED
@@ -41,7 +42,8 @@ fn main() -> ExitCode {
             exact::run(&seeds, calls / 50) & compare::run(&seeds, calls)
         }
         ["notice", calls, names @ ..] => compare::notices(1, number(calls) as usize, names),
-        ["bench"] => told(|| bench::run()),
+        ["bench"] => told(|| bench::run(Prices::Ticks)),
+        ["bench", word] if Prices::named(word).is_some() => told(|| bench::run(Prices::named(word).unwrap())),
         ["record"] => told(|| record::print()),
         ["sheet"] => sheet::run(stdin().lock(), BufWriter::new(stdout().lock())).is_ok(),
         ["sheet-compare", program, seed, damaged] => sheet_compare::compare(program, number(seed), number(damaged) as usize),

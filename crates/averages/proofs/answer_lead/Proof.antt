@@ -6,8 +6,7 @@ use lib.ListN.{length}
 use denote.Ref.{now}
 use Rattle.calls.specs.Call.{refused}
 use Rattle.calls.specs.Room.{room, none-fits}
-use Rattle.cells.specs.Line.{lead-stands}
-use Rattle.cells.specs.Written.{then-written, ends}
+use Rattle.cells.specs.Leads.{lead-only}
 use Rattle.averages.specs.Stages.{window-room, all-called, none-called}
 use borrow.Author.Needs.{needs}
 use Rattle.averages.proofs.answer_lead.Statement.{statement}
@@ -17,8 +16,7 @@ use Rattle.averages.proofs.answer_lead.Tie as tie
 sub-fill-nan : tie.Need-sub-fill-nan
 sub-fill-nan c =
     let at-due = c .before .before .before in
-    let w = window-room _ _ _ _ (at-due .before .before .answer-window .ensures) (at-due .due .given .1) (omega arith) in
-    omega arith
+    window-room _ _ _ _ (at-due .before .before .answer-window .ensures) (at-due .due .given .1) (omega arith) .some
 
 fill-nan-requires : tie.Need-fill-nan-requires
 fill-nan-requires c κs =
@@ -35,8 +33,7 @@ returns c f =
     let w = window-room _ _ _ _ (at-answer .answer-window .ensures) (at-due .due .given .1) (omega arith) in
     let r = room _ _ _ _ _ _ (sym (at-answer .answer-window .ensures) ∙ at-due .due .given .1) in
     let none : length (now (a .series)) < a .n = none-fits (length (now (a .series))) (a .n) _ (start .pre) (w .some) (w .short) (r .short) (r .out-long) in
-    let lead = at-fill .fill-nan .ensures in
-    all-called _ _ _ _ (at-answer .answer-window .ensures) (at-due .due .given .1) (omega arith) (ends (then-written (lead .lead) (lead-stands f lead) (omega arith)) (omega arith))
+    all-called _ _ _ _ (at-answer .answer-window .ensures) (at-due .due .given .1) (omega arith) (lead-only (at-fill .fill-nan .ensures) f (omega arith))
 
 returns-2 : tie.Need-returns-2
 returns-2 c f =

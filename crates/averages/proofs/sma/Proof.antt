@@ -1,21 +1,25 @@
 -- `sma` meets its contract: the values decide where the window fits, and else all cells are NaN. Assumes nothing.
-use mathlib.Core.Path.{sym, _∙_}
+use mathlib.Core.Path.{_≡_, sym, _∙_}
+use mathlib.Core.Bool.{true}
 use native.Mathlib.Omega.{arith}
 use denote.Ref.{now}
 use lib.ListN.{length}
 use Rattle.values.specs.Accepted.{accepted}
 use Rattle.values.specs.Quick.{or-first, or-second, none-larger, none-joined}
-use Rattle.calls.specs.Room.{fits-parts, fits-answered}
+use Rattle.calls.specs.Answer.{windowFits}
+use Rattle.calls.specs.Room.{Fits, fits-parts, fits-answered}
 use Rattle.averages.specs.Averages.{smaLine}
 use Rattle.averages.specs.Stages.{values-pass, values-fail}
 use borrow.Author.Needs.{needs}
 use Rattle.averages.proofs.sma.Statement.{statement}
 use Rattle.averages.proofs.sma.Tie as tie
 
-sum-first-requires : tie.Need-sum-first-requires
-sum-first-requires c κs =
-    let fits = fits-parts _ _ _ (sym (c .before .window-fits .ensures) ∙ c .if1 .taken) in
-    (fits .some, fits .inside)
+-- the window is whole, and the lengths are in order
+told : (c : tie.Then1) → let a = c .before .before .before .before .args in windowFits (length (now (a .series))) (a .n) (length (now (a .out))) ≡ true
+told c = sym (c .before .window-fits .ensures) ∙ c .if1 .taken
+
+fits : (c : tie.Then1) → let a = c .before .before .before .before .args in Fits (length (now (a .series))) (a .n) (length (now (a .out)))
+fits c = fits-parts _ _ _ (told c)
 
 accepted-by-requires : tie.Need-accepted-by-requires
 accepted-by-requires c κs =
@@ -26,25 +30,25 @@ accepted-by-requires c κs =
 write-means-requires : tie.Need-write-means-requires
 write-means-requires c κs =
     let at-first = c .before .before .before .before .before in
-    let fits = fits-parts _ _ _ (sym (at-first .before .before .window-fits .ensures) ∙ at-first .before .if1 .taken) in
-    record { some = fits .some; short = fits .narrow; inside = fits .inside; room = fits .room; is = at-first .sum-first .ensures .sum }
+    let h = fits (at-first .before) in
+    record { some = h .some; short = h .narrow; inside = h .inside; room = h .room; is = at-first .sum-first .ensures .sum }
 
 returns : tie.Need-returns
 returns c =
     let at-write = c .before .before in
     let at-then = at-write .before .before in
     let at-test = at-then .before in
-    let at-fits = at-test .before .before .before .before .before in
-    let a = at-fits .before .before .before .args in
-    rw (fits-answered accepted (now (a .series)) (a .n) (length (now (a .out))) (sym (at-fits .window-fits .ensures) ∙ at-test .before .before .before .before .if1 .taken))
+    let at-fits = at-test .before .before .before .before in
+    let a = at-fits .before .before .before .before .args in
+    rw (fits-answered accepted (now (a .series)) (a .n) (length (now (a .out))) (told at-fits))
     (values-pass (now (a .series)) (at-test .accepted-by .ensures) (at-then .if2 .taken) (at-write .write-means .ensures))
 
 returns-2 : tie.Need-returns-2
 returns-2 c =
     let at-test = c .before in
-    let at-fits = at-test .before .before .before .before .before in
-    let a = at-fits .before .before .before .args in
-    rw (fits-answered accepted (now (a .series)) (a .n) (length (now (a .out))) (sym (at-fits .window-fits .ensures) ∙ at-test .before .before .before .before .if1 .taken))
+    let at-fits = at-test .before .before .before .before in
+    let a = at-fits .before .before .before .before .args in
+    rw (fits-answered accepted (now (a .series)) (a .n) (length (now (a .out))) (told at-fits))
     (values-fail (now (a .series)) (at-test .accepted-by .ensures) (c .if2 .left))
 
 returns-3 : tie.Need-returns-3
@@ -56,7 +60,7 @@ sma-spec =
     tie.close
     (tie.spec
     (λ c κs. search needs)  -- window-fits-requires
-    sum-first-requires
+    (λ c κs. (fits c .some, fits c .inside))  -- sum-first-requires
     (λ c κs. search needs)  -- bits-together-requires
     accepted-by-requires
     write-means-requires
