@@ -113,7 +113,10 @@ pub fn sma(series: &[f64], n: usize, out: &mut [f64]) -> Answer
 {
     if checks::window_fits(series.len(), n, out.len()) {
         let sum = sum_first(series, n);
-        if values::accepted_by(sum.together | values::bits_together(series, n), series) {
+        if values::accepted_by(
+            sum.together | values::bits_together(series, n, series.len()),
+            series,
+        ) {
             write_means(series, n, sum.last, out);
             Answer::Cells(series.len())
         } else {

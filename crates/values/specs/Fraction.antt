@@ -1,7 +1,7 @@
 -- Why a fraction shows beside 2 ^ 52: from there to 2 ^ 53 every number is whole, so what 2 ^ 52 was added to and taken from comes back
 -- only if it is whole. Assumes nothing.
 use mathlib.Core.Path.{_≡_, refl, sym, ap, _∙_}
-use mathlib.Core.Bool.{true, false, true≢false}
+use mathlib.Core.Bool.{Bool, true, false, _&&_, true≢false}
 use Prim.Native.Nat.{ℕ, _+_, _-_, _*_, _/_, _%_, _^_, _<_, _≤_, compare}
 use native.Mathlib.Nat.{le-trans, lt-of-lt-of-le, lt-of-not-le, not-le-of-lt, lt-of-le-of-lt, mul-one, mul-assoc, mul-right-comm, mul-le-mul-right, mul-lt-mul-of-pos-right, mul-pos, mul-mod-left, div-one, mod-one, add-sub-cancel, add-mul, div-add-mod', le-div-iff-mul-le, div-lt-iff-lt-mul, eq-of-mul-eq-mul-right, zero-lt-suc}
 use native.Mathlib.Omega.{arith}
@@ -9,15 +9,16 @@ use borrow.Author.Tests.{le-ltb}
 use lib.Dec.{eqb, lit<}
 use lib.IntN.{ℤ, pos}
 use lib.Pow.{pow-add, pow-pos, pow-mono}
-use lib.Ieee.{Float, nan, inf, fin, binary64, up, down, size, units, round, sum, add, sub, eq}
+use lib.Ieee.{Float, nan, inf, fin, binary64, up, down, size, units, round, sum, add, sub, lt, eq, le}
 use lib.Ieee.Digits.{size-lt, size-le}
 use lib.Ieee.Exact.{HasValue, units-val}
 use lib.Ieee.Fits.{round-is, nearest-le, down-pos}
 use lib.Ieee.Nearest.{closest, closest-same, nearest-ge}
 use lib.Ieee.Back.{round-whole}
+use Rattle.rounding.specs.Leaves.{magnitudeOf}
 use Rattle.values.specs.Accepted.{tick}
 use Rattle.values.specs.Quick.{UpTo, up-to-end}
-use Rattle.values.specs.Ticks.{eqb-iff, and-true, small, tick-rest}
+use Rattle.values.specs.Ticks.{eqb-iff, and-true, small, tick-rest, too-far}
 use Rattle.numbers.specs.Value.{sub-at}
 
 -- ---- n / d from 2 ^ 52 to 2 ^ 53 is rounded to a whole number
@@ -65,8 +66,12 @@ module _ (n d : ℕ) (D : 0 < d) (low : 2 ^ 52 * d ≤ n) (high : n < 2 ^ 53 * d
 
 -- ---- 2 ^ 52 added and taken away
 
-abbrev far : Float
+abbrev pub far : Float
 far = fin false 1 (pos 52)
+
+-- x with 2 ^ 52 added and taken away is x
+unfoldable pub comesBack : Float → Bool
+comesBack x = eq (sub binary64 (add binary64 x far) far) x
 
 -- a / d with 2 ^ 52 added
 abbrev above : ℕ → ℕ → ℕ
@@ -132,8 +137,24 @@ module _ (m : ℕ) (e : ℤ) where
   comes-back h = rw added (same-left _ (left-value (m * up e) (down e) (down-pos e) h))
 
 -- the test of a number from 0.0 to 2 ^ 24
-pub whole-tick : (x : Float) → UpTo 24 x → eq (sub binary64 (add binary64 x far) far) x ≡ tick x
+module _ (m : ℕ) (e : ℤ) (w : le (fin false m e) (fin false 1 (pos 24)) ≡ true) where
+  whole-at : comesBack (fin false m e) ≡ tick (fin false m e)
+  unfolding comesBack
+  whole-at = comes-back m e (small m e w) ∙ sym (tick-rest m e w)
+
+pub whole-tick : (x : Float) → UpTo 24 x → comesBack x ≡ tick x
 whole-tick nan u = absurd (u .value)
 whole-tick (inf s) u = absurd (u .value)
 whole-tick (fin true m e) u = absurd (true≢false (u .value .0))
-whole-tick (fin false m e) u = let w = up-to-end 24 (fin false m e) u in comes-back m e (small m e w) ∙ sym (tick-rest m e w)
+whole-tick (fin false m e) u = whole-at m e (up-to-end 24 (fin false m e) u)
+
+-- the test of any number's magnitude
+pub size-tick : (x : Float) → le (magnitudeOf x) (fin false 1 (pos 24)) && comesBack (magnitudeOf x) ≡ tick (magnitudeOf x)
+unfolding magnitudeOf le lt eq tick
+size-tick nan = refl
+size-tick (inf s) = refl
+size-tick (fin s m e) = go (le (fin false m e) (fin false 1 (pos 24))) refl
+  where
+    go : (t : Bool) → le (fin false m e) (fin false 1 (pos 24)) ≡ t → t && comesBack (fin false m e) ≡ tick (fin false m e)
+    go true w = whole-at m e w
+    go false w = sym (too-far (fin false m e) w)

@@ -107,7 +107,7 @@ no-digits (suc m) e =
     let some = mul-pos {m = suc m} {n = up e} (omega arith) (up-pos e) in
     rw (eqb·suc-zero m) (sym (ne-eqb (suc m * up e * 1) 0 (λ z. omega arith)))
 
-is-zero : (s : Bool) (m : ℕ) (e : ℤ) → eqb m 0 ≡ eq (fin s m e) plusZero
+pub is-zero : (s : Bool) (m : ℕ) (e : ℤ) → eqb m 0 ≡ eq (fin s m e) plusZero
 unfolding eq
 is-zero s m e = rw (zero-mul, no-digits m e) (go (eqb (m * up e * 1) 0) (Bool·beq s false))
   where
@@ -120,7 +120,7 @@ unfolding lt signOf
 zero-sign true m e = refl
 zero-sign false m e = refl
 
-any-sign : (s : Bool) → not (s && false) ≡ true
+pub any-sign : (s : Bool) → not (s && false) ≡ true
 any-sign true = refl
 any-sign false = refl
 
@@ -152,7 +152,7 @@ module _ (s : Bool) (m : ℕ) (e : ℤ) (w : le (fin false m e) (fin false 1 (po
   again : eq (ofInt binary64 (pos (toUnsigned 64 (fin false m e)))) (fin false m e) ≡ eqb (m * up e % down e) 0
   again = let h = near in rw part (same-whole m e (omega arith))
 
-  tick-is : (t u : Bool) → eqb (m * up e % down e) 0 ≡ t → eqb m 0 ≡ u → tick (fin s m e) ≡ (t && not (s && u))
+  pub tick-is : (t u : Bool) → eqb (m * up e % down e) 0 ≡ t → eqb m 0 ≡ u → tick (fin s m e) ≡ (t && not (s && u))
   unfolding tick whole magnitudeOf
   tick-is t u p q =
       let h = near in

@@ -1,12 +1,14 @@
 // The tests of a call's values.
 ghost use mathlib.Core.Path.{_≡_};
 ghost use mathlib.Core.Bool.{not};
-ghost use Prim.Native.Nat.{_^_};
+ghost use Prim.Native.Nat.{_^_, _≤_};
 ghost use lib.Dec.{eqb};
 ghost use lib.ListN.{length};
 ghost use lib.Ieee.{binary64, toBits};
 ghost use Rattle.values.specs.Accepted.{within, accepted, tick, finite, all};
-ghost use Rattle.values.specs.Quick.{capped, NoneAbove, UpTo, EachUpTo};
+ghost use Rattle.rounding.specs.Leaves.{magnitudeOf};
+ghost use Rattle.values.specs.Quick.{capped, NoneAbove, EachUpTo};
+ghost use Rattle.values.specs.Fraction.{comesBack};
 
 // Whether x lies within 2^30. A NaN does not.
 fn is_near(x: f64) -> bool
@@ -58,13 +60,14 @@ pub fn cap(x: f64) -> f64
     if x < 2147483648.0 { x } else { 2147483648.0 }
 }
 
-// The bits of the numbers of s from index `first` on, one upon the other: those of none are larger. What is not below 2^31 counts as that.
-pub fn bits_together(s: &[f64], first: usize) -> u64
-    ensures { λ r. ⌜ NoneAbove r (now (s .entry)) first (length (now (s .entry))) ⌝ }
+// The bits of the numbers of s from index `first` up to `end`, one upon the other: those of none are larger. What is not below 2^31 counts as that.
+pub fn bits_together(s: &[f64], first: usize, end: usize) -> u64
+    requires { ⌜ end ≤ length (now s) ⌝ }
+    ensures { λ r. ⌜ NoneAbove r (now (s .entry)) first end ⌝ }
 {
     let mut together = 0;
     let mut i = first;
-    while i < s.len() {
+    while i < end {
         together = together | f64::to_bits(cap(s[i]));
         i += 1;
     }
@@ -99,18 +102,33 @@ pub fn accepted_by(together: u64, s: &[f64]) -> bool
     }
 }
 
-// Whether a series may hold every number of s.
+// Whether a series may hold every number of s. Where its first 16 numbers fail the quick test, as prices on both sides of 0 mostly do, the others are not
+// looked at twice.
 pub fn all_accepted(s: &[f64]) -> bool
     ensures { λ r. ⌜ r ≡ all accepted (now (s .entry)) ⌝ }
 {
-    accepted_by(bits_together(s, 0), s)
+    let some = cells::smaller(s.len(), 16);
+    let head = bits_together(s, 0, some);
+    if head <= 4742290407621132288 {
+        accepted_by(head | bits_together(s, some, s.len()), s)
+    } else {
+        each_accepted(s)
+    }
 }
 
-// Whether x, which lies from 0.0 to 2^24, is whole: beside 2^52 there is no room for a fraction.
+// Whether x comes back when 2^52 is added to it and taken away: beside 2^52 there is no room for a fraction.
 fn is_whole(x: f64) -> bool
-    ensures { λ r. ⌜ (UpTo 24 x → r ≡ tick x) ⌝ }
+    ensures { λ r. ⌜ r ≡ comesBack x ⌝ }
 {
     (x + 4503599627370496.0) - 4503599627370496.0 == x
+}
+
+// Whether x without its sign is a whole tick.
+fn is_tick_size(x: f64) -> bool
+    ensures { λ r. ⌜ r ≡ tick (magnitudeOf x) ⌝ }
+{
+    let size = rounding::magnitude(x);
+    (size <= 16777216.0) & is_whole(size)
 }
 
 // Whether every number of s, where each lies from 0.0 to 2^24, is a whole tick. All are looked at, so that the loop takes several at a time.
@@ -127,19 +145,19 @@ fn all_whole(s: &[f64]) -> bool
     whole
 }
 
-// Whether every number of s is a whole tick, one after the other.
+// Whether every number of s is a whole tick, of either sign. All are looked at, so that the loop takes several at a time.
 fn each_tick(s: &[f64]) -> bool
     ensures { λ r. ⌜ r ≡ all tick (now (s .entry)) ⌝ }
 {
+    let mut whole = true;
+    let mut minus_zeros = 0;
     let mut i = 0;
     while i < s.len() {
-        if is_tick(s[i]) {
-            i += 1;
-        } else {
-            return false;
-        }
+        whole = whole & is_tick_size(s[i]);
+        minus_zeros = minus_zeros | minus_zero_bits(s[i]);
+        i += 1;
     }
-    true
+    whole & (minus_zeros == 0)
 }
 
 // Whether every number of s is a whole tick. Where prices have fractions the first one mostly shows it; where all bits together are at most
@@ -151,7 +169,7 @@ pub fn all_ticks(s: &[f64]) -> bool
         return true;
     }
     if is_tick(s[0]) {
-        if bits_together(s, 0) <= 4715268809856909312 {
+        if bits_together(s, 0, s.len()) <= 4715268809856909312 {
             return all_whole(s);
         }
         return each_tick(s);

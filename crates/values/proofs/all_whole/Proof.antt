@@ -1,5 +1,5 @@
 -- `all_whole` meets its contract: what was found so far, and the test of the rest. Assumes nothing.
-use mathlib.Core.Path.{_≡_, refl, sym}
+use mathlib.Core.Path.{_≡_, refl, sym, _∙_}
 use mathlib.Core.Bool.{Bool, true, false, _&&_}
 use Prim.Native.Nat.{_-_, _≤_}
 use borrow.Author.Needs.{needs}
@@ -8,6 +8,7 @@ use denote.Ref.{now}
 use lib.Ieee.{nan}
 use Rattle.values.specs.Accepted.{tick, all, all-next, all-none}
 use Rattle.values.specs.Ticks.{and-true}
+use Rattle.values.specs.Fraction.{whole-tick}
 use Rattle.values.proofs.all_whole.Statement.{statement}
 use Rattle.values.proofs.all_whole.Tie as tie
 
@@ -26,7 +27,7 @@ loop-again c =
     let in-loop = c .before .before in
     let at = in-loop .before .loop in
     let start = in-loop .before .before .before in
-    let is : c .is-whole .result ≡ tick (getD (now (start .args .s)) (at .i) nan) = c .is-whole .ensures (start .pre (at .i) (in-loop .loop-test .taken)) in
+    let is : c .is-whole .result ≡ tick (getD (now (start .args .s)) (at .i) nan) = c .is-whole .ensures ∙ whole-tick _ (start .pre (at .i) (in-loop .loop-test .taken)) in
     (search needs, rw (at .inv .1, all-next tick _ _ (in-loop .loop-test .taken), ← is) (and-assoc (at .whole) _ _))
 
 pub all-whole-spec : {M : Type 1} → statement M

@@ -2,16 +2,15 @@
 use Prim.Native.Nat.{_-_, _≤_}
 use native.Mathlib.Omega.{arith}
 use borrow.Author.Needs.{needs}
-use lib.ListN.{length}
 use Rattle.values.specs.Quick.{NoneAbove, capped-number, none-yet, none-within, none-with}
 use Rattle.values.proofs.bits_together.Statement.{statement}
 use Rattle.values.proofs.bits_together.Tie as tie
 
 abbrev Inv-loop : tie.InvT-loop
-Inv-loop s first together₀ i₀ together i = (first ≤ i) × NoneAbove together s first i
+Inv-loop s first end together₀ i₀ together i = (first ≤ i) × NoneAbove together s first i
 
 abbrev μ-loop : tie.MeasureT-loop
-μ-loop s first together₀ i₀ together i = length s - i
+μ-loop s first end together₀ i₀ together i = end - i
 
 pub bits-together-spec : {M : Type 1} → statement M
 bits-together-spec =

@@ -1,28 +1,35 @@
--- `each_tick` meets its contract: what holds of the whole series holds of the rest of it. Assumes nothing.
-use mathlib.Core.Path.{_≡_}
-use Prim.Native.Nat.{_+_, _-_, _≤_}
-use lib.ListN.{length, drop}
-use denote.Ref.{now}
-use mathlib.Core.Bool.{Bool, true, false, _&&_}
-use Rattle.values.specs.Accepted.{tick, all, all-next, all-none}
+-- `each_tick` meets its contract: what was found so far, and the test of the rest. Assumes nothing.
+use mathlib.Core.Path.{_≡_, _∙_}
+use mathlib.Core.Bool.{Bool, not, _&&_}
+use Prim.Native.Nat.{ℕ, _-_, _^_, _≤_}
+use native.Mathlib.Omega.{arith}
 use borrow.Author.Needs.{needs}
+use lib.Dec.{T, eqb}
+use lib.ListN.{length}
+use lib.Ieee.{Float, binary64, fits, toBits}
+use Rattle.rounding.specs.Leaves.{magnitudeOf}
+use Rattle.values.specs.Accepted.{tick}
+use Rattle.values.specs.Both.{Tested, none-tested, one-tested, all-tested}
+use Rattle.values.specs.Zero.{tick-parts}
 use Rattle.values.proofs.each_tick.Statement.{statement}
 use Rattle.values.proofs.each_tick.Tie as tie
 
 abbrev Inv-loop : tie.InvT-loop
-Inv-loop s i₀ i = (i ≤ length s) × (all tick s ≡ all tick (drop i s))
+Inv-loop s whole₀ zeros₀ i₀ whole zeros i = (i ≤ length s) × Tested tick s whole zeros i
 
 abbrev μ-loop : tie.MeasureT-loop
-μ-loop s i₀ i = length s - i
+μ-loop s whole₀ zeros₀ i₀ whole zeros i = length s - i
 
--- the next number's test, and then the rest
-next : (c : tie.After-is-tick Inv-loop μ-loop) (r : Bool) → c .is-tick .result ≡ r
-    → let at-loop = c .before .before .before in
-    let s = now (at-loop .before .before .args .s) in
-    all tick s ≡ r && all tick (drop (at-loop .loop .i + 1) s)
-next c r e =
-    let in-loop = c .before .before in
-    rw (in-loop .before .loop .inv .1, all-next tick _ _ (in-loop .loop-test .taken), ← c .is-tick .ensures, e)
+-- a value's two tests
+parts : (x : Float) (t : Bool) (bits : ℕ) → T (fits binary64 x) → t ≡ tick (magnitudeOf x) → eqb bits 0 ≡ not (eqb (toBits binary64 x) (2 ^ 63))
+    → tick x ≡ t && eqb bits 0
+parts x t bits f p q = tick-parts x f ∙ rw (p, q)
+
+loop-again : tie.Need-loop-again Inv-loop μ-loop
+loop-again c =
+    let at-size = c .before .before in
+    let at = at-size .before .before .before .loop in
+    (omega arith, one-tested (at-size .is-tick-size .result) (c .minus-zero-bits .result) (at .inv .1) (parts _ _ (c .minus-zero-bits .result) (at-size .before .shared-slice-known2 .given _) (at-size .is-tick-size .ensures) (c .minus-zero-bits .ensures)) (omega arith))
 
 pub each-tick-spec : {M : Type 1} → statement M
 each-tick-spec =
@@ -30,13 +37,15 @@ each-tick-spec =
     (tie.spec
     Inv-loop
     μ-loop
-    (λ c. search needs)  -- loop-holds
-    (λ c. search needs)  -- mul-is-tick
-    (λ c. search needs)  -- shared-slice-read-is-tick
-    (λ c κs. search needs)  -- is-tick-requires
+    (λ c. (omega arith, none-tested))  -- loop-holds
+    (λ c. search needs)  -- mul-is-tick-size
+    (λ c. search needs)  -- shared-slice-read-is-tick-size
+    (λ c κs. search needs)  -- is-tick-size-requires
+    (λ c. search needs)  -- mul-minus-zero-bits
+    (λ c. search needs)  -- shared-slice-read-minus-zero-bits
+    (λ c κs. search needs)  -- minus-zero-bits-requires
     (λ c. search needs)  -- add-i
     (λ c. search needs)  -- loop-less
-    (λ c. (search needs, next (c .before) true (c .if1 .taken)))  -- loop-again
-    (λ c. rw (next (c .before) false (c .if1 .left)))  -- returns
-    (λ c. rw (c .before .loop .inv .1, all-none tick _ _ (c .loop-test .left)))  -- returns-2
+    loop-again
+    (λ c. all-tested (c .before .loop .inv .1) (omega arith))  -- returns
     )

@@ -1,6 +1,7 @@
--- `is_whole` meets its contract: what comes back beside 2 ^ 52 is a whole number. Assumes nothing.
+-- `is_whole` meets its contract: it is the definition. Assumes nothing.
+use mathlib.Core.Path.{refl}
 use lib.Ieee.{ofBits}
-use Rattle.values.specs.Fraction.{whole-tick}
+use Rattle.values.specs.Fraction.{comesBack}
 use Rattle.values.proofs.is_whole.Statement.{statement}
 use Rattle.values.proofs.is_whole.Tie as tie
 
@@ -8,5 +9,5 @@ pub is-whole-spec : {M : Type 1} → statement M
 is-whole-spec =
     tie.close
     (tie.spec
-    (λ c u. unfold ofBits in whole-tick _ u)  -- returns
+    (λ c. unfold ofBits comesBack in refl)  -- returns
     )
