@@ -12,14 +12,10 @@ use Rattle.calls.specs.declared.Refusal.{Refusal}
 use Rattle.calls.specs.declared.Refusal.the-variants.{SeriesTooLong, LengthsDiffer, OutputTooShort, WorkTooShort, ValueNotAccepted, WindowTooLong}
 use Rattle.calls.specs.declared.Answer.{Answer}
 use Rattle.calls.specs.declared.Answer.the-variants.{Cells, Refused}
-use Rattle.values.specs.Accepted.{all, and-parts}
+use Rattle.values.specs.Accepted.{all, and-true, and-parts}
 use Rattle.calls.specs.Answer.{countOf, first, unless, andThen, emptyIf, slices, checked, anyZero, windowed, answered, windowFits}
 
 -- ---- the table for one series
-
-pub and-true : (t : Bool) → t && true ≡ t
-and-true true = refl
-and-true false = refl
 
 or-false : (t : Bool) → t || false ≡ t
 or-false true = refl

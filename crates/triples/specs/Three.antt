@@ -8,13 +8,13 @@ use borrow.Author.Tests.{leb-true, leb-false, le-leb, lt-leb, eqb-true, eq-eqb}
 use lib.Dec.{leb, eqb}
 use lib.ListN.{length}
 use lib.Ieee.{Float}
-use Rattle.values.specs.Accepted.{all}
+use Rattle.values.specs.Accepted.{all, and-true}
 use Rattle.calls.specs.declared.Refusal.{Refusal}
 use Rattle.calls.specs.declared.Refusal.the-variants.{SeriesTooLong, LengthsDiffer, OutputTooShort, WorkTooShort, ValueNotAccepted}
 use Rattle.calls.specs.declared.Answer.{Answer}
 use Rattle.calls.specs.declared.Answer.the-variants.{Cells, Refused}
 use Rattle.calls.specs.Answer.{first, unless, andThen, slices, checked}
-use Rattle.calls.specs.Room.{AtLeast, and-true, unless-cells, andThen-cells, at-least}
+use Rattle.calls.specs.Room.{AtLeast, unless-cells, andThen-cells, at-least}
 
 -- ---- the table
 

@@ -34,6 +34,10 @@ abbrev pub all : {A : Type 0} → (A → Bool) → List A → Bool
 all p [] = true
 all p (x ∷ xs) = p x && all p xs
 
+pub and-true : (t : Bool) → t && true ≡ t
+and-true true = refl
+and-true false = refl
+
 pub and-parts : (t u : Bool) → t && u ≡ true → (t ≡ true) × (u ≡ true)
 and-parts true u e = (refl, e)
 and-parts false u e = absurd (true≢false (sym e))

@@ -9,7 +9,7 @@ use lib.Bits.{bitOr, or-add-and, and-le-r}
 use lib.Dec.{eqb}
 use lib.ListN.{length, getD, drop}
 use lib.Ieee.{Float, nan}
-use Rattle.values.specs.Accepted.{all, all-next, all-none}
+use Rattle.values.specs.Accepted.{all, and-true, all-next, all-none}
 
 -- the numbers before index i have passed if `good` is true and no bit is set: what the loops keep
 pub record Tested (p : Float → Bool) (s : List Float) (good : Bool) (bits i : ℕ) : Type 0 where
@@ -25,10 +25,6 @@ in-turn true true c d r = refl
 in-turn true false true d r = refl
 in-turn true false false d r = refl
 in-turn false b c d r = refl
-
-and-true : (a : Bool) → a && true ≡ a
-and-true true = refl
-and-true false = refl
 
 module _ {p : Float → Bool} {s : List Float} where
   pub none-tested : Tested p s true 0 0

@@ -16,9 +16,9 @@ use lib.Ieee.Fits.{round-is, nearest-le, down-pos}
 use lib.Ieee.Nearest.{closest, closest-same, nearest-ge}
 use lib.Ieee.Back.{round-whole}
 use Rattle.rounding.specs.Leaves.{magnitudeOf}
-use Rattle.values.specs.Accepted.{tick}
+use Rattle.values.specs.Accepted.{tick, and-true}
 use Rattle.values.specs.Quick.{UpTo, up-to-end}
-use Rattle.values.specs.Ticks.{eqb-iff, and-true, small, tick-rest, too-far}
+use Rattle.values.specs.Ticks.{eqb-iff, small, tick-rest, too-far}
 use Rattle.numbers.specs.Value.{sub-at}
 
 -- ---- n / d from 2 ^ 52 to 2 ^ 53 is rounded to a whole number

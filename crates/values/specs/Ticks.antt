@@ -14,7 +14,7 @@ use lib.Ieee.Exact.{HasValue}
 use lib.Ieee.Back.{round-whole}
 use lib.Ieee.Fits.{down-pos}
 use Rattle.rounding.specs.Leaves.{signOf, magnitudeOf}
-use Rattle.values.specs.Accepted.{within, tick, and-parts}
+use Rattle.values.specs.Accepted.{within, tick, and-true, and-parts}
 use Rattle.cells.specs.Line.{plusZero}
 
 beq-self : (s : Bool) → Bool·beq s s ≡ true
@@ -24,10 +24,6 @@ beq-self false = refl
 or-true : (t : Bool) → t || true ≡ true
 or-true true = refl
 or-true false = refl
-
-pub and-true : (t : Bool) → t && true ≡ t
-and-true true = refl
-and-true false = refl
 
 pub eqb-iff : (a b c d : ℕ) → (a ≡ b → c ≡ d) → (c ≡ d → a ≡ b) → eqb a b ≡ eqb c d
 eqb-iff a b c d f g = go (eqb c d) refl

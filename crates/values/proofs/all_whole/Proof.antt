@@ -6,8 +6,7 @@ use borrow.Author.Needs.{needs}
 use lib.ListN.{length, getD, drop}
 use denote.Ref.{now}
 use lib.Ieee.{nan}
-use Rattle.values.specs.Accepted.{tick, all, all-next, all-none}
-use Rattle.values.specs.Ticks.{and-true}
+use Rattle.values.specs.Accepted.{tick, all, and-true, all-next, all-none}
 use Rattle.values.specs.Fraction.{whole-tick}
 use Rattle.values.proofs.all_whole.Statement.{statement}
 use Rattle.values.proofs.all_whole.Tie as tie
