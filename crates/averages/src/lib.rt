@@ -8,13 +8,15 @@ ghost use Prim.Native.Nat.{_-_, _<_, _≤_};
 ghost use lib.ListN.{length};
 ghost use lib.Ieee.{nan};
 ghost use Rattle.values.specs.Accepted.{accepted};
-ghost use Rattle.calls.specs.Answer.{answered, windowFits};
+ghost use Rattle.calls.specs.Answer.{answered};
+ghost use Rattle.calls.specs.inner.Fits.{windowFits};
 ghost use Rattle.calls.specs.Call.{Call};
-ghost use Rattle.cells.specs.Line.{Line, line, fromBar, Led};
+ghost use Rattle.cells.specs.Line.{Line, line, fromBar};
+ghost use Rattle.cells.specs.inner.Leads.{Led};
 ghost use Rattle.cells.specs.Written.{Writing};
-ghost use Rattle.windows.specs.Eight.{WindowRoom};
-ghost use Rattle.averages.specs.Averages.{smaLine};
-ghost use Rattle.averages.specs.Stages.{Sliding, First, Summed};
+ghost use Rattle.windows.specs.inner.Eight.{WindowRoom};
+ghost use Rattle.averages.specs.Sma.{smaLine};
+ghost use Rattle.averages.specs.inner.Stages.{Sliding, First, Summed};
 
 // What is found on the way through a series: the bits of the prices together, and a sum or a cell.
 pub struct Found {

@@ -1,8 +1,8 @@
 -- What a call answers: document 01's numbers, and its table of refusals read from the top. Assumes nothing.
-use mathlib.Core.Bool.{Bool, true, false, _&&_, _||_}
+use mathlib.Core.Bool.{Bool, true, false, _||_}
 use mathlib.Core.List.{List, [], _∷_, map}
 use Prim.Native.Nat.{ℕ, _*_}
-use lib.Dec.{leb, ltb, eqb}
+use lib.Dec.{leb, eqb}
 use lib.ListN.{length}
 use lib.Ieee.{Float}
 use Rattle.calls.specs.declared.Refusal.{Refusal}
@@ -99,7 +99,3 @@ windowed l windows next = unless (all (λ n. leb n 4096) windows) WindowTooLong 
 unfoldable pub answered : (Float → Bool) → List Float → List ℕ → ℕ → List ℕ → Answer
 unfolding checked windowed
 answered ok s windows output work = andThen (checked ok (s ∷ []) (output ∷ []) work) (windowed (length s) windows (Cells (length s)))
-
--- a whole window of n bars, and lengths that are in order: only the values are left to be refused
-unfoldable pub windowFits : ℕ → ℕ → ℕ → Bool
-windowFits bars n output = ltb 0 n && leb n 4096 && leb n bars && leb bars 65536 && leb bars output

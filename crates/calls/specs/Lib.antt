@@ -1,4 +1,4 @@
 -- What a call answers: the refusals, and the contract of every call.
 pub mod Answer
-pub mod Room
 pub mod Call
+pub mod inner

@@ -1,17 +1,21 @@
 // The library as C functions: each calls the library's own and turns its answer into numbers. include/tegbalowu.h declares them.
 use calls::Answer;
-ghost use mathlib.Core.Path.{_≡_};
 ghost use mathlib.Core.List.{[], _∷_};
 ghost use lib.ListN.{length};
 ghost use Rattle.values.specs.Accepted.{accepted, tick};
 ghost use Rattle.calls.specs.Answer.{checked, answered};
 ghost use Rattle.cells.specs.Line.{line};
-ghost use Rattle.averages.specs.Averages.{smaLine, emaLine, exponentialLine, exponentialAnswer, tickMeanLine};
-ghost use Rattle.coefficients.specs.Coefficients.{coefficients};
-ghost use Rattle.coefficients.specs.Period.{wholePart};
-ghost use Rattle.ranges.specs.Range.{trueRangeLine};
-ghost use Rattle.smoothers.specs.Smoother.{smooth, smootherAnswer};
-ghost use Rattle.positions.specs.Rules.{singleLine, doubleLine, doubleAnswer, midLine};
+ghost use Rattle.averages.specs.Sma.{smaLine};
+ghost use Rattle.averages_exponential.specs.Ema.{emaLine};
+ghost use Rattle.averages_exponential.specs.ExponentialSmoothing.{exponentialLine, exponentialAnswer};
+ghost use Rattle.averages_ticks.specs.TickMean.{tickMeanLine};
+ghost use Rattle.smoother_table.specs.Coefficients.{coefficients};
+ghost use Rattle.smoother_table.specs.Period.{wholePart};
+ghost use Rattle.true_range.specs.TrueRange.{trueRangeLine};
+ghost use Rattle.smoother.specs.Smoother.{smooth, smootherAnswer};
+ghost use Rattle.rules_single.specs.Single.{singleLine};
+ghost use Rattle.rules_double.specs.Double.{doubleLine, doubleAnswer};
+ghost use Rattle.rules_middle.specs.Middle.{midLine};
 ghost use Rattle.capi.specs.Numbers.{Numbers, CCall, CWorkCall};
 
 // An answer in numbers: the refusal, or 0, and how many cells were written.
@@ -43,7 +47,7 @@ pub extern "C" fn tegbalowu_ema(series: &[f64], n: usize, out: &mut [f64]) -> CA
     ensures { λ r. ⌜ CCall (answered accepted (now (series .entry)) (n ∷ []) (length (now (out .entry))) []) (emaLine n (line (now (series .entry))))
         (now (out .entry)) r (now (out .exit)) ⌝ }
 {
-    numbers(exponential::ema(series, n, out))
+    numbers(averages_exponential::ema(series, n, out))
 }
 
 #[no_mangle]
@@ -55,7 +59,7 @@ pub extern "C" fn tegbalowu_exponential_smoothing(
     ensures { λ r. ⌜ CCall (exponentialAnswer (now (series .entry)) alpha (length (now (out .entry)))) (exponentialLine alpha (line (now (series .entry))))
         (now (out .entry)) r (now (out .exit)) ⌝ }
 {
-    numbers(exponential::exponential_smoothing(series, alpha, out))
+    numbers(averages_exponential::exponential_smoothing(series, alpha, out))
 }
 
 #[no_mangle]
@@ -63,7 +67,7 @@ pub extern "C" fn tegbalowu_tick_mean(series: &[f64], n: usize, out: &mut [i64])
     ensures { λ r. ⌜ CCall (answered tick (now (series .entry)) (n ∷ []) (length (now (out .entry))) []) (tickMeanLine n (line (now (series .entry))))
         (now (out .entry)) r (now (out .exit)) ⌝ }
 {
-    numbers(ticks::tick_mean(series, n, out))
+    numbers(averages_ticks::tick_mean(series, n, out))
 }
 
 #[no_mangle]
@@ -76,7 +80,7 @@ pub extern "C" fn tegbalowu_ultimate_smoother(
         (smooth (coefficients (wholePart period)) (line (now (price .entry))))
         (now (out .entry)) r (now (out .exit)) ⌝ }
 {
-    numbers(smoothers::ultimate_smoother(price, period, out))
+    numbers(smoother::ultimate_smoother(price, period, out))
 }
 
 #[no_mangle]
@@ -90,7 +94,7 @@ pub extern "C" fn tegbalowu_true_range(
         (trueRangeLine (line (now (high .entry))) (line (now (low .entry))) (line (now («close_prev» .entry))))
         (now (out .entry)) r (now (out .exit)) ⌝ }
 {
-    numbers(smoothers::true_range(high, low, close_prev, out))
+    numbers(true_range::true_range(high, low, close_prev, out))
 }
 
 #[no_mangle]

@@ -1,6 +1,6 @@
 -- Lines of cells, what is written of them, and recurrences.
-pub mod Written
-pub mod Rows
 pub mod Line
-pub mod Leads
 pub mod Recur
+pub mod Shown
+pub mod Written
+pub mod inner

@@ -1,8 +1,6 @@
 -- Recurrences: a value and what each step makes of it, as a running sum or a moving average that carries its last cell. Assumes nothing.
-use mathlib.Core.Path.{_≡_, refl}
-use Prim.Native.Nat.{ℕ, zero, suc, _+_, _<_}
-use native.Mathlib.Numerals.{add-one}
-use native.Mathlib.Omega.{arith}
+use mathlib.Core.Path.{_≡_}
+use Prim.Native.Nat.{ℕ, zero, suc}
 
 module _ {A : Type 0} where
   -- a after k steps; step j makes what follows the value after j steps
@@ -13,18 +11,3 @@ module _ {A : Type 0} where
   -- x is the value after k steps: what the loops of a recurrence keep
   pub record Recurring (a : A) (step : ℕ → A → A) (k : ℕ) (x : A) : Type 0 where
     pub is : x ≡ recur a step k
-
-  module _ {a : A} {step : ℕ → A → A} where
-    pub no-step : {x : A} → x ≡ a → Recurring a step 0 x
-    unfolding recur
-    no-step e = record { is = e }
-
-    pub one-step : {k : ℕ} {x y : A} → Recurring a step k x → y ≡ step k x → Recurring a step (k + 1) y
-    unfolding recur
-    one-step p e = record { is = rw (e, p .is, add-one) }
-
-  -- recurrences that agree in the start and in k steps
-  pub recur-same : (a b : A) (s t : ℕ → A → A) (k : ℕ) → a ≡ b → ((j : ℕ) (x : A) → j < k → s j x ≡ t j x) → recur a s k ≡ recur b t k
-  unfolding recur
-  recur-same a b s t zero e h = e
-  recur-same a b s t (suc k) e h = rw (recur-same a b s t k e (λ j x l. h j x (omega arith)), h k _ (omega arith))

@@ -1,9 +1,11 @@
-// Writing cells: filling and clearing slices.
+// Writing cells: filling and clearing slices; and the bytes of a block that are not used yet, moved to its front.
 ghost use mathlib.Core.Path.{_≡_};
 ghost use Prim.Native.Nat.{_≤_, min};
 ghost use lib.ListN.{length};
-ghost use Rattle.cells.specs.Line.{plusZero, Led};
+ghost use Rattle.cells.specs.Line.{plusZero};
+ghost use Rattle.cells.specs.inner.Leads.{Led};
 ghost use Rattle.cells.specs.Written.{Writing};
+ghost use Rattle.cells.specs.inner.Kept.{Kept};
 
 // The smaller of two counts.
 pub fn smaller(a: usize, b: usize) -> usize
@@ -40,4 +42,18 @@ pub fn fill_lead(cells: &mut [f64], b: usize, bars: usize, x: f64) -> usize
     let first = smaller(b, bars);
     fill(cells, first, x);
     first
+}
+
+// Moves the bytes from `from` to `to` to the front of the block, and gives how many they are.
+pub fn keep(block: &mut [u8], from: usize, to: usize) -> usize
+    requires { ⌜ (from ≤ to) × (to ≤ length (now block)) ⌝ }
+    ensures { λ r. ⌜ Kept from to (now (block .entry)) r (now (block .exit)) ⌝ }
+{
+    let kept = to - from;
+    let mut i = 0;
+    while i < kept {
+        block[i] = block[from + i];
+        i += 1;
+    }
+    kept
 }

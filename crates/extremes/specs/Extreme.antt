@@ -1,10 +1,8 @@
 -- The highest and the lowest of the last n cells. Assumes nothing.
-use mathlib.Core.Path.{_≡_, refl}
 use mathlib.Core.Bool.{Bool, true, false, cond}
-use Prim.Native.Nat.{ℕ, zero, suc, _+_, _-_, _<_, _≤_}
-use native.Mathlib.Omega.{arith}
+use Prim.Native.Nat.{ℕ, zero, suc, _+_, _-_}
 use lib.Ieee.{Float, lt}
-use Rattle.cells.specs.Line.{Line, plusZero, fromBar, Causal, causal-from}
+use Rattle.cells.specs.Line.{Line, plusZero, fromBar}
 
 -- the larger of two, the first of equals; and the smaller
 abbrev pub larger : Float → Float → Float
@@ -26,13 +24,3 @@ pickFrom pick f a (suc k) = pick (pickFrom pick f a k) (f (a + suc k))
 -- the highest of the last n cells by `larger`, the lowest by `smaller`; 0.0 before bar n - 1
 unfoldable pub extreme : (Float → Float → Float) → ℕ → Line → Line
 extreme pick n f = fromBar (n - 1) plusZero (λ i. pickFrom pick f (i + 1 - n) (n - 1))
-
-pickFrom-same : (pick : Float → Float → Float) (f g : Line) (a k : ℕ) → ((j : ℕ) → j ≤ a + k → f j ≡ g j) → pickFrom pick f a k ≡ pickFrom pick g a k
-unfolding pickFrom
-pickFrom-same pick f g a zero h = h a (omega arith)
-pickFrom-same pick f g a (suc k) h = rw (pickFrom-same pick f g a k (λ j l. h j (omega arith)), h (a + suc k) (omega arith))
-
-pub causal-extreme : (pick : Float → Float → Float) (n : ℕ) → 0 < n → Causal (extreme pick n)
-unfolding extreme
-causal-extreme pick n p =
-    causal-from (n - 1) plusZero (λ f g b s l. pickFrom-same pick f g (b + 1 - n) (n - 1) (λ j m. s j (omega arith)))

@@ -4,16 +4,16 @@ ghost use mathlib.Core.Path.{_≡_};
 ghost use Prim.Native.Nat.{_+_, _-_, _<_, _≤_, min};
 ghost use lib.ListN.{length};
 ghost use Rattle.cells.specs.Line.{line};
-ghost use Rattle.cells.specs.Rows.{beside};
+ghost use Rattle.cells.specs.inner.Rows.{beside};
 ghost use Rattle.cells.specs.Written.{Writing};
 ghost use Rattle.extremes.specs.Extreme.{larger, smaller, extreme};
-ghost use Rattle.extremes.specs.Best.{Numbers};
-ghost use Rattle.extremes.specs.Range.{alone, joined, RangeOf};
-ghost use Rattle.extremes.specs.Part.{Replacing};
-ghost use Rattle.extremes.specs.Blocks.{Room, Begun, Windows, UpTo, Whole};
+ghost use Rattle.extremes.specs.inner.Best.{Numbers};
+ghost use Rattle.extremes.specs.inner.Range.{alone, joined, RangeOf};
+ghost use Rattle.extremes.specs.inner.Part.{Replacing};
+ghost use Rattle.extremes.specs.inner.Blocks.{Room, Begun, Windows, UpTo, Whole};
 
 // The highest and the lowest of neighbouring cells.
-pub struct Range {
+pub struct HighLow {
     pub high: f64,
     pub low: f64,
 }
@@ -33,24 +33,24 @@ fn smaller_of(x: f64, y: f64) -> f64
 }
 
 // The range of one cell.
-fn of_one(x: f64) -> Range
+fn of_one(x: f64) -> HighLow
     ensures { λ r. ⌜ r ≡ alone x ⌝ }
 {
-    Range { high: x, low: x }
+    HighLow { high: x, low: x }
 }
 
 // The range of the cells of x and those of y, which stand right of them.
-fn join(x: Range, y: Range) -> Range
+fn join(x: HighLow, y: HighLow) -> HighLow
     ensures { λ r. ⌜ r ≡ joined x y ⌝ }
 {
-    Range {
+    HighLow {
         high: larger_of(x.high, y.high),
         low: smaller_of(x.low, y.low),
     }
 }
 
 // The range of the cells of bars a to e.
-fn range_of(cells: &[f64], a: usize, e: usize) -> Range
+fn range_of(cells: &[f64], a: usize, e: usize) -> HighLow
     requires { ⌜ (a ≤ e) × (e < length (now cells)) × Numbers (line (now cells)) (length (now cells)) ⌝ }
     ensures { λ r. ⌜ RangeOf (line (now (cells .entry))) a e r ⌝ }
 {
@@ -93,7 +93,7 @@ fn join_from(cells: &[f64], n: usize, e: usize, last: usize, rows: &mut [f64])
     while i < last {
         i += 1;
         best = join(best, of_one(cells[i]));
-        let up_to = Range {
+        let up_to = HighLow {
             high: rows[i],
             low: rows[bars + i],
         };

@@ -10,12 +10,17 @@ use Rattle.values.specs.Accepted.{accepted, tick}
 use Rattle.calls.specs.Answer.{checked, answered}
 use Rattle.calls.specs.Call.{Call, WorkCall}
 use Rattle.cells.specs.Line.{line}
-use Rattle.averages.specs.Averages.{smaLine, emaLine, exponentialLine, exponentialAnswer, tickMeanLine}
-use Rattle.coefficients.specs.Coefficients.{coefficients}
-use Rattle.coefficients.specs.Period.{wholePart}
-use Rattle.ranges.specs.Range.{trueRangeLine}
-use Rattle.smoothers.specs.Smoother.{smooth, smootherAnswer}
-use Rattle.positions.specs.Rules.{singleLine, doubleLine, doubleAnswer, midLine}
+use Rattle.averages.specs.Sma.{smaLine}
+use Rattle.averages_exponential.specs.Ema.{emaLine}
+use Rattle.averages_exponential.specs.ExponentialSmoothing.{exponentialLine, exponentialAnswer}
+use Rattle.averages_ticks.specs.TickMean.{tickMeanLine}
+use Rattle.smoother_table.specs.Coefficients.{coefficients}
+use Rattle.smoother_table.specs.Period.{wholePart}
+use Rattle.true_range.specs.TrueRange.{trueRangeLine}
+use Rattle.smoother.specs.Smoother.{smooth, smootherAnswer}
+use Rattle.rules_single.specs.Single.{singleLine}
+use Rattle.rules_double.specs.Double.{doubleLine, doubleAnswer}
+use Rattle.rules_middle.specs.Middle.{midLine}
 
 abbrev pub SmaCall : ℕ → List Float → List Float → Answer → List Float → Type 0
 SmaCall n s out₀ r out₁ = Call (answered accepted s (n ∷ []) (length out₀) []) (smaLine n (line s)) out₀ r out₁

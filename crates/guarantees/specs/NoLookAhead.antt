@@ -4,7 +4,7 @@
 use mathlib.Core.Path.{_≡_, sym, _∙_}
 use mathlib.Core.Bool.{Bool}
 use mathlib.Core.List.{List, [], _∷_}
-use Prim.Native.Nat.{ℕ, _+_, _<_, _≤_}
+use Prim.Native.Nat.{ℕ, _<_, _≤_}
 use native.Mathlib.Omega.{arith}
 use lib.IntN.{ℤ, pos}
 use lib.ListN.{length, getD}
@@ -12,18 +12,36 @@ use lib.Ieee.{Float, nan}
 use Rattle.calls.specs.declared.Answer.the-variants.{Cells}
 use Rattle.values.specs.Accepted.{accepted, tick}
 use Rattle.calls.specs.Answer.{checked, answered}
-use Rattle.cells.specs.Line.{Line, line, Same, Causal, causal-same}
-use Rattle.calls.specs.Room.{room, opened, andThen-cells, checked-room}
-use Rattle.triples.specs.Three.{Three, checked-three-room}
-use Rattle.cells.specs.Written.{written, getD-written}
-use Rattle.averages.specs.Averages.{causal-sma, causal-ema, causal-exponential, causal-tick-mean, exponentialAnswer}
-use Rattle.coefficients.specs.Coefficients.{coefficients}
-use Rattle.coefficients.specs.Period.{wholePart}
-use Rattle.ranges.specs.Range.{causal-range}
-use Rattle.smoothers.specs.Smoother.{smootherAnswer, causal-smooth}
-use Rattle.positions.specs.Opened.{double-opened}
-use Rattle.positions.specs.Rules.{causal-single, causal-double, causal-mid}
-use Rattle.guarantees.specs.Calls.{SmaCall, EmaCall, ExponentialCall, TickMeanCall, SmootherCall, TrueRangeCall, DoubleCall, SingleCall, MidCall}
+use Rattle.cells.specs.Line.{Line, line, Same, Causal}
+use Rattle.cells.proofs.Line.{causal-same}
+use Rattle.calls.proofs.Room.{room, opened, andThen-cells, checked-room}
+use Rattle.checks.proofs.Three.{checked-three-room}
+use Rattle.cells.specs.Written.{written}
+use Rattle.cells.proofs.Written.{getD-written}
+use Rattle.averages.proofs.Causal.{causal-sma}
+use Rattle.averages_exponential.proofs.Causal.{causal-ema, causal-exponential}
+use Rattle.averages_ticks.proofs.Causal.{causal-tick-mean}
+use Rattle.averages_exponential.specs.ExponentialSmoothing.{exponentialAnswer}
+use Rattle.smoother_table.specs.Coefficients.{coefficients}
+use Rattle.smoother_table.specs.Period.{wholePart}
+use Rattle.true_range.proofs.TrueRange.{causal-range}
+use Rattle.smoother.specs.Smoother.{smootherAnswer}
+use Rattle.smoother.proofs.Smoother.{causal-smooth}
+use Rattle.rules_double.proofs.Open.{double-opened}
+use Rattle.rules_single.proofs.Single.{causal-single}
+use Rattle.rules_double.proofs.Double.{causal-double}
+use Rattle.rules_middle.proofs.Middle.{causal-mid}
+use Rattle.guarantees.specs.Calls.{
+  SmaCall,
+  EmaCall,
+  ExponentialCall,
+  TickMeanCall,
+  SmootherCall,
+  TrueRangeCall,
+  DoubleCall,
+  SingleCall,
+  MidCall,
+}
 
 -- both series have more than b bars, and the same values at bars 0 to b
 pub record EqualBars (s t : List Float) (b : ℕ) : Type 0 where

@@ -11,21 +11,23 @@ use lib.Signed.{ltZ}
 use lib.ListN.{length, getD}
 use lib.Ieee.{Float, nan, binary64, round}
 use Rattle.rounding.specs.Leaves.{plusOne, minusOne}
-use Rattle.numbers.specs.Whole.{isNegative}
-use Rattle.numbers.specs.Nearest.{NearestTo}
-use Rattle.numbers.specs.Quotient.{quotient, Whole, quotient-is, quotient-nearest, quotient-zero}
+use Rattle.rounding.specs.Whole.{isNegative}
+use Rattle.rounding.specs.Nearest.{NearestTo}
+use Rattle.rounding_laws.proofs.Quotient.{quotient, Whole, quotient-is, quotient-nearest, quotient-zero}
 use Rattle.calls.specs.declared.Answer.the-variants.{Cells}
-use Rattle.cells.specs.Line.{plusZero, minusZero, line}
-use Rattle.cells.specs.Written.{getD-written}
-use Rattle.positions.specs.Opened.{double-opened}
-use Rattle.positions.specs.Rules.{doubleLine}
-use Rattle.positions.specs.Exact.{window-whole, sma-exact}
-use Rattle.positions.specs.Errors.{windowTotal}
+use Rattle.cells.specs.Line.{plusZero, line}
+use Rattle.cells.proofs.Written.{getD-written}
+use Rattle.rules_double.proofs.Open.{double-opened}
+use Rattle.rules_double.specs.Double.{doubleLine}
+use Rattle.exact_ticks.proofs.Exact.{window-whole}
+use Rattle.averages.proofs.Ticks.{sma-exact}
+use Rattle.windows.specs.Window.{windowTotal}
 use Rattle.guarantees.specs.Calls.{SmaCall, DoubleCall, SingleCall, MidCall}
 use Rattle.guarantees.specs.Series.{WholeTicks, price, whole-ticks, bar}
-use Rattle.guarantees.specs.Double.{double-exact}
-use Rattle.positions.specs.TickPositions.{single-exact}
-use Rattle.guarantees.specs.Middle.{highest, lowest, middle-exact}
+use Rattle.rules_double.proofs.Ticks.{double-exact}
+use Rattle.rules_single.proofs.Ticks.{single-exact}
+use Rattle.extremes.specs.Whole.{highest, lowest}
+use Rattle.rules_middle.proofs.Ticks.{middle-exact}
 
 -- the sum of the last n prices at bar i: its window sum
 abbrev pub windowSumOf : ℕ → List Float → ℕ → ℤ

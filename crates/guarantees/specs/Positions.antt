@@ -8,21 +8,34 @@ use native.Mathlib.Nat.{le-refl}
 use native.Mathlib.Omega.{arith}
 use lib.ListN.{length, getD}
 use lib.Ieee.{Float, nan, binary64, add, sub, div, eq, isNan}
-use Rattle.rounding.specs.Leaves.{one, plusOne, minusOne, signOf}
+use Rattle.rounding.specs.Leaves.{one, plusOne, minusOne, signOf, two}
 use Rattle.calls.specs.declared.Answer.the-variants.{Cells}
 use Rattle.values.specs.Accepted.{accepted}
 use Rattle.calls.specs.Answer.{checked}
 use Rattle.cells.specs.Line.{Line, plusZero, line}
-use Rattle.calls.specs.Room.{Room, andThen-cells, checked-room, room}
-use Rattle.cells.specs.Written.{getD-written}
-use Rattle.averages.specs.Averages.{two}
+use Rattle.calls.proofs.Room.{Room, andThen-cells, checked-room, room}
+use Rattle.cells.proofs.Written.{getD-written}
 use Rattle.windows.specs.Window.{mean}
 use Rattle.extremes.specs.Extreme.{larger, smaller, extreme}
-use Rattle.positions.specs.Opened.{double-opened}
-use Rattle.positions.specs.Rules.{singleLine, runningMean, doubleLine, doubleAnswer, midLine}
-use Rattle.guarantees.specs.Bounds.{AtMost, add-at-most, div-at-most, sub-at-most, from-bar-holds, Bounded, prices-bounded, mean-bounded, running-mean-bounded, highest-bounded, lowest-bounded}
+use Rattle.rules_double.proofs.Open.{double-opened}
+use Rattle.rules_single.specs.Single.{singleLine}
+use Rattle.rules_double.specs.Double.{runningMean, doubleLine, doubleAnswer}
+use Rattle.rules_middle.specs.Middle.{midLine}
+use Rattle.exact_ticks.proofs.Bounds.{
+  AtMost,
+  add-at-most,
+  div-at-most,
+  sub-at-most,
+  from-bar-holds,
+  Bounded,
+  prices-bounded,
+  mean-bounded,
+  highest-bounded,
+  lowest-bounded,
+}
+use Rattle.rules_double.proofs.Bounds.{running-mean-bounded}
 use Rattle.guarantees.specs.Calls.{DoubleCall, SingleCall, MidCall}
-use Rattle.guarantees.specs.Middle.{two-is}
+use Rattle.rules_middle.proofs.Ticks.{two-is}
 use Rattle.guarantees.specs.Series.{bar}
 
 -- long, short or flat

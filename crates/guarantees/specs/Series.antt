@@ -10,13 +10,15 @@ use lib.ListN.{length, getD}
 use lib.Ieee.{Float, nan, binary64, toSigned, fits}
 use lib.Ieee.Back.{float-back-signed}
 use Rattle.calls.specs.declared.Answer.the-variants.{Cells}
-use Rattle.values.specs.Accepted.{accepted, tick, all, all-at}
+use Rattle.values.specs.Accepted.{accepted, tick, all}
+use Rattle.values.proofs.All.{all-at}
 use Rattle.calls.specs.Answer.{answered}
-use Rattle.calls.specs.Room.{room, opened}
-use Rattle.cells.specs.Written.{written, getD-written}
+use Rattle.calls.proofs.Room.{room, opened}
+use Rattle.cells.specs.Written.{written}
+use Rattle.cells.proofs.Written.{getD-written}
 use Rattle.cells.specs.Line.{Line, line}
-use Rattle.values.specs.Ticks.{ticked}
-use Rattle.positions.specs.Exact.{TickLine}
+use Rattle.values.proofs.Ticks.{ticked}
+use Rattle.exact_ticks.proofs.Exact.{TickLine}
 
 -- each is an f64, and a whole tick: a whole number from -16,777,216 to 16,777,216, and not -0.0
 pub record WholeTicks (s : List Float) : Type 0 where

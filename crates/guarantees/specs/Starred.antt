@@ -1,12 +1,12 @@
 -- Document 01's starred cases, as one table that the definitions compute. Assumes nothing.
 use mathlib.Core.Path.{_≡_, refl}
-use mathlib.Core.Bool.{true, false}
+use mathlib.Core.Bool.{false}
 use mathlib.Core.List.{List, [], _∷_, map}
 use Prim.Native.Nat.{ℕ, zero, suc, _*_}
 use lib.IntN.{ℤ, pos, negsuc}
 use lib.ListN.{length}
 use lib.Ieee.{Float, nan, fin, binary64, add, sub, mul, div, ofInt, toSigned, whole, lt, eq, le, toBits}
-use Rattle.numbers.specs.Integers.{total}
+use Rattle.rounding.specs.Whole.{total}
 use Rattle.rounding.specs.Leaves.{signOf}
 use Rattle.calls.specs.declared.Answer.{Answer}
 use Rattle.calls.specs.declared.Answer.the-variants.{Cells}
@@ -15,8 +15,12 @@ use Rattle.calls.specs.Answer.{slices, checked, windowed, answered, countOf}
 use Rattle.cells.specs.Line.{line, fromBar}
 use Rattle.cells.specs.Recur.{recur}
 use Rattle.windows.specs.Window.{sumFrom, windowSum, mean, runningSum}
-use Rattle.averages.specs.Averages.{smaLine, smoothLine, emaLine, toTick, tickMeanLine}
-use Rattle.positions.specs.Rules.{singleLine, runningMean, doubleLine, doubleAnswer}
+use Rattle.averages.specs.Sma.{smaLine}
+use Rattle.averages_exponential.specs.Blend.{smoothLine}
+use Rattle.averages_exponential.specs.Ema.{emaLine}
+use Rattle.averages_ticks.specs.TickMean.{toTick, tickMeanLine}
+use Rattle.rules_single.specs.Single.{singleLine}
+use Rattle.rules_double.specs.Double.{runningMean, doubleLine, doubleAnswer}
 
 -- a cell of an output: an f64 or a whole number
 pub data Cell : Type 0 where

@@ -20,7 +20,7 @@ struct Tally {
 fn miss(x: f64, bits: u64) -> u64
     ensures { λ r. ⌜ (r ≡ 0 → x ≡ ofBits binary64 bits) × (x ≡ ofBits binary64 bits → r ≡ 0) ⌝ }
 {
-    let same = records::floats::is_float_of(x, bits);
+    let same = replay_words::floats::is_float_of(x, bits);
     if same { 0 } else { 1 }
 }
 
@@ -43,12 +43,12 @@ fn miss_flag(answer: bool, word: u64) -> u64
 fn with_line(words: &[u64], tally: Tally) -> Tally
     requires { ⌜ 6 ≤ length (now words) ⌝ }
 {
-    let x = records::floats::float_of(words[0]);
+    let x = replay_words::floats::float_of(words[0]);
     let is_nan = miss_flag(rounding::is_nan(x), words[1]);
     let magnitude = miss(rounding::magnitude(x), words[2]);
     let sign = miss(rounding::sign(x), words[3]);
     let whole = miss(rounding::round_to_whole(x), words[4]);
-    let root = miss(root::square_root(x), words[5]);
+    let root = miss(rounding_root::square_root(x), words[5]);
     Tally {
         compared: std::num::wrapping_add_u64(tally.compared, 1),
         is_nan: std::num::wrapping_add_u64(tally.is_nan, is_nan),
@@ -70,10 +70,10 @@ fn compare_all(block: &mut [u8], words: &mut [u64]) -> Tally {
         whole: 0,
         root: 0,
     };
-    let mut place = records::stream::start();
+    let mut place = replay_words::stream::start();
     let mut turns = u64::MAX;
     while turns > 0 {
-        let filled = records::stream::fill(libc::STDIN_FILENO, block, place, words);
+        let filled = replay_words::stream::fill(libc::STDIN_FILENO, block, place, words);
         if filled.count < 6 {
             return tally;
         }

@@ -1,2 +1,2 @@
 -- What the comparison of a call with its record means.
-pub mod Agree
+pub mod inner

@@ -3,15 +3,15 @@
 // many records there are and how many were not run: those from the first on that breaks off, is too long or is of a
 // function that is not here.
 use calls::Answer;
-use records::stream::Place;
-use same::Call;
+use replay_compare::Call;
+use replay_words::stream::Place;
 ghost use mathlib.Core.Path.{_≡_};
 ghost use mathlib.Core.Bool.{true};
 ghost use Prim.Native.Nat.{_+_, _%_, _^_, _<_};
 ghost use lib.ListN.{length, getD, set};
-ghost use Rattle.same.specs.Agree.{Same, words};
-ghost use Rattle.same.specs.Recorded.{Left, Runs, wordsOf, Given};
-ghost use Rattle.replay.specs.Agree.{Counted};
+ghost use Rattle.replay_compare.specs.inner.Agree.{Same, words};
+ghost use Rattle.replay_compare.specs.inner.Recorded.{Left, Runs, wordsOf, Given};
+ghost use Rattle.replay.specs.inner.Agree.{Counted};
 
 // What the next record came to: a call that differs 0 times or once, and the place after it.
 enum Step {
@@ -52,16 +52,16 @@ fn answer_floats(
     let function = call.function;
     let n = call.a as usize;
     let m = call.b as usize;
-    let x = records::floats::float_of(call.a);
+    let x = replay_words::floats::float_of(call.a);
     match function {
         1 => averages::sma(first, n, out),
-        2 => exponential::ema(first, n, out),
-        3 => exponential::exponential_smoothing(first, x, out),
+        2 => averages_exponential::ema(first, n, out),
+        3 => averages_exponential::exponential_smoothing(first, x, out),
         5 => rules::single_sma_positions(first, n, out, work),
         6 => rules::double_sma_positions(first, n, m, out),
         7 => rules::mid_positions(first, n, out, work),
-        8 => smoothers::ultimate_smoother(first, x, out),
-        _ => smoothers::true_range(first, second, third, out),
+        8 => smoother::ultimate_smoother(first, x, out),
+        _ => true_range::true_range(first, second, third, out),
     }
 }
 
@@ -79,9 +79,9 @@ fn floats_agree(
     ensures { λ r. ⌜ (r ≡ true → Left call (now (recorded .entry)) (now (out .exit)) (now (work .exit))) ⌝ }
 {
     let answer = answer_floats(call, first, second, third, out, work);
-    if same::same_answer(call, answer) {
-        if same::same_floats(out, recorded) {
-            return same::same_work(work, call.cleared);
+    if replay_compare::same_answer(call, answer) {
+        if replay_compare::same_floats(out, recorded) {
+            return replay_compare::same_work(work, call.cleared);
         }
     }
     false
@@ -93,9 +93,9 @@ fn ticks_agree(call: Call, series: &[f64], recorded: &[u64], out: &mut [i64]) ->
     ensures { λ r. ⌜ (r ≡ true → Same (length (now (out .exit))) (words (now (out .exit))) (λ i. getD (now (recorded .entry)) i 0)) ⌝ }
 {
     let n = call.a as usize;
-    let answer = ticks::tick_mean(series, n, out);
-    if same::same_answer(call, answer) {
-        return same::same_ticks(out, recorded);
+    let answer = averages_ticks::tick_mean(series, n, out);
+    if replay_compare::same_answer(call, answer) {
+        return replay_compare::same_ticks(out, recorded);
     }
     false
 }
@@ -107,12 +107,12 @@ fn agrees(call: Call, series: &[f64], recorded: &[u64]) -> bool
     let one = call.first;
     let cells = call.out;
     if call.function == 4 {
-        let mut ticks = [same::UNTOUCHED_TICK; 79];
+        let mut ticks = [replay_compare::UNTOUCHED_TICK; 79];
         return ticks_agree(call, &series[..one], recorded, &mut ticks[..cells]);
     }
     let two = one + call.second;
     let room = call.work;
-    let untouched = records::floats::float_of(same::UNTOUCHED);
+    let untouched = replay_words::floats::float_of(replay_compare::UNTOUCHED);
     let mut out = [untouched; 79];
     let mut work = [untouched; 512];
     floats_agree(
@@ -132,7 +132,7 @@ fn words_agree(call: Call, words: &[u64]) -> bool
 {
     let bars = call.first + call.second + call.third;
     let mut series = [0.0; 180];
-    same::write_floats(&words[..bars], &mut series);
+    replay_compare::write_floats(&words[..bars], &mut series);
     agrees(call, &series[..bars], &words[bars..])
 }
 
@@ -141,12 +141,12 @@ fn run_with(call: Call, words: &mut [u64], block: &mut [u8], start: Place) -> St
     requires { ⌜ Runs call × (length (now words) ≡ wordsOf call) ⌝ }
     ensures { λ r. ⌜ Counted r ⌝ }
 {
-    let read = records::stream::fill(libc::STDIN_FILENO, block, start, words);
+    let read = replay_words::stream::fill(libc::STDIN_FILENO, block, start, words);
     if read.count < words.len() {
         return Step::Stop;
     }
     let place = read.place;
-    let differs = same::misses(words_agree(call, words));
+    let differs = replay_compare::misses(words_agree(call, words));
     Step::Run {
         function: call.function,
         differs,
@@ -169,13 +169,13 @@ fn run_next(block: &mut [u8], start: Place) -> Step
     ensures { λ r. ⌜ Counted r ⌝ }
 {
     let mut head = [0u64; 13];
-    let read = records::stream::fill(libc::STDIN_FILENO, block, start, &mut head);
+    let read = replay_words::stream::fill(libc::STDIN_FILENO, block, start, &mut head);
     if read.count < 13 {
         return Step::Stop;
     }
     let place = read.place;
     let call = call_of(&head);
-    if same::can_run(call) {
+    if replay_compare::can_run(call) {
         run(call, block, place)
     } else {
         Step::Stop
@@ -232,10 +232,10 @@ fn main() {
     let mut calls = [0u64; 10];
     let mut differ = [0u64; 10];
     let mut first = [0u64; 1];
-    let read = records::stream::fill(
+    let read = replay_words::stream::fill(
         libc::STDIN_FILENO,
         &mut block,
-        records::stream::start(),
+        replay_words::stream::start(),
         &mut first,
     );
     if read.count < 1 {

@@ -1,4 +1,4 @@
--- What the proofs of the leaves share.
-mod Patterns
-mod ToWhole
-mod Opposite
+pub mod Opposite
+pub mod Patterns
+pub mod Signs
+pub mod ToWhole

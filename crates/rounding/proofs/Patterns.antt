@@ -1,7 +1,7 @@
 -- What a program reads from a float and its bit pattern: whether it is a NaN, and the sign. Assumes nothing.
 use mathlib.Core.Bool.{Bool, true, false, cond, true≢false}
 use mathlib.Core.Path.{_≡_, refl, sym, ap, _∙_}
-use Prim.Native.Nat.{ℕ, zero, suc, _+_, _-_, _*_, _/_, _%_, _^_}
+use Prim.Native.Nat.{ℕ, zero, suc, _+_, _*_, _/_, _%_, _^_}
 use borrow.Author.Tests.{eq-eqb}
 use lib.Dec.{T, leb, eqb}
 use lib.Ieee.{Float, nan, inf, fin, binary64, up, down, odd, eq, ne, fits, isNan, ofFields, ofBits, toBits}

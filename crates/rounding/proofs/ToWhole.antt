@@ -3,7 +3,28 @@
 use mathlib.Core.Bool.{Bool, true, false, _&&_, true≢false}
 use mathlib.Core.Path.{_≡_, refl, sym, ap, _∙_}
 use Prim.Native.Nat.{ℕ, zero, suc, _+_, _-_, _*_, _/_, _%_, _^_, _≤_, _<_, min}
-use native.Mathlib.Nat.{zero-lt-suc, mul-one, one-mul, zero-mul, mul-comm, mul-assoc, mul-right-comm, mul-pos, lt-of-lt-of-le, lt-of-le-of-lt, le-of-eq, lt-of-not-le, le-of-suc-le-suc, lt-irrefl, lt-of-mul-lt-mul-right, mul-lt-mul-of-pos-right, div-lt-iff-lt-mul, add-div-right, pow-succ', div-div-eq-div-mul}
+use native.Mathlib.Nat.{
+  zero-lt-suc,
+  mul-one,
+  one-mul,
+  zero-mul,
+  mul-comm,
+  mul-assoc,
+  mul-right-comm,
+  mul-pos,
+  lt-of-lt-of-le,
+  lt-of-le-of-lt,
+  le-of-eq,
+  lt-of-not-le,
+  le-of-suc-le-suc,
+  lt-irrefl,
+  lt-of-mul-lt-mul-right,
+  mul-lt-mul-of-pos-right,
+  div-lt-iff-lt-mul,
+  add-div-right,
+  pow-succ',
+  div-div-eq-div-mul,
+}
 use native.Mathlib.Omega.{arith}
 use borrow.Author.Tests.{ltb-true, ltb-false}
 use lib.Dec.{T, leb, ltb, eqb, leb→le, ltb→lt, lt→ltb, eqb→eq, lit≤, lit<}

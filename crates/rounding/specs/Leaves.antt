@@ -16,6 +16,9 @@ plusOne = one false
 abbrev pub minusOne : Float
 minusOne = one true
 
+abbrev pub two : Float
+two = fin false 1 (pos 1)
+
 -- whether the sign is set: -0.0 and below
 unfoldable pub negative : Float → Bool
 negative nan = false

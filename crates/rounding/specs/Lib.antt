@@ -1,4 +1,5 @@
 -- The leaves' definitions.
-pub mod Leaves
-pub mod Signs
 pub mod Cases
+pub mod Leaves
+pub mod Nearest
+pub mod Whole

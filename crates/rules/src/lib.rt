@@ -1,21 +1,16 @@
 // The position rules.
 use calls::Answer;
 use calls::Refusal;
-ghost use mathlib.Core.Path.{_≡_};
-ghost use Prim.Native.Nat.{_+_, _*_, _<_, _≤_};
 ghost use mathlib.Core.List.{[], _∷_};
-ghost use lib.Dec.{ltb};
+ghost use Prim.Native.Nat.{_*_};
 ghost use lib.ListN.{length};
-ghost use Rattle.calls.specs.declared.Refusal.the-variants.{WindowsOutOfOrder};
-ghost use Rattle.calls.specs.declared.Answer.the-variants.{Cells};
-ghost use Rattle.calls.specs.Answer.{unless, windowed, answered};
+ghost use Rattle.calls.specs.Answer.{answered};
 ghost use Rattle.values.specs.Accepted.{accepted};
 ghost use Rattle.calls.specs.Call.{Call, WorkCall};
 ghost use Rattle.cells.specs.Line.{line};
-ghost use Rattle.cells.specs.Written.{Writing};
-ghost use Rattle.windows.specs.Window.{mean, Running};
-ghost use Rattle.positions.specs.Rules.{singleLine, midLine, addThenSubtract, doubleLine, doubleAnswer};
-ghost use Rattle.positions.specs.Stages.{Started, crossing};
+ghost use Rattle.rules_single.specs.Single.{singleLine};
+ghost use Rattle.rules_middle.specs.Middle.{midLine};
+ghost use Rattle.rules_double.specs.Double.{doubleLine, doubleAnswer};
 
 // One average: the sign of price less the doubly averaged price, from bar 2n - 2 on.
 pub fn single_sma_positions(series: &[f64], n: usize, out: &mut [f64], work: &mut [f64]) -> Answer
@@ -27,7 +22,7 @@ pub fn single_sma_positions(series: &[f64], n: usize, out: &mut [f64], work: &mu
     let due = checks::answer_window_with_work(series, n, out.len(), work.len());
     if let Answer::Cells(count) = due {
         if count > 0 {
-            single::write_single(series, n, out, work);
+            rules_single::write_single(series, n, out, work);
         } else {
             cells::clear(work, 8 * series.len());
         }
@@ -45,7 +40,7 @@ pub fn mid_positions(series: &[f64], n: usize, out: &mut [f64], work: &mut [f64]
     let due = checks::answer_window_with_work(series, n, out.len(), work.len());
     if let Answer::Cells(count) = due {
         if count > 0 {
-            middle::write_mid(series, n, out, work);
+            rules_middle::write_mid(series, n, out, work);
         } else {
             cells::clear(work, 8 * series.len());
         }
@@ -53,100 +48,14 @@ pub fn mid_positions(series: &[f64], n: usize, out: &mut [f64], work: &mut [f64]
     due
 }
 
-// The sign of the short average less the long one, from the sums of n and of m prices.
-fn cross(short: f64, n: usize, long: f64, m: usize) -> f64
-    requires { ⌜ (n ≤ 4096) × (m ≤ 4096) ⌝ }
-    ensures { λ r. ⌜ r ≡ crossing n m short long ⌝ }
-{
-    rounding::sign(short / (n as f64) - long / (m as f64))
-}
-
-// The running sum of the n bars before bar i.
-fn running_sum(series: &[f64], n: usize, i: usize) -> f64
-    requires { ⌜ (0 < n) × (n ≤ 4096) × (n ≤ i) × (i ≤ length (now series)) ⌝ }
-    ensures { λ r. ⌜ Running addThenSubtract n (line (now (series .entry))) i r ⌝ }
-{
-    let mut sum = windows::sum_at(series, n, n - 1);
-    let mut j = n;
-    while j < i {
-        sum = sum + series[j] - series[j - n];
-        j += 1;
-    }
-    sum
-}
-
-// Writes the positions from bar m - 1 on, where both averages are there, by running sums.
-fn write_crossings(series: &[f64], n: usize, m: usize, out: &mut [f64])
-    requires { ⌜ Started n m (now series) (now out) ⌝ }
-    ensures { λ _. ⌜ Writing (length (now (series .entry))) (doubleLine n m (line (now (series .entry)))) (now (out .entry)) (now (out .exit)) ⌝ }
-{
-    let mut short = running_sum(series, n, m);
-    let mut long = running_sum(series, m, m);
-    let mut i = m - 1;
-    while i + 1 < series.len() {
-        out[i] = cross(short, n, long, m);
-        i += 1;
-        short = short + series[i] - series[i - n];
-        long = long + series[i] - series[i - m];
-    }
-    out[i] = cross(short, n, long, m);
-}
-
-// Writes each bar's position.
-fn write_double(series: &[f64], n: usize, m: usize, out: &mut [f64])
-    requires { ⌜ (0 < n) × (n < m) × (m ≤ 4096) × (length (now series) ≤ length (now out)) ⌝ }
-    ensures { λ _. ⌜ Writing (length (now (series .entry))) (doubleLine n m (line (now (series .entry)))) (now (out .entry)) (now (out .exit)) ⌝ }
-{
-    let first = cells::fill_lead(out, m - 1, series.len(), 0.0);
-    if first < series.len() {
-        write_crossings(series, n, m, out);
-    }
-}
-
-// What two windows make of an answer of `bars` cells: too long, none, out of order.
-fn check_windows(bars: usize, n: usize, m: usize) -> Answer
-    ensures { λ r. ⌜ r ≡ windowed bars (n ∷ m ∷ []) (unless (ltb n m) WindowsOutOfOrder (Cells bars)) ⌝ }
-{
-    if n > 4096 {
-        return Answer::Refused(Refusal::WindowTooLong);
-    }
-    if m > 4096 {
-        return Answer::Refused(Refusal::WindowTooLong);
-    }
-    if bars == 0 {
-        return Answer::Cells(0);
-    }
-    if n == 0 {
-        return Answer::Cells(0);
-    }
-    if m == 0 {
-        return Answer::Cells(0);
-    }
-    if n >= m {
-        return Answer::Refused(Refusal::WindowsOutOfOrder);
-    }
-    Answer::Cells(bars)
-}
-
-// The answer of `double_sma_positions`.
-fn answer_double(series: &[f64], n: usize, m: usize, out: usize) -> Answer
-    ensures { λ r. ⌜ r ≡ doubleAnswer (now (series .entry)) n m out ⌝ }
-{
-    let due = checks::check(series, out);
-    if let Answer::Refused(_) = due {
-        return due;
-    }
-    check_windows(series.len(), n, m)
-}
-
 // Double: the sign of the average of n prices less that of m prices, from bar m - 1 on.
 pub fn double_sma_positions(series: &[f64], n: usize, m: usize, out: &mut [f64]) -> Answer
     ensures { λ r. ⌜ Call (doubleAnswer (now (series .entry)) n m (length (now (out .entry)))) (doubleLine n m (line (now (series .entry)))) (now (out .entry)) r (now (out .exit)) ⌝ }
 {
-    let due = answer_double(series, n, m, out.len());
+    let due = rules_double::answer_double(series, n, m, out.len());
     if let Answer::Cells(count) = due {
         if count > 0 {
-            write_double(series, n, m, out);
+            rules_double::write_double(series, n, m, out);
         }
     }
     due

@@ -1,12 +1,11 @@
 -- How many bytes the program keeps between two blocks. Assumes nothing.
-use mathlib.Core.Path.{_≡_}
 use Prim.Native.Nat.{ℕ, _<_, _≤_}
 use native.Mathlib.Omega.{arith}
-use Rattle.places.specs.declared.Stage.{Stage}
-use Rattle.places.specs.declared.Stage.the-variants.{Waiting, Collecting, Stopped}
-use Rattle.places.specs.declared.Sheet.{Sheet}
-use Rattle.places.specs.Place.{due}
-use Rattle.blocks.specs.Block.{Between}
+use Rattle.sheet_blocks.specs.declared.Stage.{Stage}
+use Rattle.sheet_blocks.specs.declared.Stage.the-variants.{Waiting, Collecting, Stopped}
+use Rattle.sheet_blocks.specs.declared.Sheet.{Sheet}
+use Rattle.sheet_blocks.specs.inner.Place.{due}
+use Rattle.sheet_blocks.specs.inner.Block.{Between}
 
 due-few : (stage : Stage) → due stage ≤ 27
 due-few Waiting = omega arith

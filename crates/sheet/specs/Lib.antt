@@ -1,2 +1,2 @@
 -- The sheet program's buffers.
-pub mod Buffers
+pub mod inner

@@ -2,13 +2,13 @@
 // here are the buffers, and the loop that reads blocks, feeds them and writes.
 use libc::STDIN_FILENO;
 use libc::STDOUT_FILENO;
-use places::Sheet;
-use places::Stage;
+use sheet_blocks::Sheet;
+use sheet_blocks::Stage;
 ghost use mathlib.Core.Path.{_≡_};
 ghost use Prim.Native.Nat.{_≤_};
 ghost use lib.ListN.{length, take};
-ghost use Rattle.blocks.specs.Block.{Between};
-ghost use Rattle.sheet.specs.Buffers.{Buffers};
+ghost use Rattle.sheet_blocks.specs.inner.Block.{Between};
+ghost use Rattle.sheet.specs.inner.Buffers.{Buffers};
 
 // What is carried from one block to the next: the sheet, the bytes kept at the front of the block, and whether to read on.
 struct Carried {
@@ -68,12 +68,12 @@ fn turn(
             goes_on: false,
         };
     }
-    let place = blocks::feed(sheet, &block[..end], series, out, work, text);
+    let place = sheet_blocks::feed(sheet, &block[..end], series, out, work, text);
     let filled = place.filled;
     let at = place.at;
     let next = place.sheet;
     let written = io::write_all(STDOUT_FILENO, &text[..filled]);
-    let left = front::keep(block, at, end);
+    let left = cells::keep(block, at, end);
     Carried {
         sheet: next,
         kept: left,
@@ -86,7 +86,7 @@ fn run(block: &mut [u8], series: &mut [f64], out: &mut [f64], work: &mut [f64], 
     requires { ⌜ Buffers (now block) (now series) (now out) (now work) (now text) ⌝ }
 {
     let mut carried = Carried {
-        sheet: blocks::begin(),
+        sheet: sheet_blocks::begin(),
         kept: 0,
         goes_on: true,
     };
@@ -95,7 +95,7 @@ fn run(block: &mut [u8], series: &mut [f64], out: &mut [f64], work: &mut [f64], 
         carried = turn(carried.sheet, carried.kept, block, series, out, work, text);
         turns -= 1;
     }
-    let count = blocks::finish(carried.sheet, carried.kept, text);
+    let count = sheet_blocks::finish(carried.sheet, carried.kept, text);
     io::write_all(STDOUT_FILENO, &text[..count]);
 }
 

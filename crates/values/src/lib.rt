@@ -7,8 +7,8 @@ ghost use lib.ListN.{length};
 ghost use lib.Ieee.{binary64, toBits};
 ghost use Rattle.values.specs.Accepted.{within, accepted, tick, finite, all};
 ghost use Rattle.rounding.specs.Leaves.{magnitudeOf};
-ghost use Rattle.values.specs.Quick.{capped, NoneAbove, EachUpTo};
-ghost use Rattle.values.specs.Fraction.{comesBack};
+ghost use Rattle.values.specs.inner.Quick.{capped, NoneAbove, EachUpTo};
+ghost use Rattle.values.specs.inner.Fraction.{comesBack};
 
 // Whether x lies within 2^30. A NaN does not.
 fn is_near(x: f64) -> bool

@@ -1,10 +1,10 @@
-// Sums and means of windows, each summed afresh from left to right: of one bar, and of eight bars side by side.
+// Sums and means of windows, each summed afresh from left to right: of one bar, and of eight or sixteen bars side by side.
 ghost use mathlib.Core.Path.{_≡_};
 ghost use Prim.Native.Nat.{_+_, _≤_};
 ghost use lib.ListN.{length};
 ghost use Rattle.cells.specs.Line.{line};
 ghost use Rattle.windows.specs.Window.{windowSum, mean};
-ghost use Rattle.windows.specs.Eight.{Windows, Eight, eachPlus, eachOver};
+ghost use Rattle.windows.specs.inner.Eight.{Windows, SixteenOf, Eight, eachPlus, eachOver};
 
 // A number for each of eight bars side by side.
 pub struct Lanes {
@@ -111,4 +111,40 @@ pub fn means_at(series: &[f64], n: usize, i: usize) -> Lanes
     ensures { λ r. ⌜ Eight (mean n (line (now (series .entry)))) i r ⌝ }
 {
     divided(sums_at(series, n, i), n)
+}
+
+// A number for each of sixteen bars side by side.
+pub struct Sixteen {
+    pub low: Lanes,
+    pub high: Lanes,
+}
+
+// The sums of the n prices up to each of the sixteen bars from i on.
+pub fn sums_of_sixteen(series: &[f64], n: usize, i: usize) -> Sixteen
+    requires { ⌜ Windows n i 16 (length (now series)) ⌝ }
+    ensures { λ r. ⌜ SixteenOf (windowSum n (line (now (series .entry)))) i r ⌝ }
+{
+    let at = i + 1 - n;
+    let up = at + 8;
+    let mut low = Lanes::NONE;
+    let mut high = Lanes::NONE;
+    let mut k = 0;
+    while k < n {
+        low = added(low, series, at + k);
+        high = added(high, series, up + k);
+        k += 1;
+    }
+    Sixteen { low, high }
+}
+
+// The means of the n prices up to each of the sixteen bars from i on.
+pub fn means_of_sixteen(series: &[f64], n: usize, i: usize) -> Sixteen
+    requires { ⌜ Windows n i 16 (length (now series)) ⌝ }
+    ensures { λ r. ⌜ SixteenOf (mean n (line (now (series .entry)))) i r ⌝ }
+{
+    let sums = sums_of_sixteen(series, n, i);
+    Sixteen {
+        low: divided(sums.low, n),
+        high: divided(sums.high, n),
+    }
 }

@@ -1,14 +1,14 @@
 -- `answer_lead` meets its contract: the answer is that of the table, and all its cells stand before bar n - 1. Assumes nothing.
 use mathlib.Core.Path.{sym, _∙_}
-use native.Mathlib.Omega.{arith}
 use Prim.Native.Nat.{_<_}
-use lib.ListN.{length}
-use denote.Ref.{now}
-use Rattle.calls.specs.Call.{refused}
-use Rattle.calls.specs.Room.{room, none-fits}
-use Rattle.cells.specs.Leads.{lead-only}
-use Rattle.averages.specs.Stages.{window-room, all-called, none-called}
+use native.Mathlib.Omega.{arith}
 use borrow.Author.Needs.{needs}
+use denote.Ref.{now}
+use lib.ListN.{length}
+use Rattle.calls.proofs.Call.{refused}
+use Rattle.calls.proofs.Room.{room, none-fits}
+use Rattle.cells.proofs.Leads.{lead-only}
+use Rattle.averages.proofs.Stages.{window-room, all-called, none-called}
 use Rattle.averages.proofs.answer_lead.Statement.{statement}
 use Rattle.averages.proofs.answer_lead.Tie as tie
 

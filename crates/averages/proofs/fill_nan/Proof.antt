@@ -1,6 +1,6 @@
 -- `fill_nan` meets its contract: 0.0 / 0.0 is NaN. Assumes nothing.
-use lib.Ieee.{ofBits, div}
 use borrow.Author.Needs.{needs}
+use lib.Ieee.{ofBits, div}
 use Rattle.averages.proofs.fill_nan.Statement.{statement}
 use Rattle.averages.proofs.fill_nan.Tie as tie
 

@@ -2,13 +2,16 @@
 -- Assumes nothing.
 use Prim.Native.Nat.{_+_, _-_, _≤_}
 use native.Mathlib.Omega.{arith}
+use borrow.Author.Needs.{needs}
 use lib.ListN.{length, length-set}
 use Rattle.cells.specs.Line.{line}
-use Rattle.cells.specs.Written.{Writing, one-more, step, ends}
-use Rattle.windows.specs.Window.{Running, next-running, same-bar, count-is-float}
-use Rattle.averages.specs.Averages.{addDifference, smaLine}
-use Rattle.averages.specs.Stages.{sma-cell}
-use borrow.Author.Needs.{needs}
+use Rattle.cells.specs.Written.{Writing}
+use Rattle.cells.proofs.Written.{one-more, step, ends}
+use Rattle.windows.specs.inner.Sums.{Running}
+use Rattle.windows.proofs.Window.{next-running, same-bar, count-is-float}
+use Rattle.windows.specs.Window.{addDifference}
+use Rattle.averages.specs.Sma.{smaLine}
+use Rattle.averages.proofs.Stages.{sma-cell}
 use Rattle.averages.proofs.slide_means.Statement.{statement}
 use Rattle.averages.proofs.slide_means.Tie as tie
 

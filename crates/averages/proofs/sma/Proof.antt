@@ -2,15 +2,15 @@
 use mathlib.Core.Path.{_≡_, sym, _∙_}
 use mathlib.Core.Bool.{true}
 use native.Mathlib.Omega.{arith}
+use borrow.Author.Needs.{needs}
 use denote.Ref.{now}
 use lib.ListN.{length}
 use Rattle.values.specs.Accepted.{accepted}
-use Rattle.values.specs.Quick.{or-first, or-second, none-larger, none-joined}
-use Rattle.calls.specs.Answer.{windowFits}
-use Rattle.calls.specs.Room.{Fits, fits-parts, fits-answered}
-use Rattle.averages.specs.Averages.{smaLine}
-use Rattle.averages.specs.Stages.{values-pass, values-fail}
-use borrow.Author.Needs.{needs}
+use Rattle.values.proofs.Quick.{or-first, or-second, none-larger, none-joined}
+use Rattle.calls.specs.inner.Fits.{windowFits, Fits}
+use Rattle.calls.proofs.Room.{fits-parts, fits-answered}
+use Rattle.averages.specs.Sma.{smaLine}
+use Rattle.averages.proofs.Stages.{values-pass, values-fail}
 use Rattle.averages.proofs.sma.Statement.{statement}
 use Rattle.averages.proofs.sma.Tie as tie
 

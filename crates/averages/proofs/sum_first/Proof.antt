@@ -1,11 +1,13 @@
 -- `sum_first` meets its contract: the loop sums the first bars, and takes no bit away. Assumes nothing.
 use Prim.Native.Nat.{_-_, _≤_}
 use native.Mathlib.Omega.{arith}
+use borrow.Author.Needs.{needs}
 use lib.Ieee.{ofBits, neg}
 use Rattle.cells.specs.Line.{line, minusZero}
-use Rattle.values.specs.Quick.{NoneAbove, capped-number, none-yet, none-within, none-with}
-use Rattle.windows.specs.Window.{Summing, none-summed, added-at, window-sum}
-use borrow.Author.Needs.{needs}
+use Rattle.values.specs.inner.Quick.{NoneAbove}
+use Rattle.values.proofs.Quick.{capped-number, none-yet, none-within, none-with}
+use Rattle.windows.specs.inner.Sums.{Summing}
+use Rattle.windows.proofs.Window.{none-summed, added-at, window-sum}
 use Rattle.averages.proofs.sum_first.Statement.{statement}
 use Rattle.averages.proofs.sum_first.Tie as tie
 

@@ -1,12 +1,12 @@
 -- `write_means` meets its contract: the lead, the first mean, and the running means after it. Assumes nothing.
 use mathlib.Core.Path.{_∙_}
 use native.Mathlib.Omega.{arith}
-use lib.ListN.{length-set}
-use denote.Ref.{now}
-use Rattle.cells.specs.Written.{stands, then-written}
-use Rattle.windows.specs.Window.{first-running, count-is-float}
-use Rattle.averages.specs.Stages.{first-mean}
 use borrow.Author.Needs.{needs}
+use denote.Ref.{now}
+use lib.ListN.{length-set}
+use Rattle.cells.proofs.Written.{stands, then-written}
+use Rattle.windows.proofs.Window.{first-running, count-is-float}
+use Rattle.averages.proofs.Stages.{first-mean}
 use Rattle.averages.proofs.write_means.Statement.{statement}
 use Rattle.averages.proofs.write_means.Tie as tie
 

@@ -1,8 +1,8 @@
 -- `write_sma` meets its contract: the means from the first sum on, or a lead of NaN. Assumes nothing.
 use native.Mathlib.Omega.{arith}
-use Rattle.cells.specs.Leads.{lead-only}
-use Rattle.averages.specs.Averages.{smaLine}
 use borrow.Author.Needs.{needs}
+use Rattle.cells.proofs.Leads.{lead-only}
+use Rattle.averages.specs.Sma.{smaLine}
 use Rattle.averages.proofs.write_sma.Statement.{statement}
 use Rattle.averages.proofs.write_sma.Tie as tie
 

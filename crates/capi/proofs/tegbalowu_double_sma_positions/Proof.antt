@@ -1,6 +1,6 @@
 -- `tegbalowu_double_sma_positions` meets its contract: it is the library's `double_sma_positions`, in numbers. Assumes nothing.
 use borrow.Author.Needs.{needs}
-use Rattle.capi.specs.Numbers.{in-numbers}
+use Rattle.capi.proofs.InNumbers.{in-numbers}
 use Rattle.capi.proofs.tegbalowu_double_sma_positions.Statement.{statement}
 use Rattle.capi.proofs.tegbalowu_double_sma_positions.Tie as tie
 

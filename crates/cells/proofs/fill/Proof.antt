@@ -3,7 +3,8 @@ use mathlib.Core.Path.{refl}
 use Prim.Native.Nat.{_-_, _≤_}
 use native.Mathlib.Omega.{arith}
 use borrow.Author.Needs.{needs}
-use Rattle.cells.specs.Written.{Writing, none-written, one-more, ends}
+use Rattle.cells.specs.Written.{Writing}
+use Rattle.cells.proofs.Written.{none-written, one-more, ends}
 use Rattle.cells.proofs.fill.Statement.{statement}
 use Rattle.cells.proofs.fill.Tie as tie
 

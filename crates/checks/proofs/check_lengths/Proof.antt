@@ -1,6 +1,6 @@
 -- `check_lengths` meets its contract: at each answer the tests on the way there pick the line of the table. Assumes nothing.
 use borrow.Author.Tests.{le-leb, lt-leb}
-use Rattle.calls.specs.Room.{slices-one}
+use Rattle.calls.proofs.Room.{slices-one}
 use Rattle.checks.proofs.check_lengths.Statement.{statement}
 use Rattle.checks.proofs.check_lengths.Tie as tie
 

@@ -1,6 +1,6 @@
 -- `check_ticks` meets its contract: lengths, then values. Assumes nothing.
 use borrow.Author.Needs.{needs}
-use Rattle.calls.specs.Room.{checked-one}
+use Rattle.calls.proofs.Room.{checked-one}
 use Rattle.checks.proofs.check_ticks.Statement.{statement}
 use Rattle.checks.proofs.check_ticks.Tie as tie
 

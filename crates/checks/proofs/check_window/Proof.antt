@@ -6,7 +6,7 @@ use borrow.Author.Tests.{le-leb, lt-leb, eq-eqb, ne-eqb}
 use lib.Dec.{eqb, eqb·suc-zero}
 use Rattle.calls.specs.declared.Answer.the-variants.{Cells}
 use Rattle.calls.specs.Answer.{emptyIf}
-use Rattle.calls.specs.Room.{windowed-one}
+use Rattle.calls.proofs.Room.{windowed-one}
 use Rattle.checks.proofs.check_window.Statement.{statement}
 use Rattle.checks.proofs.check_window.Tie as tie
 

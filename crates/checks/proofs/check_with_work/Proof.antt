@@ -1,6 +1,6 @@
 -- `check_with_work` meets its contract: the work slice is the last of the lengths. Assumes nothing.
 use borrow.Author.Needs.{needs}
-use Rattle.calls.specs.Room.{checked-one, slices-work}
+use Rattle.calls.proofs.Room.{checked-one, slices-work}
 use Rattle.checks.proofs.check_with_work.Statement.{statement}
 use Rattle.checks.proofs.check_with_work.Tie as tie
 

@@ -1,6 +1,6 @@
 -- `window_fits` meets its contract: it is the five tests. Assumes nothing.
 use mathlib.Core.Path.{refl}
-use Rattle.calls.specs.Answer.{windowFits}
+use Rattle.calls.specs.inner.Fits.{windowFits}
 use Rattle.checks.proofs.window_fits.Statement.{statement}
 use Rattle.checks.proofs.window_fits.Tie as tie
 

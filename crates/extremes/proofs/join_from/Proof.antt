@@ -1,12 +1,14 @@
 -- `join_from` meets its contract: each turn joins one bar more to the bars from e on, and these to the window's others. Assumes nothing.
-use Rattle.cells.specs.Line.{line}
-use Rattle.extremes.specs.Range.{RangeOf, one-bar, joins, meets, whole}
-use Rattle.extremes.specs.Blocks.{Whole}
-use Rattle.extremes.specs.Part.{Replacing, one-stands, not-yet, one-above, part-ends}
 use Prim.Native.Nat.{_+_, _-_, _≤_}
 use native.Mathlib.Omega.{arith}
-use lib.ListN.{length, length-set}
 use borrow.Author.Needs.{needs}
+use lib.ListN.{length, length-set}
+use Rattle.cells.specs.Line.{line}
+use Rattle.extremes.specs.inner.Range.{RangeOf}
+use Rattle.extremes.proofs.Range.{one-bar, joins, meets, whole}
+use Rattle.extremes.specs.inner.Blocks.{Whole}
+use Rattle.extremes.specs.inner.Part.{Replacing}
+use Rattle.extremes.proofs.Part.{one-stands, not-yet, one-above, part-ends}
 use Rattle.extremes.proofs.join_from.Statement.{statement}
 use Rattle.extremes.proofs.join_from.Tie as tie
 

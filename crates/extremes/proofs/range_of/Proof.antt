@@ -1,9 +1,10 @@
 -- `range_of` meets its contract: each turn joins one bar. Assumes nothing.
-use Rattle.cells.specs.Line.{line}
-use Rattle.extremes.specs.Range.{RangeOf, one-bar, spans, joins}
 use Prim.Native.Nat.{_-_, _≤_}
 use native.Mathlib.Omega.{arith}
 use borrow.Author.Needs.{needs}
+use Rattle.cells.specs.Line.{line}
+use Rattle.extremes.specs.inner.Range.{RangeOf}
+use Rattle.extremes.proofs.Range.{one-bar, spans, joins}
 use Rattle.extremes.proofs.range_of.Statement.{statement}
 use Rattle.extremes.proofs.range_of.Tie as tie
 

@@ -1,7 +1,7 @@
 -- `write_block` meets its contract: the second pass writes over the first. Assumes nothing.
-use Rattle.extremes.specs.Part.{stays, replaced-again}
 use native.Mathlib.Omega.{arith}
 use borrow.Author.Needs.{needs}
+use Rattle.extremes.proofs.Part.{stays, replaced-again}
 use Rattle.extremes.proofs.write_block.Statement.{statement}
 use Rattle.extremes.proofs.write_block.Tie as tie
 

@@ -1,10 +1,11 @@
 -- `write_blocks` meets its contract: each turn writes a block's windows after those before. Assumes nothing.
-use Rattle.extremes.specs.Blocks.{Whole}
-use Rattle.extremes.specs.Part.{Replacing, goes-on, part-ends}
 use Prim.Native.Nat.{_+_, _-_, _≤_, min}
 use native.Mathlib.Omega.{arith}
-use lib.ListN.{length}
 use borrow.Author.Needs.{needs}
+use lib.ListN.{length}
+use Rattle.extremes.specs.inner.Blocks.{Whole}
+use Rattle.extremes.specs.inner.Part.{Replacing}
+use Rattle.extremes.proofs.Part.{goes-on, part-ends}
 use Rattle.extremes.proofs.write_blocks.Statement.{statement}
 use Rattle.extremes.proofs.write_blocks.Tie as tie
 

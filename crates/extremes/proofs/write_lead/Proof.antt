@@ -1,14 +1,16 @@
 -- `write_lead` meets its contract: each turn writes one bar that has no whole window. Assumes nothing.
-use lib.Ieee.{ofBits}
-use Rattle.cells.specs.Line.{plusZero}
-use Rattle.extremes.specs.Range.{alone, not-whole}
-use Rattle.extremes.specs.Blocks.{Whole}
-use Rattle.extremes.specs.Part.{Replacing, none-replaced, one-above, part-ends}
 use mathlib.Core.Path.{refl}
 use Prim.Native.Nat.{_-_, _≤_}
 use native.Mathlib.Omega.{arith}
-use lib.ListN.{length, length-set}
 use borrow.Author.Needs.{needs}
+use lib.Ieee.{ofBits}
+use lib.ListN.{length, length-set}
+use Rattle.cells.specs.Line.{plusZero}
+use Rattle.extremes.specs.inner.Range.{alone}
+use Rattle.extremes.proofs.Range.{not-whole}
+use Rattle.extremes.specs.inner.Blocks.{Whole}
+use Rattle.extremes.specs.inner.Part.{Replacing}
+use Rattle.extremes.proofs.Part.{none-replaced, one-above, part-ends}
 use Rattle.extremes.proofs.write_lead.Statement.{statement}
 use Rattle.extremes.proofs.write_lead.Tie as tie
 

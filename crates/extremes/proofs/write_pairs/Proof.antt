@@ -1,11 +1,12 @@
 -- `write_pairs` meets its contract: each turn writes the range of one window. Assumes nothing.
-use Rattle.extremes.specs.Range.{one-bar, pairs, whole}
-use Rattle.extremes.specs.Blocks.{Whole}
-use Rattle.extremes.specs.Part.{Replacing, one-above, part-ends}
 use Prim.Native.Nat.{_+_, _-_, _≤_, min}
 use native.Mathlib.Omega.{arith}
-use lib.ListN.{length, length-set}
 use borrow.Author.Needs.{needs}
+use lib.ListN.{length, length-set}
+use Rattle.extremes.proofs.Range.{one-bar, pairs, whole}
+use Rattle.extremes.specs.inner.Blocks.{Whole}
+use Rattle.extremes.specs.inner.Part.{Replacing}
+use Rattle.extremes.proofs.Part.{one-above, part-ends}
 use Rattle.extremes.proofs.write_pairs.Statement.{statement}
 use Rattle.extremes.proofs.write_pairs.Tie as tie
 

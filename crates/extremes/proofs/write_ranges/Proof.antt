@@ -1,8 +1,8 @@
 -- `write_ranges` meets its contract: the lead, and either way the windows after it. Assumes nothing.
-use Rattle.extremes.specs.Blocks.{begun}
-use Rattle.extremes.specs.Part.{replaced-again, rows-written}
 use native.Mathlib.Omega.{arith}
 use borrow.Author.Needs.{needs}
+use Rattle.extremes.proofs.Blocks.{begun}
+use Rattle.extremes.proofs.Part.{replaced-again, rows-written}
 use Rattle.extremes.proofs.write_ranges.Statement.{statement}
 use Rattle.extremes.proofs.write_ranges.Tie as tie
 

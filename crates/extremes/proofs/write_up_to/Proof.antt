@@ -1,11 +1,12 @@
 -- `write_up_to` meets its contract: each turn joins the bar before to those up to e. Assumes nothing.
-use Rattle.extremes.specs.Range.{one-bar, joins}
-use Rattle.extremes.specs.Blocks.{UpTo}
-use Rattle.extremes.specs.Part.{Replacing, none-replaced, one-below}
 use Prim.Native.Nat.{_+_, _-_, _≤_}
 use native.Mathlib.Omega.{arith}
-use lib.ListN.{length, length-set}
 use borrow.Author.Needs.{needs}
+use lib.ListN.{length, length-set}
+use Rattle.extremes.proofs.Range.{one-bar, joins}
+use Rattle.extremes.specs.inner.Blocks.{UpTo}
+use Rattle.extremes.specs.inner.Part.{Replacing}
+use Rattle.extremes.proofs.Part.{none-replaced, one-below}
 use Rattle.extremes.proofs.write_up_to.Statement.{statement}
 use Rattle.extremes.proofs.write_up_to.Tie as tie
 

@@ -1,7 +1,7 @@
 -- `compare_all` is safe and ends: the turns are counted down. Assumes nothing.
 use mathlib.Core.Path.{_≡_}
-use lib.ListN.{length}
 use borrow.Author.Needs.{needs}
+use lib.ListN.{length}
 use Rattle.leaves.proofs.compare_all.Statement.{statement}
 use Rattle.leaves.proofs.compare_all.Tie as tie
 

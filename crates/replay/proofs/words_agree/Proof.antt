@@ -1,9 +1,9 @@
 -- `words_agree` is safe: the series' words come first, and then those of the output. Assumes nothing.
 use mathlib.Core.Path.{sym}
 use native.Mathlib.Omega.{arith}
+use borrow.Author.Needs.{needs}
 use lib.ListN.{length-take, length-drop}
 use lib.Seq.{length-take-le}
-use borrow.Author.Needs.{needs}
 use Rattle.replay.proofs.words_agree.Statement.{statement}
 use Rattle.replay.proofs.words_agree.Tie as tie
 

@@ -1,5 +1,5 @@
 -- `magnitude` meets its contract: it picks the larger of x and its opposite. Assumes nothing.
-use mathlib.Core.Path.{_≡_, sym, subst, _∙_}
+use mathlib.Core.Path.{sym, subst}
 use lib.Dec.{T}
 use lib.Ieee.{binary64, fits, ofBits}
 use Rattle.rounding.proofs.Opposite.{larger-of-both}

@@ -7,7 +7,7 @@ use borrow.Author.Tests.{le-leb, lt-leb}
 use lib.Dec.{T, leb}
 use lib.Ieee.{binary64, isNan, ofBits, toBits, neg}
 use Rattle.rounding.specs.Leaves.{one, signOf}
-use Rattle.rounding.specs.Signs.{sign-is, sign-of-nan}
+use Rattle.rounding.proofs.Signs.{sign-is, sign-of-nan}
 use Rattle.rounding.proofs.Patterns.{highest-bit}
 use Rattle.rounding.proofs.sign.Statement.{statement}
 use Rattle.rounding.proofs.sign.Tie as tie

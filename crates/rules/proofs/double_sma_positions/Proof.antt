@@ -1,10 +1,10 @@
 -- `double_sma_positions` meets its contract: the answer is the table's, and a count is what was written. Assumes nothing.
-use Rattle.calls.specs.Call.{refused, counted}
-use Rattle.cells.specs.Written.{none-written, ends}
-use Rattle.positions.specs.Opened.{double-opened}
 use mathlib.Core.Path.{sym, _∙_}
 use native.Mathlib.Omega.{arith}
 use borrow.Author.Needs.{needs}
+use Rattle.calls.proofs.Call.{refused, counted}
+use Rattle.cells.proofs.Written.{none-written, ends}
+use Rattle.rules_double.proofs.Open.{double-opened}
 use Rattle.rules.proofs.double_sma_positions.Statement.{statement}
 use Rattle.rules.proofs.double_sma_positions.Tie as tie
 

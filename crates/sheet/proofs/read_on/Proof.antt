@@ -1,9 +1,9 @@
 -- `read_on` meets its contract: what was kept stands before what was read. Assumes nothing.
 use native.Mathlib.Omega.{arith}
+use borrow.Author.Needs.{needs}
 use denote.Ref.{now}
 use lib.ListN.{take, length-drop, length-take}
 use lib.Seq.{take-at, length-take-le}
-use borrow.Author.Needs.{needs}
 use Rattle.sheet.proofs.read_on.Statement.{statement}
 use Rattle.sheet.proofs.read_on.Tie as tie
 

@@ -1,11 +1,11 @@
 -- `run` is safe and ends: the turns are counted down, and each leaves the buffers as long as they were. Assumes nothing.
 use mathlib.Core.Path.{sym}
 use native.Mathlib.Omega.{arith}
-use lib.Seq.{length-take-le}
-use Rattle.blocks.specs.Block.{Between}
-use Rattle.sheet.specs.Buffers.{Buffers}
 use borrow.Author.Count.{falls-down}
 use borrow.Author.Needs.{needs}
+use lib.Seq.{length-take-le}
+use Rattle.sheet_blocks.specs.inner.Block.{Between}
+use Rattle.sheet.specs.inner.Buffers.{Buffers}
 use Rattle.sheet.proofs.run.Statement.{statement}
 use Rattle.sheet.proofs.run.Tie as tie
 

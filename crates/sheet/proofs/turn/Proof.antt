@@ -2,10 +2,10 @@
 use mathlib.Core.Path.{sym}
 use Prim.Native.Nat.{_≤_}
 use native.Mathlib.Omega.{arith}
+use borrow.Author.Needs.{needs}
 use lib.ListN.{length}
 use lib.Seq.{length-take-le}
 use Rattle.sheet.proofs.Bounds.{kept-few}
-use borrow.Author.Needs.{needs}
 use Rattle.sheet.proofs.turn.Statement.{statement}
 use Rattle.sheet.proofs.turn.Tie as tie
 

@@ -1,9 +1,9 @@
 -- `accepted_by` meets its contract: the quick test is enough, and else each number is tested. Assumes nothing.
 use mathlib.Core.Path.{sym}
-use denote.Ref.{now}
 use native.Mathlib.Omega.{arith}
 use borrow.Author.Needs.{needs}
-use Rattle.values.specs.Quick.{quick-all}
+use denote.Ref.{now}
+use Rattle.values.proofs.Quick.{quick-all}
 use Rattle.values.proofs.accepted_by.Statement.{statement}
 use Rattle.values.proofs.accepted_by.Tie as tie
 

@@ -1,7 +1,7 @@
 -- `all_accepted` meets its contract: the bits of both parts tell, or else each number is tested. Assumes nothing.
 use native.Mathlib.Omega.{arith}
-use Rattle.values.specs.Quick.{or-first, or-second, none-larger, none-joined}
 use borrow.Author.Needs.{needs}
+use Rattle.values.proofs.Quick.{or-first, or-second, none-larger, none-joined}
 use Rattle.values.proofs.all_accepted.Statement.{statement}
 use Rattle.values.proofs.all_accepted.Tie as tie
 

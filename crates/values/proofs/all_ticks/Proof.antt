@@ -3,8 +3,9 @@ use mathlib.Core.Path.{sym}
 use native.Mathlib.Omega.{arith}
 use borrow.Author.Needs.{needs}
 use denote.Ref.{now}
-use Rattle.values.specs.Accepted.{tick, all-next, all-none}
-use Rattle.values.specs.Quick.{quick-up-to}
+use Rattle.values.specs.Accepted.{tick}
+use Rattle.values.proofs.All.{all-next, all-none}
+use Rattle.values.proofs.Quick.{quick-up-to}
 use Rattle.values.proofs.all_ticks.Statement.{statement}
 use Rattle.values.proofs.all_ticks.Tie as tie
 

@@ -3,11 +3,12 @@ use mathlib.Core.Path.{_≡_, refl, sym, _∙_}
 use mathlib.Core.Bool.{Bool, true, false, _&&_}
 use Prim.Native.Nat.{_-_, _≤_}
 use borrow.Author.Needs.{needs}
-use lib.ListN.{length, getD, drop}
 use denote.Ref.{now}
+use lib.ListN.{length, getD, drop}
 use lib.Ieee.{nan}
-use Rattle.values.specs.Accepted.{tick, all, and-true, all-next, all-none}
-use Rattle.values.specs.Fraction.{whole-tick}
+use Rattle.values.specs.Accepted.{tick, all}
+use Rattle.values.proofs.All.{and-true, all-next, all-none}
+use Rattle.values.proofs.Fraction.{whole-tick}
 use Rattle.values.proofs.all_whole.Statement.{statement}
 use Rattle.values.proofs.all_whole.Tie as tie
 

@@ -2,7 +2,8 @@
 use Prim.Native.Nat.{_-_, _≤_}
 use native.Mathlib.Omega.{arith}
 use borrow.Author.Needs.{needs}
-use Rattle.values.specs.Quick.{NoneAbove, capped-number, none-yet, none-within, none-with}
+use Rattle.values.specs.inner.Quick.{NoneAbove}
+use Rattle.values.proofs.Quick.{capped-number, none-yet, none-within, none-with}
 use Rattle.values.proofs.bits_together.Statement.{statement}
 use Rattle.values.proofs.bits_together.Tie as tie
 

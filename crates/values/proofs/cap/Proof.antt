@@ -1,6 +1,6 @@
 -- `cap` meets its contract: its test is that of `capped`. Assumes nothing.
 use lib.Ieee.{ofBits}
-use Rattle.values.specs.Quick.{capped}
+use Rattle.values.specs.inner.Quick.{capped}
 use Rattle.values.proofs.cap.Statement.{statement}
 use Rattle.values.proofs.cap.Tie as tie
 

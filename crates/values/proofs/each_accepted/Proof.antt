@@ -8,7 +8,7 @@ use lib.Dec.{eqb}
 use lib.ListN.{length}
 use lib.Ieee.{Float, binary64, toBits}
 use Rattle.values.specs.Accepted.{within, accepted}
-use Rattle.values.specs.Both.{Tested, none-tested, one-tested, all-tested}
+use Rattle.values.proofs.Both.{Tested, none-tested, one-tested, all-tested}
 use Rattle.values.proofs.each_accepted.Statement.{statement}
 use Rattle.values.proofs.each_accepted.Tie as tie
 

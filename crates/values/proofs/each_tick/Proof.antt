@@ -9,8 +9,8 @@ use lib.ListN.{length}
 use lib.Ieee.{Float, binary64, fits, toBits}
 use Rattle.rounding.specs.Leaves.{magnitudeOf}
 use Rattle.values.specs.Accepted.{tick}
-use Rattle.values.specs.Both.{Tested, none-tested, one-tested, all-tested}
-use Rattle.values.specs.Zero.{tick-parts}
+use Rattle.values.proofs.Both.{Tested, none-tested, one-tested, all-tested}
+use Rattle.values.proofs.Zero.{tick-parts}
 use Rattle.values.proofs.each_tick.Statement.{statement}
 use Rattle.values.proofs.each_tick.Tie as tie
 

@@ -1,7 +1,7 @@
 -- `is_finite` meets its contract: only an infinity or a NaN is not strictly between the infinities. Assumes nothing.
 use mathlib.Core.Path.{_≡_, refl, sym}
-use mathlib.Core.Bool.{Bool, true, false}
-use lib.Ieee.{Float, nan, inf, fin, lt, div, neg, ofBits, binary64}
+use mathlib.Core.Bool.{true, false}
+use lib.Ieee.{Float, nan, inf, fin, lt, div, neg, ofBits}
 use Rattle.values.specs.Accepted.{finite}
 use Rattle.values.proofs.is_finite.Statement.{statement}
 use Rattle.values.proofs.is_finite.Tie as tie

@@ -1,11 +1,11 @@
 -- `is_tick` meets its contract: within 2 ^ 24 a magnitude that is its own whole part is a tick's. Assumes nothing.
-use mathlib.Core.Path.{_≡_, sym, _∙_}
+use mathlib.Core.Path.{_≡_, sym}
 use mathlib.Core.Bool.{Bool}
 use borrow.Author.Needs.{needs}
 use lib.IntN.{pos}
-use lib.Ieee.{Float, eq, ofBits, ofInt, binary64, toUnsigned}
+use lib.Ieee.{eq, ofBits, ofInt, binary64, toUnsigned}
 use Rattle.rounding.specs.Leaves.{magnitudeOf}
-use Rattle.values.specs.Ticks.{Tried, tried, too-far}
+use Rattle.values.proofs.Ticks.{Tried, tried, too-far}
 use Rattle.values.proofs.is_tick.Statement.{statement}
 use Rattle.values.proofs.is_tick.Tie as tie
 

@@ -1,7 +1,7 @@
 -- `is_tick_size` meets its contract: a magnitude within 2 ^ 24 is whole if it comes back. Assumes nothing.
-use lib.Ieee.{ofBits}
-use Rattle.values.specs.Fraction.{size-tick}
 use borrow.Author.Needs.{needs}
+use lib.Ieee.{ofBits}
+use Rattle.values.proofs.Fraction.{size-tick}
 use Rattle.values.proofs.is_tick_size.Statement.{statement}
 use Rattle.values.proofs.is_tick_size.Tie as tie
 

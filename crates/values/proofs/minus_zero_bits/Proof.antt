@@ -3,7 +3,7 @@ use mathlib.Core.Path.{_≡_, sym, subst}
 use mathlib.Core.Bool.{true, not}
 use lib.Dec.{T}
 use lib.Ieee.{Float, nan, inf, fin, binary64, eq, fits, isNan, ofBits}
-use Rattle.values.specs.Zero.{of-zero, of-other}
+use Rattle.values.proofs.Zero.{of-zero, of-other}
 use Rattle.values.proofs.minus_zero_bits.Statement.{statement}
 use Rattle.values.proofs.minus_zero_bits.Tie as tie
 

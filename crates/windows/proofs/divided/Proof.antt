@@ -1,7 +1,7 @@
 -- `divided` meets its contract: each lane is divided by n. Assumes nothing.
 use native.Mathlib.Omega.{arith}
-use Rattle.windows.specs.Window.{count-is-float}
 use borrow.Author.Needs.{needs}
+use Rattle.windows.proofs.Window.{count-is-float}
 use Rattle.windows.proofs.divided.Statement.{statement}
 use Rattle.windows.proofs.divided.Tie as tie
 

@@ -1,7 +1,7 @@
 -- `mean_at` meets its contract. Assumes nothing.
 use native.Mathlib.Omega.{arith}
-use Rattle.windows.specs.Window.{mean-of, count-is-float}
 use borrow.Author.Needs.{needs}
+use Rattle.windows.proofs.Window.{mean-of, count-is-float}
 use Rattle.windows.proofs.mean_at.Statement.{statement}
 use Rattle.windows.proofs.mean_at.Tie as tie
 

@@ -1,7 +1,7 @@
 -- `means_at` meets its contract: the sums, each divided by n. Assumes nothing.
 use native.Mathlib.Omega.{arith}
-use Rattle.windows.specs.Eight.{eight-means}
 use borrow.Author.Needs.{needs}
+use Rattle.windows.proofs.Eight.{eight-means}
 use Rattle.windows.proofs.means_at.Statement.{statement}
 use Rattle.windows.proofs.means_at.Tie as tie
 

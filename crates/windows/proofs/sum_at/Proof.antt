@@ -1,11 +1,11 @@
 -- `sum_at` meets its contract: the loop sums its window. Assumes nothing.
-use mathlib.Core.Path.{_≡_}
 use Prim.Native.Nat.{_-_, _≤_}
 use native.Mathlib.Omega.{arith}
+use borrow.Author.Needs.{needs}
 use lib.Ieee.{ofBits, neg}
 use Rattle.cells.specs.Line.{line, minusZero}
-use Rattle.windows.specs.Window.{Summing, none-summed, one-added, window-sum}
-use borrow.Author.Needs.{needs}
+use Rattle.windows.specs.inner.Sums.{Summing}
+use Rattle.windows.proofs.Window.{none-summed, one-added, window-sum}
 use Rattle.windows.proofs.sum_at.Statement.{statement}
 use Rattle.windows.proofs.sum_at.Tie as tie
 

@@ -1,10 +1,10 @@
 -- `sums_at` meets its contract: each lane sums its own window. Assumes nothing.
 use Prim.Native.Nat.{_-_, _≤_}
 use native.Mathlib.Omega.{arith}
+use borrow.Author.Needs.{needs}
 use lib.Ieee.{ofBits, neg}
 use Rattle.cells.specs.Line.{line}
-use Rattle.windows.specs.Eight.{Summed, none-of-eight, each-added, eight-sums}
-use borrow.Author.Needs.{needs}
+use Rattle.windows.proofs.Eight.{Summed, none-of-eight, each-added, eight-sums}
 use Rattle.windows.proofs.sums_at.Statement.{statement}
 use Rattle.windows.proofs.sums_at.Tie as tie
 

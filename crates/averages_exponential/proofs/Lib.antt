@@ -1,0 +1,3 @@
+pub mod Blending
+pub mod Causal
+pub mod Halves

@@ -1,0 +1,43 @@
+-- What the functions under the exponential averages ask of each other. Assumes nothing.
+use mathlib.Core.Path.{_≡_}
+use mathlib.Core.List.{List}
+use Prim.Native.Nat.{ℕ, _+_, _-_, _/_, _<_, _≤_}
+use lib.ListN.{length}
+use lib.Ieee.{Float}
+use Rattle.values.specs.inner.Quick.{NoneAbove}
+use Rattle.cells.specs.Line.{Line, line}
+use Rattle.cells.specs.Written.{Writing}
+use Rattle.averages.specs.declared.Found.{Found}
+use Rattle.averages_exponential.specs.Blend.{smoothLine}
+
+-- x is the cell before bar i: what the loop that blends keeps
+pub record Blending (alpha : Float) (a : ℕ) (seed : Float) (f : Line) (i : ℕ) (x : Float) : Type 0 where
+  pub is : x ≡ smoothLine alpha a seed f (i - 1)
+
+-- how many bars half of those after bar `first` are
+abbrev pub half : ℕ → ℕ → ℕ
+half bars first = (bars - first - 1) / 2
+
+-- the bits of the bars up to the seed's
+pub record Seeded (s : List Float) (first together : ℕ) : Type 0 where
+  pub inside : first < length s
+  pub bits : NoneAbove together s 0 (first + 1)
+
+-- x is the cell half way through the bars after the seed
+abbrev pub Middle : List Float → Float → ℕ → Float → Float → Type 0
+Middle s alpha first seed x = Blending alpha first seed (line s) (first + 1 + half (length s) first) x
+
+-- that cell, and the bits of all bars
+pub record HalfWay (s : List Float) (alpha : Float) (first : ℕ) (seed : Float) (r : Found) : Type 0 where
+  pub middle : Middle s alpha first seed (r .last)
+  pub bits : NoneAbove (r .together) s 0 (length s)
+
+-- every cell of a smoothed line is written to `now`
+abbrev pub Smooth : List Float → Float → ℕ → Float → List Float → List Float → Type 0
+Smooth s alpha first seed old now = Writing (length s) (smoothLine alpha first seed (line s)) old now
+
+-- the first k of those cells stand there, up to the seed or before it, and there is room for the rest
+pub record Smoothing (s : List Float) (alpha : Float) (first : ℕ) (seed : Float) (k : ℕ) (now : List Float) : Type 0 where
+  pub inside : first < length s
+  pub room : length s ≤ length now
+  pub cells : Writing k (smoothLine alpha first seed (line s)) now now

@@ -1,0 +1,4 @@
+pub mod Causal
+pub mod Share
+pub mod Ticks
+pub mod Whole

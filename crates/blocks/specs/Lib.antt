@@ -1,3 +1,0 @@
--- Requests carried through blocks of bytes.
-pub mod Block
-pub mod Whole

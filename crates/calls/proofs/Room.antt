@@ -1,0 +1,189 @@
+-- The table of refusals in the forms that the checks meet it, and what is known of a call that it let pass. Assumes nothing.
+use mathlib.Core.Path.{_≡_, refl, sym, _∙_}
+use mathlib.Core.Bool.{Bool, true, false, _&&_, _||_, true≢false}
+use mathlib.Core.List.{List, [], _∷_}
+use Prim.Native.Nat.{ℕ, zero, suc, _*_, _<_, _≤_}
+use native.Mathlib.Omega.{arith}
+use borrow.Author.Tests.{leb-true, leb-false, le-leb, ltb-true, lt-ltb, ne-eqb, eq-eqb, eqb-false}
+use lib.Dec.{leb, ltb, eqb}
+use lib.ListN.{length}
+use lib.Ieee.{Float}
+use Rattle.calls.specs.declared.Refusal.{Refusal}
+use Rattle.calls.specs.declared.Refusal.the-variants.{
+  SeriesTooLong,
+  LengthsDiffer,
+  OutputTooShort,
+  WorkTooShort,
+  ValueNotAccepted,
+  WindowTooLong,
+}
+use Rattle.calls.specs.declared.Answer.{Answer}
+use Rattle.calls.specs.declared.Answer.the-variants.{Cells, Refused}
+use Rattle.values.specs.Accepted.{all}
+use Rattle.values.proofs.All.{and-true, and-parts}
+use Rattle.calls.specs.Answer.{countOf, first, unless, andThen, emptyIf, slices, checked, windowed, answered}
+use Rattle.calls.specs.inner.Fits.{windowFits, Fits}
+use Rattle.calls.specs.inner.Room.{AtLeast}
+
+-- ---- the table for one series
+
+or-false : (t : Bool) → t || false ≡ t
+or-false true = refl
+or-false false = refl
+
+-- refusals 1 to 3, and then the next
+parted : (t u v : Bool) (l : ℕ) (next : Answer)
+    → unless t SeriesTooLong (unless u LengthsDiffer (unless v OutputTooShort next))
+    ≡ andThen (unless t SeriesTooLong (unless u LengthsDiffer (unless v OutputTooShort (Cells l)))) next
+parted true true true l next = refl
+parted true true false l next = refl
+parted true false v l next = refl
+parted false u v l next = refl
+
+pub slices-one : (l out : ℕ) (work : List ℕ)
+    → slices (l ∷ []) (out ∷ []) work
+    ≡ unless (leb l 65536) SeriesTooLong
+    (unless (leb l out) OutputTooShort (unless (all (λ room. leb (8 * l) room) work) WorkTooShort (Cells l)))
+unfolding slices
+slices-one l out work = rw (and-true (leb l 65536), and-true (eqb l l), eq-eqb l l refl, and-true (leb l out))
+
+-- the work slice comes after the other lengths
+pub slices-work : (series outputs : List ℕ) (work : ℕ)
+    → slices series outputs (work ∷ [])
+    ≡ andThen (slices series outputs []) (unless (leb (8 * first series) work) WorkTooShort (Cells (first series)))
+unfolding slices
+slices-work series outputs work =
+    let l = first series in
+    rw (and-true (leb (8 * l) work))
+    (parted (all (λ k. leb k 65536) series) (all (λ k. eqb k l) series) (all (λ room. leb l room) outputs) l (unless (leb (8 * l) work) WorkTooShort (Cells l)))
+
+pub checked-one : (ok : Float → Bool) (s : List Float) (outputs work : List ℕ)
+    → checked ok (s ∷ []) outputs work
+    ≡ andThen (slices (length s ∷ []) outputs work) (unless (all ok s) ValueNotAccepted (Cells (length s)))
+unfolding checked
+checked-one ok s outputs work = rw (and-true (all ok s))
+
+pub windowed-one : (l n : ℕ) (next : Answer) → windowed l (n ∷ []) next ≡ unless (leb n 4096) WindowTooLong (emptyIf (eqb l 0 || eqb n 0) next)
+unfolding windowed
+windowed-one l n next = rw (and-true (leb n 4096), or-false (eqb n 0))
+
+pub record Room (ok : Float → Bool) (s : List Float) (out : ℕ) (work : List ℕ) : Type 0 where
+  pub short : length s ≤ 65536
+  pub out-long : length s ≤ out
+  pub work-long : AtLeast (8 * length s) work
+  pub values : all ok s ≡ true
+
+-- a window of cells, and cells to be written: all of them
+pub record Open (l n k : ℕ) : Type 0 where
+  pub some : 0 < n
+  pub narrow : n ≤ 4096
+  pub whole : k ≡ l
+
+pub unless-cells : (t : Bool) (q : Refusal) (next : Answer) (k : ℕ) → unless t q next ≡ Cells k → (t ≡ true) × (next ≡ Cells k)
+unless-cells true q next k e = (refl, e)
+unless-cells false q next k e = let z : _≡_ {A = ℕ} 0 1 = cc in absurd (omega arith)
+
+pub andThen-cells : (a next : Answer) (k : ℕ) → andThen a next ≡ Cells k → (a ≡ Cells (countOf a)) × (next ≡ Cells k)
+andThen-cells (Cells j) next k e = (refl, e)
+andThen-cells (Refused q) next k e = let z : _≡_ {A = ℕ} 0 1 = cc in absurd (omega arith)
+
+pub emptyIf-cells : (t : Bool) (next : Answer) (k : ℕ) → emptyIf t next ≡ Cells k → 0 < k → (t ≡ false) × (next ≡ Cells k)
+emptyIf-cells false next k e h = (refl, e)
+emptyIf-cells true next k e h = let z : 0 ≡ k = cc in absurd (omega arith)
+
+pub same-count : (j k : ℕ) → Cells j ≡ Cells k → j ≡ k
+same-count j k e = cc
+
+positive : (n : ℕ) → (n ≡ 0 → ⊥) → 0 < n
+positive zero h = absurd (h refl)
+positive (suc n) h = omega arith
+
+pub nonzero : (n : ℕ) → eqb n 0 ≡ false → 0 < n
+nonzero n e = let h = eqb-false n 0 e in positive n h
+
+pub or-parts : (t u : Bool) → t || u ≡ false → (t ≡ false) × (u ≡ false)
+or-parts false u e = (refl, e)
+or-parts true u e = let z : _≡_ {A = ℕ} 0 1 = cc in absurd (omega arith)
+
+pub at-least : (k : ℕ) (rooms : List ℕ) → all (λ room. leb k room) rooms ≡ true → AtLeast k rooms
+at-least k [] e = tt
+at-least k (room ∷ rooms) e =
+    let parts = and-parts (leb k room) (all (λ room. leb k room) rooms) e in
+    (leb-true k room (parts .0), at-least k rooms (parts .1))
+
+pub checked-room : (ok : Float → Bool) (s : List Float) (out : ℕ) (work : List ℕ) (k : ℕ) → checked ok (s ∷ []) (out ∷ []) work ≡ Cells k
+    → Room ok s out work
+checked-room ok s out work k e =
+    let a = andThen-cells _ _ k (sym (checked-one ok s (out ∷ []) work) ∙ e) in
+    let b = unless-cells _ _ _ _ (sym (slices-one (length s) out work) ∙ a .0) in
+    let c = unless-cells _ _ _ _ (b .1) in
+    let d = unless-cells _ _ _ _ (c .1) in
+    record {
+      short = leb-true _ _ (b .0);
+      out-long = leb-true _ _ (c .0);
+      work-long = at-least (8 * length s) work (d .0);
+      values = unless-cells (all ok s) _ _ k (a .1) .0;
+    }
+
+-- a call with windows that was answered
+pub room : (ok : Float → Bool) (s : List Float) (windows : List ℕ) (out : ℕ) (work : List ℕ) (k : ℕ) → answered ok s windows out work ≡ Cells k
+    → Room ok s out work
+unfolding answered
+room ok s windows out work k e = checked-room ok s out work _ (andThen-cells _ _ k e .0)
+
+-- and its window, where there are cells to be written
+pub opened : (ok : Float → Bool) (s : List Float) (n out : ℕ) (work : List ℕ) (k : ℕ) → answered ok s (n ∷ []) out work ≡ Cells k → 0 < k
+    → Open (length s) n k
+unfolding answered
+opened ok s n out work k e h =
+    let l = length s in
+    let all-of-it = Cells l in
+    let t = andThen-cells (checked ok (s ∷ []) (out ∷ []) work) (windowed l (n ∷ []) all-of-it) k e in
+    let a = unless-cells (leb n 4096) _ _ k (sym (windowed-one l n all-of-it) ∙ t .1) in
+    let b = emptyIf-cells (eqb l 0 || eqb n 0) all-of-it k (a .1) h in
+    let c = or-parts (eqb l 0) (eqb n 0) (b .0) in
+    record { some = nonzero n (c .1); narrow = leb-true _ _ (a .0); whole = sym (same-count _ _ (b .1)) }
+
+pub fits-parts : (bars n out : ℕ) → windowFits bars n out ≡ true → Fits bars n out
+unfolding windowFits
+fits-parts bars n out e =
+    let a = and-parts (ltb 0 n && leb n 4096 && leb n bars && leb bars 65536) (leb bars out) e in
+    let b = and-parts (ltb 0 n && leb n 4096 && leb n bars) (leb bars 65536) (a .0) in
+    let c = and-parts (ltb 0 n && leb n 4096) (leb n bars) (b .0) in
+    let d = and-parts (ltb 0 n) (leb n 4096) (c .0) in
+    record {
+      some = ltb-true _ _ (d .0);
+      narrow = leb-true _ _ (d .1);
+      inside = leb-true _ _ (c .1);
+      short = leb-true _ _ (b .1);
+      room = leb-true _ _ (a .1);
+    }
+
+-- where it does not fit though all else is in order, the bars end before the window does
+pub none-fits : (bars n out : ℕ) → windowFits bars n out ≡ false → 0 < n → n ≤ 4096 → bars ≤ 65536 → bars ≤ out → bars < n
+unfolding windowFits
+none-fits bars n out e p q r s = go (leb n bars) refl
+  where
+    go : (t : Bool) → leb n bars ≡ t → bars < n
+    go false f = leb-false _ _ f
+    go true f = absurd (true≢false (sym (rw (lt-ltb 0 n p, le-leb n 4096 q, f, le-leb bars 65536 r, le-leb bars out s)) ∙ e))
+
+-- a count that is answered twice
+pub counted-twice : (t : Bool) (q : Refusal) (k : ℕ) → andThen (unless t q (Cells k)) (Cells k) ≡ unless t q (Cells k)
+counted-twice true q k = refl
+counted-twice false q k = refl
+
+module _ (ok : Float → Bool) (s : List Float) (n out : ℕ) (f : windowFits (length s) n out ≡ true) where
+  -- then the values decide
+  pub fits-checked : checked ok (s ∷ []) (out ∷ []) [] ≡ unless (all ok s) ValueNotAccepted (Cells (length s))
+  fits-checked =
+      let h = fits-parts (length s) n out f in
+      rw (checked-one ok s (out ∷ []) [], slices-one (length s) out [], le-leb _ _ (h .short), le-leb _ _ (h .room))
+
+  pub fits-answered : answered ok s (n ∷ []) out [] ≡ unless (all ok s) ValueNotAccepted (Cells (length s))
+  unfolding answered
+  fits-answered =
+      let h = fits-parts (length s) n out f in
+      let bars : eqb (length s) 0 ≡ false = ne-eqb (length s) 0 (λ (e : length s ≡ 0). omega arith) in
+      let some : eqb n 0 ≡ false = ne-eqb n 0 (λ (e : n ≡ 0). omega arith) in
+      rw (fits-checked, windowed-one (length s) n (Cells (length s)), le-leb _ _ (h .narrow), bars, some, counted-twice (all ok s))

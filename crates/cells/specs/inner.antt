@@ -1,0 +1,4 @@
+-- What the crate's own functions ask of each other.
+pub mod Kept
+pub mod Leads
+pub mod Rows

@@ -1,0 +1,2 @@
+-- What is known of a call with three series.
+pub mod inner

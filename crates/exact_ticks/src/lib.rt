@@ -1,0 +1,1 @@
+// What holds of windows, means and extremes of whole ticks: see proofs/.

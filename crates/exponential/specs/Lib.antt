@@ -1,3 +1,0 @@
--- The exponential averages: the laws of their loops.
-pub mod Halves
-pub mod Blending

@@ -1,0 +1,6 @@
+pub mod Best
+pub mod Blocks
+pub mod Extreme
+pub mod Order
+pub mod Part
+pub mod Range

@@ -1,2 +1,0 @@
--- Bytes moved to the front of a block.
-pub mod Kept

@@ -1,3 +1,0 @@
--- What a line of a request says.
-pub mod Header
-pub mod Cases

@@ -1,2 +1,0 @@
--- Writing the mean of each bar's window.
-pub mod Storing

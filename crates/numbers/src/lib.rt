@@ -1,1 +1,0 @@
-// What holds of whole numbers in f64, and of the error of a rounding: see specs/.

@@ -1,2 +1,0 @@
--- Where a request stands in a block of bytes.
-pub mod Place

@@ -1,1 +1,0 @@
-// What the position rules answer and write: see specs/.

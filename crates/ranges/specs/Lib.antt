@@ -1,2 +1,0 @@
--- True range.
-pub mod Range

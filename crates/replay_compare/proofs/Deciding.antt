@@ -1,0 +1,31 @@
+-- A test's two answers, and what a loop keeps that leaves at the first place where two sequences differ. Assumes nothing.
+use mathlib.Core.Bool.{true, false, true≢false}
+use mathlib.Core.Path.{_≡_, refl, sym}
+use Prim.Native.Nat.{ℕ, _+_, _<_, _≤_}
+use native.Mathlib.Omega.{arith}
+use borrow.Author.Count.{below-none, below-more}
+use Rattle.replay_compare.specs.inner.Agree.{Decides, Agree}
+
+module _ {P : Type 0} where
+  pub holds : P → Decides P true
+  holds p = record { yes = λ e. p; no = λ p. refl }
+
+  pub fails : (P → ⊥) → Decides P false
+  fails h = record { yes = λ e. absurd (true≢false (sym e)); no = λ p. absurd (h p) }
+
+-- f and g are the same at the first k places
+pub record Agreeing {A : Type 0} (f g : ℕ → A) (k : ℕ) : Type 0 where
+  pub same : (i : ℕ) → i < k → f i ≡ g i
+
+module _ {A : Type 0} {f g : ℕ → A} where
+  pub none-agrees : Agreeing f g 0
+  none-agrees = record { same = below-none (λ i. f i ≡ g i) }
+
+  pub one-agrees : {k : ℕ} → Agreeing f g k → f k ≡ g k → Agreeing f g (k + 1)
+  one-agrees {k} a e = record { same = below-more (λ i. f i ≡ g i) k (a .same) e }
+
+  pub all-agree : {k n : ℕ} → Agreeing f g k → n ≤ k → Agree n f g true
+  all-agree a h = holds (λ i l. a .same i (omega arith))
+
+  pub one-differs : {n : ℕ} (k : ℕ) → k < n → (f k ≡ g k → ⊥) → Agree n f g false
+  one-differs k h d = fails (λ same. d (same k h))

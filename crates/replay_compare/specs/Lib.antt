@@ -1,0 +1,2 @@
+-- What it means that a call left what was recorded.
+pub mod inner

@@ -1,0 +1,4 @@
+pub mod Blocks
+pub mod FloatWords
+pub mod Texts
+pub mod Words

@@ -1,4 +1,0 @@
--- The sheet's requests: how one is answered, and what the program writes for a whole input.
-pub mod Answer
-pub mod Sheet
-pub mod Cases

@@ -1,0 +1,14 @@
+-- Integers as differences of natural numbers: z is `above z` - `below z`, one of which is 0. What is linear in the parts is then
+-- plain arithmetic. Beside them the sum of a run of integers. Assumes nothing.
+use mathlib.Core.Bool.{Bool, true, false}
+use Prim.Native.Nat.{ℕ, zero, suc, _+_}
+use lib.IntN.{ℤ, pos, negsuc, _+ℤ_}
+
+-- t a + t (a + 1) + .. + t (a + k - 1)
+unfoldable pub total : (ℕ → ℤ) → ℕ → ℕ → ℤ
+total t a zero = pos 0
+total t a (suc k) = total t a k +ℤ t (a + k)
+
+abbrev pub isNegative : ℤ → Bool
+isNegative (pos n) = false
+isNegative (negsuc n) = true

@@ -1,0 +1,9 @@
+pub mod About
+pub mod Error
+pub mod Integers
+pub mod Multiples
+pub mod Nearest
+pub mod Quotient
+pub mod Units
+pub mod Value
+pub mod Whole

@@ -1,0 +1,139 @@
+// The square root, correctly rounded. A guess with floats is tested with integers, and a search takes its place where the test fails.
+ghost use mathlib.Core.Path.{_≡_};
+ghost use mathlib.Core.Bool.{true, false};
+ghost use Prim.Native.Nat.{_+_, _*_, _/_, _^_, _≤_, _<_};
+ghost use lib.IntN.{pos};
+ghost use lib.Ieee.{binary64, fin, lt};
+ghost use Rattle.rounding_root.specs.Root.{nearestRoot, sqrtOf};
+ghost use Rattle.rounding_root.specs.inner.Squares.{Closest};
+ghost use Rattle.rounding_root.specs.inner.Steps.{Digits, Square, Rooted};
+
+// 2 ^ 52: the weight of the first of 53 digits.
+const FIRST: u64 = 0x10_0000_0000_0000;
+
+// (h * h + e) / 2 ^ 52, by the halves of h, so that no number has more than 64 bits.
+fn high(h: u64, e: u64) -> u64
+    requires { ⌜ (h < 2 ^ 53) × (e < 2 ^ 55) ⌝ }
+    ensures { λ r. ⌜ r ≡ (h * h + e) / 2 ^ 52 ⌝ }
+{
+    let a = h / 0x400_0000;
+    let b = h % 0x400_0000;
+    a * a + (2 * a * b + (b * b + e) / 0x400_0000) / 0x400_0000
+}
+
+// Whether q is closest to √(m * 2 ^ 52): with h = q - 1, whether m * 2 ^ 52 is above h * (h + 1) and at most (h + 1) * (h + 2).
+fn is_closest(m: u64, q: u64) -> bool
+    requires { ⌜ Digits q ⌝ }
+    ensures { λ r. ⌜ (r ≡ true → Closest (m * 2 ^ 52) q) ⌝ }
+{
+    let h = q - 1;
+    if high(h, h) < m {
+        return m <= high(h, 3 * h + 2);
+    }
+    false
+}
+
+// The number closest to √(m * 2 ^ 52), by halving the range that it lies in.
+fn searched(m: u64) -> u64
+    requires { ⌜ Square m ⌝ }
+    ensures { λ r. ⌜ Rooted m r ⌝ }
+{
+    let mut lo = FIRST - 1;
+    let mut hi = 2 * FIRST - 2;
+    while lo < hi {
+        let mid = (lo + hi) / 2;
+        if high(mid, 3 * mid + 2) < m {
+            lo = mid + 1;
+        } else {
+            hi = mid;
+        }
+    }
+    lo + 1
+}
+
+// A guess at the root of p * 2 ^ twice / 2 ^ 52, which lies from 1 up to 4. The first guess at the inverse root comes from the bits, and three
+// steps double its digits. In the last step a is s cut to 26 digits, so that a * a is exact and x - s * s is known to its last digits.
+// The guess is nearly always right, and only the speed rests on that.
+fn guess(p: u64, twice: u64) -> f64
+    requires { ⌜ (Digits p) × (twice ≤ 1) ⌝ }
+{
+    let bits = p + (1022 + twice) * FIRST;
+    let x = f64::from_bits(bits);
+    let y = f64::from_bits(0x5fe6_eb50_c7b5_37a9 - bits / 2);
+    let s0 = x * y;
+    let h0 = y * 0.5;
+    let r0 = 1.5 - s0 * h0;
+    let s1 = s0 * r0;
+    let h1 = h0 * r0;
+    let r1 = 1.5 - s1 * h1;
+    let s2 = s1 * r1;
+    let h2 = h1 * r1;
+    let r2 = 1.5 - s2 * h2;
+    let s = s2 * r2;
+    let h = h2 * r2;
+    let a = (s + 201326592.0) - 201326592.0;
+    s + ((x - a * a) - (s - a) * (s + a)) * h
+}
+
+// The number closest to √(m * 2 ^ 52): the digits of a guess, if they pass the test, and else what a search finds.
+fn closest(m: u64, guess: f64) -> u64
+    requires { ⌜ Square m ⌝ }
+    ensures { λ r. ⌜ Rooted m r ⌝ }
+{
+    if guess > 0.0 {
+        let q = FIRST + f64::to_bits(guess) % FIRST;
+        if is_closest(m, q) {
+            return q;
+        }
+    }
+    searched(m)
+}
+
+// The root of p * 2 ^ (e + 53) squares of the smallest f64.
+fn root_of(p: u64, e: u64) -> f64
+    requires { ⌜ (Digits p) × (e < 3072) ⌝ }
+    ensures { λ r. ⌜ r ≡ nearestRoot binary64 (p * 2 ^ (e + 53)) ⌝ }
+{
+    let twice = 1 - e % 2;
+    let q = closest(p << twice, guess(p, twice));
+    f64::from_bits((e + 1) / 2 * FIRST + q)
+}
+
+// The root of t smallest f64s. The digits of t are moved up, so that there are 53.
+fn root_of_subnormal(t: u64) -> f64
+    requires { ⌜ (0 < t) × (t < 2 ^ 52) ⌝ }
+    ensures { λ r. ⌜ r ≡ nearestRoot binary64 (t * 2 ^ 1074) ⌝ }
+{
+    let zeros = u64::leading_zeros(t) as u64 - 11;
+    root_of(t << zeros, 1021 - zeros)
+}
+
+// The root of a number above zero, by the exponent's field and the digits of its bits.
+fn root_above_zero(x: f64) -> f64
+    requires { ⌜ lt (fin false 0 (pos 0)) x ≡ true ⌝ }
+    ensures { λ r. ⌜ r ≡ sqrtOf binary64 x ⌝ }
+{
+    let bits = f64::to_bits(x);
+    let field = bits / FIRST % 0x800;
+    let digits = bits % FIRST;
+    if field == 0x7ff {
+        return x;
+    }
+    if field == 0 {
+        return root_of_subnormal(digits);
+    }
+    root_of(FIRST + digits, field + 1020)
+}
+
+// The f64 nearest to the square root of x: NaN for NaN and below zero, a zero for itself, infinity for infinity.
+pub fn square_root(x: f64) -> f64
+    ensures { λ r. ⌜ r ≡ sqrtOf binary64 x ⌝ }
+{
+    if x > 0.0 {
+        return root_above_zero(x);
+    }
+    if x == 0.0 {
+        return x;
+    }
+    0.0 / 0.0
+}

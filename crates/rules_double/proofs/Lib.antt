@@ -1,0 +1,4 @@
+pub mod Bounds
+pub mod Double
+pub mod Open
+pub mod Ticks

@@ -1,0 +1,60 @@
+// The middle rule: how its cells are written.
+ghost use mathlib.Core.Path.{_≡_};
+ghost use Prim.Native.Nat.{_+_, _*_, _<_, _≤_};
+ghost use lib.ListN.{length};
+ghost use Rattle.cells.specs.Line.{line, plusZero};
+ghost use Rattle.cells.specs.Written.{Writing};
+ghost use Rattle.windows.specs.Window.{mean};
+ghost use Rattle.exact_ticks.specs.inner.Priced.{Priced};
+ghost use Rattle.rules_middle.specs.Middle.{againstMiddle, midLine};
+ghost use Rattle.exact_ticks.specs.inner.Stages.{Averaged};
+ghost use Rattle.rules_middle.specs.inner.Stages.{Ranges};
+
+// The sign of a mean less half of highest plus lowest, 0 if either is 0.
+fn against_middle(average: f64, high: f64, low: f64) -> f64
+    ensures { λ r. ⌜ r ≡ againstMiddle average high low ⌝ }
+{
+    if high == 0.0 {
+        0.0
+    } else if low == 0.0 {
+        0.0
+    } else {
+        rounding::sign(average - (high + low) / 2.0)
+    }
+}
+
+// Writes the mean of each bar to `out`, and the highest and the lowest of the last n means to two rows of `work`.
+fn write_ranges(series: &[f64], n: usize, out: &mut [f64], work: &mut [f64])
+    requires { ⌜ Priced n (now series) (length (now out)) (length (now work)) ⌝ }
+    ensures { λ _. ⌜ Writing (length (now (series .entry))) (mean n (line (now (series .entry)))) (now (out .entry)) (now (out .exit))
+        × Ranges n (now (series .entry)) (now (work .entry)) (now (work .exit)) ⌝ }
+{
+    let bars = series.len();
+    window_means::write_means_of_prices(series, n, out);
+    extremes::write_ranges(&out[..bars], n, work);
+}
+
+// Writes each bar's position over the mean that stands in its cell.
+fn write_against_middles(series: &[f64], n: usize, out: &mut [f64], work: &[f64])
+    requires { ⌜ Averaged n (now series) (mean n (line (now series))) (now out) ⌝ }
+    requires { ⌜ (2 * length (now series) ≤ length (now work)) × Ranges n (now series) (now work) (now work) ⌝ }
+    ensures { λ _. ⌜ Writing (length (now (series .entry))) (midLine n (line (now (series .entry)))) (now (out .entry)) (now (out .exit)) ⌝ }
+{
+    let bars = series.len();
+    let mut i = cells::fill_lead(out, 2 * n - 2, bars, 0.0);
+    while i < bars {
+        out[i] = against_middle(out[i], work[i], work[bars + i]);
+        i += 1;
+    }
+}
+
+// Writes each bar's position by way of `work`, which is cleared.
+pub fn write_mid(series: &[f64], n: usize, out: &mut [f64], work: &mut [f64])
+    requires { ⌜ Priced n (now series) (length (now out)) (length (now work)) ⌝ }
+    ensures { λ _. ⌜ Writing (length (now (series .entry))) (midLine n (line (now (series .entry)))) (now (out .entry)) (now (out .exit))
+        × Writing (8 * length (now (series .entry))) (λ i. plusZero) (now (work .entry)) (now (work .exit)) ⌝ }
+{
+    write_ranges(series, n, out, work);
+    write_against_middles(series, n, out, work);
+    cells::clear(work, 8 * series.len());
+}

@@ -1,0 +1,24 @@
+-- The three rules of the sheet: what each answers and writes. A position is the sign of a difference: +1 for +0.0 and above,
+-- -1 for -0.0 and below. Assumes nothing.
+use mathlib.Core.Path.{_≡_}
+use Prim.Native.Nat.{ℕ, _-_, _*_, _≤_}
+use lib.Ieee.{Float}
+use Rattle.cells.specs.Line.{Line, plusZero, Causal}
+use Rattle.cells.proofs.Line.{causal-self, causal-then, causal-with, causal-from, from-bar}
+use Rattle.windows.specs.Window.{mean}
+use Rattle.windows.proofs.Window.{causal-mean}
+use Rattle.rules_single.specs.Single.{againstMean, singleLine}
+
+-- ---- no look-ahead
+
+pub causal-single : (n : ℕ) → Causal (singleLine n)
+unfolding singleLine
+causal-single n =
+    causal-from (2 * n - 2) plusZero
+    (λ f g b s l. causal-with againstMean causal-self (causal-then (causal-mean n) (causal-mean n)) f g b s)
+
+-- ---- one average
+
+pub single-at : (n : ℕ) (f : Line) (i : ℕ) {m : Float} → m ≡ mean n (mean n f) i → 2 * n - 2 ≤ i → againstMean (f i) m ≡ singleLine n f i
+unfolding singleLine
+single-at n f i e h = rw (e, from-bar (2 * n - 2) plusZero _ i h)

@@ -1,0 +1,33 @@
+-- The one-average rule on whole ticks, decided by whole numbers, which running sums give exactly. Assumes nothing.
+use mathlib.Core.Path.{_≡_}
+use mathlib.Core.Bool.{Bool, true, _||_}
+use mathlib.Core.List.{List}
+use Prim.Native.Nat.{ℕ, _+_, _*_, _<_, _≤_}
+use lib.ListN.{length}
+use lib.Ieee.{Float, eq}
+use Rattle.values.specs.Accepted.{tick, all}
+use Rattle.cells.specs.Line.{line, plusZero}
+use Rattle.cells.specs.inner.Rows.{beside}
+use Rattle.cells.specs.Written.{Writing}
+use Rattle.windows.specs.Window.{mean}
+use Rattle.windows.specs.inner.Runs.{runs}
+
+-- ---- the decision
+
+-- n · n · price is the sum of the last n window sums, or that sum is 0: there the rounded average decides
+abbrev pub tie : Float → Float → Bool
+tie scaled total = eq scaled total || eq total plusZero
+
+-- ---- the stages
+
+-- the means of s, and the sums of its last n window sums, in two rows
+abbrev pub Totals : ℕ → List Float → List Float → List Float → Type 0
+Totals n s old now = Writing (length s + length s) (beside (length s) (mean n (line s)) (runs n (runs n (line s)))) old now
+
+-- whole ticks and a window, and those rows in `now`
+pub record TickRows (n : ℕ) (s now : List Float) : Type 0 where
+  pub some : 0 < n
+  pub narrow : n ≤ 1022
+  pub ticks : all tick s ≡ true
+  pub room : 2 * length s ≤ length now
+  pub rows : Totals n s now now

@@ -1,0 +1,80 @@
+-- `feed` meets its contract: each step goes onward, and the last one leaves too few bytes for a line. Assumes nothing.
+use mathlib.Core.Path.{refl, _∙_}
+use Prim.Native.Nat.{_-_}
+use native.Mathlib.Nat.{zero-add}
+use native.Mathlib.Omega.{arith}
+use borrow.Author.Needs.{needs}
+use lib.ListN.{length}
+use Rattle.sheet_blocks.proofs.Feeding.{Feeding, owed-few}
+use Rattle.sheet_blocks.proofs.feed.Statement.{statement}
+use Rattle.sheet_blocks.proofs.feed.Tie as tie
+
+abbrev Inv-loop : tie.InvT-loop
+Inv-loop block series₀ out₀ work₀ text₀ place₀ series out work text place = Feeding block place₀ series₀ text₀ place series out work text
+
+abbrev μ-loop : tie.MeasureT-loop
+μ-loop block series₀ out₀ work₀ text₀ place₀ series out work text place = length block - place .at
+
+loop-holds : tie.Need-loop-holds Inv-loop μ-loop
+loop-holds c =
+    let start = c .before .before .before .before .before in
+    record {
+      same = λ more. refl;
+      well = record { sound = start .pre .0; within = omega arith; room = rw zero-add (owed-few (start .args .sheet .stage) (start .pre .0)) };
+      lent = start .pre .1;
+      long = refl;
+    }
+
+advance-requires : tie.Need-advance-requires Inv-loop μ-loop
+advance-requires c κs =
+    let test = c .before .before .before .before in
+    let at = test .before .before .before in
+    (rw (← test .before .before .wanted .ensures) (test .if1 .taken), at .loop .inv .well, at .loop .inv .lent)
+
+loop-less : tie.Need-loop-less Inv-loop μ-loop
+loop-less c =
+    let advance = c .before .before .before .before .before .before .before .before in
+    let at = advance .before .before .before .before .before .before .before .before in
+    omega (arith, advance .advance .ensures .forth, advance .advance .ensures .well .within, at .loop .inv .well .within)
+
+loop-again : tie.Need-loop-again Inv-loop μ-loop
+loop-again c =
+    let advance = c .before .before .before .before .before .before .before .before in
+    let at = advance .before .before .before .before .before .before .before .before in
+    let kept = advance .advance .kept in
+    let lent = at .loop .inv .lent in
+    let long = at .loop .inv .long in
+    record {
+      same = λ more. at .loop .inv .same more ∙ advance .advance .ensures .same more;
+      well = advance .advance .ensures .well;
+      lent = search needs;
+      long = search needs;
+    }
+
+returns : tie.Need-returns Inv-loop μ-loop
+returns c =
+    let at = c .before .before .before in
+    record {
+      same = at .loop .inv .same;
+      well = at .loop .inv .well;
+      few = rw (← c .before .before .wanted .ensures) (c .if1 .left);
+    }
+
+pub feed-spec : {M : Type 1} → statement M
+feed-spec =
+    tie.close
+    (tie.spec
+    Inv-loop
+    μ-loop
+    loop-holds
+    (λ c κs. search needs)  -- wanted-requires
+    (λ c. search needs)  -- sub-if1
+    advance-requires
+    loop-less
+    loop-again
+    (λ c. search needs)  -- same-length
+    (λ c. search needs)  -- same-length-2
+    (λ c. search needs)  -- same-length-3
+    (λ c. c .before .before .before .loop .inv .long)  -- same-length-4
+    returns
+    )

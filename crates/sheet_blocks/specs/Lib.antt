@@ -1,0 +1,3 @@
+-- Where a request stands in a block of bytes.
+pub mod Whole
+pub mod inner

@@ -1,0 +1,4 @@
+-- What the crate's own functions ask of each other.
+pub mod Block
+pub mod Onward
+pub mod Place

@@ -1,0 +1,48 @@
+-- What a line of a request says: document 01's columns. Assumes nothing.
+use mathlib.Core.Bool.{Bool, cond, _&&_}
+use mathlib.Core.List.{List}
+use Prim.Native.Nat.{ℕ, _+_}
+use lib.Dec.{leb, eqb}
+use lib.ListN.{length, getD}
+use lib.Seq.{slice}
+use Rattle.sheet_columns.specs.declared.Field.{Field}
+use Rattle.sheet_columns.specs.declared.Field.the-variants.{Value, Broken}
+use Rattle.sheet_columns.specs.declared.Price.{Price}
+use Rattle.sheet_columns.specs.declared.Price.the-variants.{Unpriced}
+use Rattle.sheet_columns.specs.Read.{readField, readPrice}
+use Rattle.sheet_lines.specs.declared.Header.{Header}
+use Rattle.sheet_lines.specs.declared.Header.the-variants.{Asked, Malformed}
+
+-- so many columns, and then a line feed
+abbrev pub columned : ℕ → List ℕ → Bool
+columned columns line = eqb (length line) (columns + 1) && eqb (getD line columns 0) 10
+
+-- what follows from a field's number
+abbrev pub given : Field → (ℕ → Header) → Header
+given (Value v) next = next v
+given Broken next = Malformed
+
+-- rules 1, 2 and 3, and at most 512 bars
+abbrev pub accepted : ℕ → ℕ → Bool
+accepted rule bars = (leb 1 rule && leb rule 3) && leb bars 512
+
+-- the request that its five numbers make
+unfoldable pub requestOf : Field → Field → Field → Field → Field → Header
+requestOf desk rule n m bars =
+    given desk (λ d. given rule (λ r. given n (λ a. given m (λ b. given bars (λ l. cond (accepted r l) (Asked (record { desk = d; rule = r; n = a; m = b; bars = l })) Malformed)))))
+
+-- A request's first line: desk in 4 columns, rule in 4, n in 6, m in 6, bars in 6.
+unfoldable pub readHeader : List ℕ → Header
+readHeader line =
+    cond (columned 26 line)
+    (requestOf
+    (readField (slice 0 4 line))
+    (readField (slice 4 8 line))
+    (readField (slice 8 14 line))
+    (readField (slice 14 20 line))
+    (readField (slice 20 26 line)))
+    Malformed
+
+-- A price's line: 12 columns.
+unfoldable pub readPriceLine : List ℕ → Price
+readPriceLine line = cond (columned 12 line) (readPrice (slice 0 12 line)) Unpriced

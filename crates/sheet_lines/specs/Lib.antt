@@ -1,0 +1,4 @@
+-- What an answer prints.
+pub mod Cases
+pub mod Header
+pub mod Printed

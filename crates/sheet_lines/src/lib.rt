@@ -1,0 +1,178 @@
+// A request's lines read, and an answer's lines printed, on byte slices.
+use calls::Answer;
+use sheet_columns::Field;
+use sheet_columns::Price;
+ghost use mathlib.Core.Path.{_≡_};
+ghost use mathlib.Core.List.{[], _∷_};
+ghost use Prim.Native.Nat.{_+_, _*_, _≤_};
+ghost use lib.ListN.{length};
+ghost use lib.Seq.{slice};
+ghost use Rattle.calls.specs.Answer.{countOf};
+ghost use Rattle.cells.specs.Line.{line};
+ghost use Rattle.sheet_columns.specs.inner.Adds.{Adds};
+ghost use Rattle.sheet_lines.specs.Printed.{headLine, positionLine, positionLines, answerText, lastLine};
+ghost use Rattle.sheet_lines.specs.Header.{requestOf, readHeader, readPriceLine};
+
+// Prints an answer's first line from `at` on.
+pub fn print_head(text: &mut [u8], at: usize, desk: u64, rule: u64, refusal: u64, count: u64)
+    requires { ⌜ at + 19 ≤ length (now text) ⌝ }
+    ensures { λ _. ⌜ Adds at (headLine desk rule refusal count) (at + 19) (now (text .entry)) (now (text .exit)) ⌝ }
+{
+    sheet_columns::print_field(text, at, 4, desk);
+    sheet_columns::print_field(text, at + 4, 4, rule);
+    sheet_columns::print_field(text, at + 8, 4, refusal);
+    sheet_columns::print_field(text, at + 12, 6, count);
+    text[at + 18] = b'\n';
+}
+
+// Prints a position's line from `at` on: a sign and a digit in 4 columns.
+fn print_cell(text: &mut [u8], at: usize, sign: u8, digit: u8)
+    requires { ⌜ at + 5 ≤ length (now text) ⌝ }
+    ensures { λ _. ⌜ Adds at (32 ∷ 32 ∷ sign ∷ digit ∷ 10 ∷ []) (at + 5) (now (text .entry)) (now (text .exit)) ⌝ }
+{
+    text[at] = b' ';
+    text[at + 1] = b' ';
+    text[at + 2] = sign;
+    text[at + 3] = digit;
+    text[at + 4] = b'\n';
+}
+
+// Prints the position x from `at` on.
+fn print_position(text: &mut [u8], at: usize, x: f64)
+    requires { ⌜ at + 5 ≤ length (now text) ⌝ }
+    ensures { λ _. ⌜ Adds at (positionLine x) (at + 5) (now (text .entry)) (now (text .exit)) ⌝ }
+{
+    if x > 0.0 {
+        print_cell(text, at, b' ', b'1');
+    } else if x < 0.0 {
+        print_cell(text, at, b'-', b'1');
+    } else {
+        print_cell(text, at, b' ', b'0');
+    }
+}
+
+// Prints the positions at the first `count` bars from `at` on.
+fn print_positions(text: &mut [u8], at: usize, cells: &[f64], count: usize)
+    requires { ⌜ (at + 5 * count ≤ length (now text)) × (count ≤ length (now cells)) ⌝ }
+    ensures { λ _. ⌜ Adds at (positionLines count (line (now (cells .entry)))) (at + 5 * count) (now (text .entry)) (now (text .exit)) ⌝ }
+{
+    let mut i = 0;
+    while i < count {
+        print_position(text, at + 5 * i, cells[i]);
+        i += 1;
+    }
+}
+
+// Prints the number of refused requests from `at` on.
+pub fn print_last(text: &mut [u8], at: usize, refused: u64)
+    requires { ⌜ at + 13 ≤ length (now text) ⌝ }
+    ensures { λ _. ⌜ Adds at (lastLine refused) (at + 13) (now (text .entry)) (now (text .exit)) ⌝ }
+{
+    sheet_columns::print_field(text, at, 12, refused);
+    text[at + 12] = b'\n';
+}
+
+// Prints an answer from `at` on, with the positions in `cells`, and gives the place after it.
+pub fn print_answer(
+    text: &mut [u8],
+    at: usize,
+    request: Request,
+    given: Answer,
+    cells: &[f64],
+) -> usize
+    requires { ⌜ (countOf given ≤ length (now cells)) × (at + 19 + 5 * countOf given ≤ length (now text)) ⌝ }
+    ensures { λ r. ⌜ (Adds at (answerText request given (line (now (cells .entry)))) r (now (text .entry)) (now (text .exit))) × (r ≡ at + 19 + 5 * countOf given) ⌝ }
+{
+    let count = calls::count_of(given);
+    print_head(
+        text,
+        at,
+        request.desk,
+        request.rule,
+        calls::refusal_of(given),
+        count as u64,
+    );
+    print_positions(text, at + 19, cells, count);
+    at + 19 + 5 * count
+}
+
+// What a request's first line asks.
+pub struct Request {
+    pub desk: u64,
+    pub rule: u64,
+    pub n: usize,
+    pub m: usize,
+    pub bars: usize,
+}
+
+// A request's first line as it was read.
+pub enum Header {
+    Asked(Request),
+    Malformed,
+}
+
+// The request that its five numbers make.
+fn request_of(desk: Field, rule: Field, n: Field, m: Field, bars: Field) -> Header
+    ensures { λ r. ⌜ r ≡ requestOf desk rule n m bars ⌝ }
+{
+    let Field::Value(desk) = desk else {
+        return Header::Malformed;
+    };
+    let Field::Value(rule) = rule else {
+        return Header::Malformed;
+    };
+    let Field::Value(n) = n else {
+        return Header::Malformed;
+    };
+    let Field::Value(m) = m else {
+        return Header::Malformed;
+    };
+    let Field::Value(bars) = bars else {
+        return Header::Malformed;
+    };
+    if rule < 1 {
+        return Header::Malformed;
+    }
+    if rule > 3 {
+        return Header::Malformed;
+    }
+    if bars > 512 {
+        return Header::Malformed;
+    }
+    Header::Asked(Request {
+        desk: desk,
+        rule: rule,
+        n: n as usize,
+        m: m as usize,
+        bars: bars as usize,
+    })
+}
+
+// The request in the 27 bytes from `at` on, its line feed with it.
+pub fn read_header(block: &[u8], at: usize) -> Header
+    requires { ⌜ at + 27 ≤ length (now block) ⌝ }
+    ensures { λ r. ⌜ r ≡ readHeader (slice at (at + 27) (now (block .entry))) ⌝ }
+{
+    let desk = sheet_columns::read_field(block, at, at + 4);
+    let rule = sheet_columns::read_field(block, at + 4, at + 8);
+    let n = sheet_columns::read_field(block, at + 8, at + 14);
+    let m = sheet_columns::read_field(block, at + 14, at + 20);
+    let bars = sheet_columns::read_field(block, at + 20, at + 26);
+    if block[at + 26] == b'\n' {
+        request_of(desk, rule, n, m, bars)
+    } else {
+        Header::Malformed
+    }
+}
+
+// The price in the 13 bytes from `at` on, its line feed with it.
+pub fn read_price_line(block: &[u8], at: usize) -> Price
+    requires { ⌜ at + 13 ≤ length (now block) ⌝ }
+    ensures { λ r. ⌜ r ≡ readPriceLine (slice at (at + 13) (now (block .entry))) ⌝ }
+{
+    if block[at + 12] == b'\n' {
+        sheet_columns::read_price(block, at, at + 12)
+    } else {
+        Price::Unpriced
+    }
+}

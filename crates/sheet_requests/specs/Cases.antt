@@ -1,0 +1,52 @@
+-- Small cases, by computation: whole sheets with document 01's example. Assumes nothing.
+use mathlib.Core.Path.{_≡_, refl}
+use mathlib.Core.List.{[], _∷_, map}
+use lib.Ieee.{add, sub, div, ofInt, lt, eq, le, toBits}
+use Rattle.rounding.specs.Leaves.{signOf}
+use Rattle.values.specs.Accepted.{accepted}
+use Rattle.calls.specs.Answer.{slices, checked, windowed, answered}
+use Rattle.cells.specs.Line.{fromBar}
+use Rattle.cells.specs.Recur.{recur}
+use Rattle.windows.specs.Window.{sumFrom, windowSum, mean, runningSum}
+use Rattle.extremes.specs.Extreme.{pickFrom, extreme}
+use Rattle.rules_single.specs.Single.{singleLine}
+use Rattle.rules_double.specs.Double.{runningMean, doubleLine, doubleAnswer}
+use Rattle.rules_middle.specs.Middle.{midLine}
+use Rattle.sheet_columns.specs.inner.Text.{bytes}
+use Rattle.sheet_columns.specs.Read.{number, readField, signed, readPrice}
+use Rattle.sheet_columns.specs.Print.{printField}
+use Rattle.sheet_lines.specs.Header.{requestOf, readHeader, readPriceLine}
+use Rattle.sheet_lines.specs.Printed.{headLine, positionLines, answerText, lastLine}
+use Rattle.sheet_requests.specs.Answer.{ruleAnswer, ruleLine}
+use Rattle.sheet_requests.specs.Sheet.{lines, gathered, ending, outcome, sheet}
+
+-- document 01's example
+example :
+    sheet (bytes "   7   2     1     2     4\n          10\n          12\n          12\n          11\n")
+    ≡ bytes "   7   2   0     4\n   0\n   1\n   1\n  -1\n           0\n"
+unfolding sheet outcome lines gathered ending readHeader requestOf readPriceLine readField readPrice signed number ruleAnswer ruleLine answerText headLine positionLines lastLine printField answered doubleAnswer slices checked windowed accepted singleLine doubleLine midLine mean windowSum extreme pickFrom runningMean runningSum recur sumFrom fromBar signOf add sub div ofInt lt eq le toBits
+example = refl
+
+-- no input; a request with no bars; windows out of order and then a good request of one bar; an input that ends inside a request;
+-- a line that breaks its columns after a good request
+sheets :
+    map (λ input. sheet (bytes input))
+    (
+    ""
+    ∷ "   0   1     1     0     0\n"
+    ∷ "   1   2     2     1     1\n           5\n   2   1     1     0     1\n           5\n"
+    ∷ "   1   1     1     0     2\n           5\n"
+    ∷ "   3   3     1     0     1\n          -0\nx\n   7"
+    ∷ []
+    )
+    ≡ map bytes
+    (
+    "           0\n"
+    ∷ "   0   1   0     0\n           0\n"
+    ∷ "   1   2   9     0\n   2   1   0     1\n   1\n           1\n"
+    ∷ "   0   0  10     0\n           1\n"
+    ∷ "   3   3   0     1\n   0\n   0   0  10     0\n           1\n"
+    ∷ []
+    )
+unfolding sheet outcome lines gathered ending readHeader requestOf readPriceLine readField readPrice signed number ruleAnswer ruleLine answerText headLine positionLines lastLine printField answered doubleAnswer slices checked windowed accepted singleLine doubleLine midLine mean windowSum extreme pickFrom runningMean runningSum recur sumFrom fromBar signOf add sub div ofInt lt eq le toBits
+sheets = refl

@@ -1,2 +1,0 @@
--- Window sums and means, sixteen bars side by side.
-pub mod Sixteen

@@ -1,0 +1,4 @@
+-- The ultimate smoother, and true range.
+pub mod Cases
+pub mod Smoother
+pub mod inner

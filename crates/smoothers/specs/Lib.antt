@@ -1,3 +1,0 @@
--- The ultimate smoother, and true range.
-pub mod Smoother
-pub mod Cases

@@ -1,2 +1,0 @@
--- A step through a block of bytes.
-pub mod Onward

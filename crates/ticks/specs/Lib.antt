@@ -1,4 +1,0 @@
--- Sums of whole ticks, and their mean to a whole tick.
-pub mod Whole
-pub mod Ticks
-pub mod Share

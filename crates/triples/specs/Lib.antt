@@ -1,2 +1,0 @@
--- What is known of a call with three series.
-pub mod Three

@@ -1,0 +1,3 @@
+-- True range.
+pub mod TrueRange
+pub mod inner

@@ -1,0 +1,15 @@
+-- Wilder's true range: what `true_range` writes. Assumes nothing.
+use Prim.Native.Nat.{zero, suc}
+use lib.Ieee.{Float, binary64, sub}
+use Rattle.rounding.specs.Leaves.{magnitudeOf}
+use Rattle.cells.specs.Line.{Line}
+use Rattle.extremes.specs.Extreme.{larger}
+
+-- The largest of high less low, the size of high less the close before, and the size of low less it.
+unfoldable pub trueRange : Float → Float → Float → Float
+trueRange high low before = larger (larger (sub binary64 high low) (magnitudeOf (sub binary64 high before))) (magnitudeOf (sub binary64 low before))
+
+-- Bar 0 has no close before it: there it is high less low.
+unfoldable pub trueRangeLine : Line → Line → Line → Line
+trueRangeLine high low before zero = sub binary64 (high 0) (low 0)
+trueRangeLine high low before (suc i) = trueRange (high (suc i)) (low (suc i)) (before (suc i))

@@ -1,0 +1,33 @@
+-- Which numbers a series may hold. Assumes nothing.
+use mathlib.Core.Bool.{Bool, true, false, _&&_, true≢false}
+use mathlib.Core.List.{List, [], _∷_}
+use mathlib.Core.Path.{_≡_, refl, sym}
+use Prim.Native.Nat.{ℕ, zero, suc, _+_, _<_, _≤_}
+use native.Mathlib.Nat.{not-suc-le-zero, le-of-suc-le-suc}
+use native.Mathlib.Numerals.{add-one}
+use lib.ListN.{length, getD, drop, drop-of-length-le}
+use lib.Seq.{drop-cons}
+use lib.Ieee.{Float, nan}
+use Rattle.values.specs.Accepted.{all}
+
+pub and-true : (t : Bool) → t && true ≡ t
+and-true true = refl
+and-true false = refl
+
+pub and-parts : (t u : Bool) → t && u ≡ true → (t ≡ true) × (u ≡ true)
+and-parts true u e = (refl, e)
+and-parts false u e = absurd (true≢false (sym e))
+
+-- where every element passes, each does
+pub all-at : (p : Float → Bool) (s : List Float) (i : ℕ) → all p s ≡ true → i < length s → p (getD s i nan) ≡ true
+all-at p [] i e h = absurd (not-suc-le-zero h)
+all-at p (x ∷ s) zero e h = and-parts (p x) (all p s) e .0
+all-at p (x ∷ s) (suc i) e h = all-at p s i (and-parts (p x) (all p s) e .1) (le-of-suc-le-suc h)
+
+module _ (p : Float → Bool) (s : List Float) (i : ℕ) where
+  -- what is left to be tested from index i on
+  pub all-next : i < length s → all p (drop i s) ≡ p (getD s i nan) && all p (drop (i + 1) s)
+  all-next h = rw (add-one, drop-cons s i nan)
+
+  pub all-none : length s ≤ i → all p (drop i s) ≡ true
+  all-none h = rw (drop-of-length-le s h)

@@ -1,0 +1,6 @@
+pub mod All
+pub mod Both
+pub mod Fraction
+pub mod Quick
+pub mod Ticks
+pub mod Zero

@@ -1,0 +1,2 @@
+-- Writing the mean of each bar's window.
+pub mod inner

@@ -1,0 +1,30 @@
+-- How the means of bars side by side are written. Assumes nothing.
+use mathlib.Core.List.{List}
+use Prim.Native.Nat.{ℕ, _+_, _-_, _<_, _≤_, min}
+use lib.ListN.{length, set}
+use lib.Ieee.{Float}
+use Rattle.cells.specs.Line.{line}
+use Rattle.cells.specs.Written.{Writing}
+use Rattle.windows.specs.declared.Lanes.{Lanes}
+use Rattle.windows.specs.Window.{mean}
+
+-- the eight lanes, stored from cell i on
+abbrev pub storeEight : List Float → ℕ → Lanes → List Float
+storeEight cells i r =
+    set (set (set (set (set (set (set (set cells i (r .a)) (i + 1) (r .b)) (i + 2) (r .c)) (i + 3) (r .d))
+    (i + 4) (r .e)) (i + 5) (r .f)) (i + 6) (r .g)) (i + 7) (r .h)
+
+-- the means before bar `from`, which is past the lead, stand in `now`, which has room for the rest
+pub record Begun (s : List Float) (n from : ℕ) (now : List Float) : Type 0 where
+  pub some : 0 < n
+  pub short : n ≤ 4096
+  pub past-lead : min (n - 1) (length s) ≤ from
+  pub inside : from ≤ length s
+  pub room : length s ≤ length now
+  pub means : Writing from (mean n (line s)) now now
+
+-- they were written on, up to bar r
+pub record Reached (s : List Float) (n from r : ℕ) (old now : List Float) : Type 0 where
+  pub on : from ≤ r
+  pub inside : r ≤ length s
+  pub means : Writing r (mean n (line s)) old now

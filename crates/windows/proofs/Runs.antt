@@ -1,0 +1,20 @@
+-- The one-average rule on whole ticks, decided by whole numbers, which running sums give exactly. Assumes nothing.
+use mathlib.Core.Path.{_≡_}
+use Prim.Native.Nat.{ℕ, _+_, _-_, _<_, _≤_}
+use native.Mathlib.Omega.{arith}
+use lib.Ieee.{Float}
+use Rattle.cells.specs.Line.{Line, plusZero, Causal}
+use Rattle.cells.proofs.Line.{from-bar, causal-from}
+use Rattle.windows.specs.Window.{addDifference}
+use Rattle.windows.proofs.Window.{runningSum-same}
+use Rattle.windows.specs.inner.Sums.{Running}
+use Rattle.windows.specs.inner.Runs.{runs}
+
+pub causal-runs : (n : ℕ) → 0 < n → Causal (runs n)
+unfolding runs
+causal-runs n p = causal-from (n - 1) plusZero (λ f g b s l. runningSum-same addDifference n f g b (b + 1 - n) p (omega arith) s)
+
+-- the cell of bar i
+pub run-at : {n : ℕ} {f : Line} (i : ℕ) {x : Float} → Running addDifference n f (i + 1) x → n ≤ i + 1 → x ≡ runs n f i
+unfolding runs
+run-at {n} i r h = rw (r .is, from-bar (n - 1) plusZero _ i (omega arith))

@@ -1,0 +1,4 @@
+-- What the crate's own functions ask of each other.
+pub mod Eight
+pub mod Runs
+pub mod Sums
