@@ -72,11 +72,11 @@ module _ {s : List Float} where
 
   module _ (t : Ticks s) where
     -- the sum is small
-    pub sum-small : {a k : ℕ} {z : ℤ} → TickSum s a k z → natAbs z ≤ k * 16777216
-    sum-small {a} {k} r = let size = total-size (λ j. toSigned 63 (line s j)) a k 16777216 (λ j l. near-at s (a + j) (t .each)) in rw (r .is) size
+    pub sum-small : {a k : ℕ} {z : ℤ} → TickSum s a k z → natAbs z ≤ k * 2 ^ 24
+    sum-small {a} {k} r = let size = total-size (λ j. toSigned 63 (line s j)) a k (2 ^ 24) (λ j l. near-at s (a + j) (t .each)) in rw (r .is) size
 
     -- so an i64 holds it
-    pub hold : {a k : ℕ} {z : ℤ} → TickSum s a k z → k ≤ 4096 → HeldSum s a k z
+    pub hold : {a k : ℕ} {z : ℤ} → TickSum s a k z → k ≤ 2 ^ 12 → HeldSum s a k z
     hold {z = z} r h =
         let l = sum-small r in
         record { fits = in-i64 z (omega arith); sum = rw (kept z (omega arith)) r }
@@ -85,12 +85,12 @@ module _ {s : List Float} where
     same-at j = let l = near-at s j (t .each) in kept (toSigned 63 (line s j)) (omega arith)
 
     -- with the tick of bar i
-    pub hold-in : {a k l : ℕ} {z : ℤ} (i : ℕ) → TickSum s a k z → (i ≡ a + k) × (k + 1 ≡ l) × (l ≤ 4096)
+    pub hold-in : {a k l : ℕ} {z : ℤ} (i : ℕ) → TickSum s a k z → (i ≡ a + k) × (k + 1 ≡ l) × (l ≤ 2 ^ 12)
         → HeldSum s a l (z +ℤ held (toSigned 63 (line s i)))
     hold-in i r (e, p, h) = rw (same-at i, ← p) (hold (tick-in i r e) (omega arith))
 
     -- and without that of bar a
-    pub hold-out : {a b k l : ℕ} {z : ℤ} → TickSum s a l z → (a + 1 ≡ b) × (k + 1 ≡ l) × (l ≤ 4096)
+    pub hold-out : {a b k l : ℕ} {z : ℤ} → TickSum s a l z → (a + 1 ≡ b) × (k + 1 ≡ l) × (l ≤ 2 ^ 12)
         → HeldSum s b k (z -ℤ held (toSigned 63 (line s a)))
     hold-out {a} {k = k} {z = z} r (e, p, h) =
         let all : TickSum s a (k + 1) z = rw p r in

@@ -13,10 +13,11 @@ ghost use Rattle.cells.specs.Written.{Writing};
 ghost use Rattle.averages_ticks.specs.TickMean.{toTick, tickMeanLine};
 ghost use Rattle.averages_ticks.specs.inner.Share.{shareOf, Shared};
 ghost use Rattle.averages_ticks.specs.inner.Ticks.{TickRoom, LeadRoom, Summed, TickSliding};
+ghost use Rattle.limits.specs.Limits.{longestWindow};
 
 // 2^38 / (2 * n), rounded up: a product with it takes the place of a division by 2 * n at every bar.
 fn share_of(n: usize) -> usize
-    requires { ⌜ (0 < n) × (n ≤ 4096) ⌝ }
+    requires { ⌜ (0 < n) × (n ≤ longestWindow) ⌝ }
     ensures { λ r. ⌜ r ≡ shareOf n ⌝ }
 {
     274877906944 / (2 * n) + 1

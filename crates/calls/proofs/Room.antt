@@ -24,6 +24,7 @@ use Rattle.values.proofs.All.{and-true, and-parts}
 use Rattle.calls.specs.Answer.{countOf, first, unless, andThen, emptyIf, slices, checked, windowed, answered}
 use Rattle.calls.specs.inner.Fits.{windowFits, Fits}
 use Rattle.calls.specs.inner.Room.{AtLeast}
+use Rattle.limits.specs.Limits.{longestSeries, longestWindow}
 
 -- ---- the table for one series
 
@@ -42,10 +43,10 @@ parted false u v l next = refl
 
 pub slices-one : (l out : ℕ) (work : List ℕ)
     → slices (l ∷ []) (out ∷ []) work
-    ≡ unless (leb l 65536) SeriesTooLong
+    ≡ unless (leb l longestSeries) SeriesTooLong
     (unless (leb l out) OutputTooShort (unless (all (λ room. leb (8 * l) room) work) WorkTooShort (Cells l)))
 unfolding slices
-slices-one l out work = rw (and-true (leb l 65536), and-true (eqb l l), eq-eqb l l refl, and-true (leb l out))
+slices-one l out work = rw (and-true (leb l longestSeries), and-true (eqb l l), eq-eqb l l refl, and-true (leb l out))
 
 -- the work slice comes after the other lengths
 pub slices-work : (series outputs : List ℕ) (work : ℕ)
@@ -55,7 +56,7 @@ unfolding slices
 slices-work series outputs work =
     let l = first series in
     rw (and-true (leb (8 * l) work))
-    (parted (all (λ k. leb k 65536) series) (all (λ k. eqb k l) series) (all (λ room. leb l room) outputs) l (unless (leb (8 * l) work) WorkTooShort (Cells l)))
+    (parted (all (λ k. leb k longestSeries) series) (all (λ k. eqb k l) series) (all (λ room. leb l room) outputs) l (unless (leb (8 * l) work) WorkTooShort (Cells l)))
 
 pub checked-one : (ok : Float → Bool) (s : List Float) (outputs work : List ℕ)
     → checked ok (s ∷ []) outputs work
@@ -63,12 +64,12 @@ pub checked-one : (ok : Float → Bool) (s : List Float) (outputs work : List �
 unfolding checked
 checked-one ok s outputs work = rw (and-true (all ok s))
 
-pub windowed-one : (l n : ℕ) (next : Answer) → windowed l (n ∷ []) next ≡ unless (leb n 4096) WindowTooLong (emptyIf (eqb l 0 || eqb n 0) next)
+pub windowed-one : (l n : ℕ) (next : Answer) → windowed l (n ∷ []) next ≡ unless (leb n longestWindow) WindowTooLong (emptyIf (eqb l 0 || eqb n 0) next)
 unfolding windowed
-windowed-one l n next = rw (and-true (leb n 4096), or-false (eqb n 0))
+windowed-one l n next = rw (and-true (leb n longestWindow), or-false (eqb n 0))
 
 pub record Room (ok : Float → Bool) (s : List Float) (out : ℕ) (work : List ℕ) : Type 0 where
-  pub short : length s ≤ 65536
+  pub short : length s ≤ longestSeries
   pub out-long : length s ≤ out
   pub work-long : AtLeast (8 * length s) work
   pub values : all ok s ≡ true
@@ -76,7 +77,7 @@ pub record Room (ok : Float → Bool) (s : List Float) (out : ℕ) (work : List 
 -- a window of cells, and cells to be written: all of them
 pub record Open (l n k : ℕ) : Type 0 where
   pub some : 0 < n
-  pub narrow : n ≤ 4096
+  pub narrow : n ≤ longestWindow
   pub whole : k ≡ l
 
 pub unless-cells : (t : Bool) (q : Refusal) (next : Answer) (k : ℕ) → unless t q next ≡ Cells k → (t ≡ true) × (next ≡ Cells k)
@@ -139,7 +140,7 @@ opened ok s n out work k e h =
     let l = length s in
     let all-of-it = Cells l in
     let t = andThen-cells (checked ok (s ∷ []) (out ∷ []) work) (windowed l (n ∷ []) all-of-it) k e in
-    let a = unless-cells (leb n 4096) _ _ k (sym (windowed-one l n all-of-it) ∙ t .1) in
+    let a = unless-cells (leb n longestWindow) _ _ k (sym (windowed-one l n all-of-it) ∙ t .1) in
     let b = emptyIf-cells (eqb l 0 || eqb n 0) all-of-it k (a .1) h in
     let c = or-parts (eqb l 0) (eqb n 0) (b .0) in
     record { some = nonzero n (c .1); narrow = leb-true _ _ (a .0); whole = sym (same-count _ _ (b .1)) }
@@ -147,10 +148,10 @@ opened ok s n out work k e h =
 pub fits-parts : (bars n out : ℕ) → windowFits bars n out ≡ true → Fits bars n out
 unfolding windowFits
 fits-parts bars n out e =
-    let a = and-parts (ltb 0 n && leb n 4096 && leb n bars && leb bars 65536) (leb bars out) e in
-    let b = and-parts (ltb 0 n && leb n 4096 && leb n bars) (leb bars 65536) (a .0) in
-    let c = and-parts (ltb 0 n && leb n 4096) (leb n bars) (b .0) in
-    let d = and-parts (ltb 0 n) (leb n 4096) (c .0) in
+    let a = and-parts (ltb 0 n && leb n longestWindow && leb n bars && leb bars longestSeries) (leb bars out) e in
+    let b = and-parts (ltb 0 n && leb n longestWindow && leb n bars) (leb bars longestSeries) (a .0) in
+    let c = and-parts (ltb 0 n && leb n longestWindow) (leb n bars) (b .0) in
+    let d = and-parts (ltb 0 n) (leb n longestWindow) (c .0) in
     record {
       some = ltb-true _ _ (d .0);
       narrow = leb-true _ _ (d .1);
@@ -160,13 +161,13 @@ fits-parts bars n out e =
     }
 
 -- where it does not fit though all else is in order, the bars end before the window does
-pub none-fits : (bars n out : ℕ) → windowFits bars n out ≡ false → 0 < n → n ≤ 4096 → bars ≤ 65536 → bars ≤ out → bars < n
+pub none-fits : (bars n out : ℕ) → windowFits bars n out ≡ false → 0 < n → n ≤ longestWindow → bars ≤ longestSeries → bars ≤ out → bars < n
 unfolding windowFits
 none-fits bars n out e p q r s = go (leb n bars) refl
   where
     go : (t : Bool) → leb n bars ≡ t → bars < n
     go false f = leb-false _ _ f
-    go true f = absurd (true≢false (sym (rw (lt-ltb 0 n p, le-leb n 4096 q, f, le-leb bars 65536 r, le-leb bars out s)) ∙ e))
+    go true f = absurd (true≢false (sym (rw (lt-ltb 0 n p, le-leb n longestWindow q, f, le-leb bars longestSeries r, le-leb bars out s)) ∙ e))
 
 -- a count that is answered twice
 pub counted-twice : (t : Bool) (q : Refusal) (k : ℕ) → andThen (unless t q (Cells k)) (Cells k) ≡ unless t q (Cells k)

@@ -20,6 +20,7 @@ use Rattle.calls.specs.declared.Refusal.the-variants.{
 use Rattle.calls.specs.declared.Answer.{Answer}
 use Rattle.calls.specs.declared.Answer.the-variants.{Cells, Refused}
 use Rattle.values.specs.Accepted.{all}
+use Rattle.limits.specs.Limits.{longestSeries, longestWindow}
 
 -- document 01's number of a refusal
 abbrev pub number : Refusal → ℕ
@@ -73,7 +74,7 @@ first (l ∷ rest) = l
 -- Refusals 1 to 4, of lengths: those of the series, of the outputs, and of the work slice, where there is one. The count is L.
 unfoldable pub slices : List ℕ → List ℕ → List ℕ → Answer
 slices series outputs work =
-    unless (all (λ l. leb l 65536) series) SeriesTooLong
+    unless (all (λ l. leb l longestSeries) series) SeriesTooLong
     (unless (all (λ l. eqb l (first series)) series) LengthsDiffer
     (unless (all (λ room. leb (first series) room) outputs) OutputTooShort
     (unless (all (λ room. leb (8 * first series) room) work) WorkTooShort
@@ -93,7 +94,7 @@ anyZero (n ∷ ns) = eqb n 0 || anyZero ns
 
 -- Refusal 7 for integer windows, then the empty answer for no bars or a window of none, then what is next.
 unfoldable pub windowed : ℕ → List ℕ → Answer → Answer
-windowed l windows next = unless (all (λ n. leb n 4096) windows) WindowTooLong (emptyIf (anyZero (l ∷ windows)) next)
+windowed l windows next = unless (all (λ n. leb n longestWindow) windows) WindowTooLong (emptyIf (anyZero (l ∷ windows)) next)
 
 -- A call of one series and of integer windows, with no condition of its own on them.
 unfoldable pub answered : (Float → Bool) → List Float → List ℕ → ℕ → List ℕ → Answer

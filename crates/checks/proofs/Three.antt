@@ -23,6 +23,7 @@ use Rattle.calls.specs.declared.Answer.the-variants.{Cells, Refused}
 use Rattle.calls.specs.Answer.{first, unless, andThen, slices, checked}
 use Rattle.calls.proofs.Room.{unless-cells, andThen-cells, at-least}
 use Rattle.checks.specs.inner.Three.{Three}
+use Rattle.limits.specs.Limits.{longestSeries}
 
 -- ---- the table
 
@@ -33,15 +34,15 @@ unless-and false u q next = refl
 -- three series: each length, then each of the later two against the first
 pub slices-three : (a b c out : ℕ) (work : List ℕ)
     → slices (a ∷ b ∷ c ∷ []) (out ∷ []) work
-    ≡ unless (leb a 65536) SeriesTooLong (unless (leb b 65536) SeriesTooLong (unless (leb c 65536) SeriesTooLong
+    ≡ unless (leb a longestSeries) SeriesTooLong (unless (leb b longestSeries) SeriesTooLong (unless (leb c longestSeries) SeriesTooLong
     (unless (eqb b a) LengthsDiffer (unless (eqb c a) LengthsDiffer
     (unless (leb a out) OutputTooShort (unless (all (λ room. leb (8 * a) room) work) WorkTooShort (Cells a)))))))
 unfolding slices
 slices-three a b c out work =
     rw (
-      and-true (leb c 65536),
-      unless-and (leb a 65536),
-      unless-and (leb b 65536),
+      and-true (leb c longestSeries),
+      unless-and (leb a longestSeries),
+      unless-and (leb b longestSeries),
       eq-eqb a a refl,
       and-true (eqb c a),
       unless-and (eqb b a),
@@ -100,9 +101,9 @@ checked-three-room ok s t u out work k e =
     let one = andThen-cells later _ k (sym (checked-three ok s t u (out ∷ []) work) ∙ e) in
     let two = andThen-cells last _ _ (one .0) in
     let three = andThen-cells lengths _ _ (two .0) in
-    let a = unless-cells (leb (length s) 65536) _ _ _ (sym (slices-three (length s) (length t) (length u) out work) ∙ three .0) in
-    let b = unless-cells (leb (length t) 65536) _ _ _ (a .1) in
-    let c = unless-cells (leb (length u) 65536) _ _ _ (b .1) in
+    let a = unless-cells (leb (length s) longestSeries) _ _ _ (sym (slices-three (length s) (length t) (length u) out work) ∙ three .0) in
+    let b = unless-cells (leb (length t) longestSeries) _ _ _ (a .1) in
+    let c = unless-cells (leb (length u) longestSeries) _ _ _ (b .1) in
     let second = unless-cells (eqb (length t) (length s)) _ _ _ (c .1) in
     let third = unless-cells (eqb (length u) (length s)) _ _ _ (second .1) in
     let room = unless-cells (leb (length s) out) _ _ _ (third .1) in

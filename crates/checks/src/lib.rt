@@ -1,6 +1,8 @@
 // The checks of a call: the refusals in document 01's order, for one series or three, one output or three, with a work slice or without.
 use calls::Answer;
 use calls::Refusal;
+use limits::LONGEST_SERIES;
+use limits::LONGEST_WINDOW;
 ghost use mathlib.Core.Path.{_≡_};
 ghost use mathlib.Core.List.{[], _∷_};
 ghost use Prim.Native.Nat.{_*_, min};
@@ -16,7 +18,7 @@ ghost use Rattle.calls.specs.declared.Refusal.the-variants.{WorkTooShort, Value
 fn check_lengths(bars: usize, out: usize) -> Answer
     ensures { λ r. ⌜ r ≡ slices (bars ∷ []) (out ∷ []) [] ⌝ }
 {
-    if bars > 65536 {
+    if bars > LONGEST_SERIES {
         return Answer::Refused(Refusal::SeriesTooLong);
     }
     if out < bars {
@@ -105,7 +107,7 @@ pub fn check_ticks(series: &[f64], out: usize) -> Answer
 fn check_window(bars: usize, n: usize) -> Answer
     ensures { λ r. ⌜ r ≡ windowed bars (n ∷ []) (Cells bars) ⌝ }
 {
-    if n > 4096 {
+    if n > LONGEST_WINDOW {
         return Answer::Refused(Refusal::WindowTooLong);
     }
     if n == 0 {
@@ -118,7 +120,7 @@ fn check_window(bars: usize, n: usize) -> Answer
 pub fn window_fits(bars: usize, n: usize, out: usize) -> bool
     ensures { λ r. ⌜ r ≡ windowFits bars n out ⌝ }
 {
-    (n > 0) & (n <= 4096) & (n <= bars) & (bars <= 65536) & (bars <= out)
+    (n > 0) & (n <= LONGEST_WINDOW) & (n <= bars) & (bars <= LONGEST_SERIES) & (bars <= out)
 }
 
 // The answer of a call with one series, one window, its output and no work slice.
@@ -152,13 +154,13 @@ pub fn answer_tick_window(series: &[f64], n: usize, out: usize) -> Answer
 fn check_lengths_of_three(bars: usize, second: usize, third: usize, out: usize) -> Answer
     ensures { λ r. ⌜ r ≡ slices (bars ∷ second ∷ third ∷ []) (out ∷ []) [] ⌝ }
 {
-    if bars > 65536 {
+    if bars > LONGEST_SERIES {
         return Answer::Refused(Refusal::SeriesTooLong);
     }
-    if second > 65536 {
+    if second > LONGEST_SERIES {
         return Answer::Refused(Refusal::SeriesTooLong);
     }
-    if third > 65536 {
+    if third > LONGEST_SERIES {
         return Answer::Refused(Refusal::SeriesTooLong);
     }
     if second != bars {

@@ -148,7 +148,7 @@ module _ {x : Float} {a b : ℕ} (p : AtMost a x) where
       rw (p .is, q .is)
       (sum-at-most binary64 (p .sign) (p .digits * up e * down d) (q .sign) (q .digits * up d * down e) (down e * down d) b (mul-pos (down-pos e) (down-pos d)) B (omega arith))
 
-  pub div-at-most : (n : ℕ) → (a ≤ n * b) × (0 < n) × (n ≤ 4096) × (b ≤ 2 ^ 53) → AtMost b (over n x)
+  pub div-at-most : (n : ℕ) → (a ≤ n * b) × (0 < n) × (n ≤ 2 ^ 12) × (b ≤ 2 ^ 53) → AtMost b (over n x)
   unfolding ofInt
   div-at-most n (h, N, M, B) =
       let e = p .place in
@@ -224,7 +224,7 @@ module _ (b : ℕ) (f : Line) (i : ℕ) (h : Bounded b f i) where
   picked-bounded pick p a (suc k) l = p _ _ (picked-bounded pick p a k (omega arith)) (h (a + suc k) l)
 
 -- windows of accepted prices, or of their means
-module _ (n : ℕ) (N : 0 < n) (M : n ≤ 4096) (f : Line) (i : ℕ) (h : Bounded (2 ^ 30) f i) where
+module _ (n : ℕ) (N : 0 < n) (M : n ≤ 2 ^ 12) (f : Line) (i : ℕ) (h : Bounded (2 ^ 30) f i) where
   pub mean-bounded : Bounded (2 ^ 30) (mean n f) i
   unfolding mean windowSum
   mean-bounded j l =

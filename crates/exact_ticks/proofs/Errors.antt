@@ -33,7 +33,7 @@ sum-about {f} {z} {a} {c} {e} {b} i (suc k) s l h =
     about-weaken (suc k * (e + 2 ^ i * c)) (about-add i p q l (omega arith)) (omega arith)
 
 -- a window's sum times a window's length stays below 2 ^ 52
-pub products : (a b n m : ℕ) → a ≤ n * 2 ^ 24 → b ≤ m * 2 ^ 24 → n ≤ 4096 → m ≤ 4096 → a * m + b * n < 2 ^ 53
+pub products : (a b n m : ℕ) → a ≤ n * 2 ^ 24 → b ≤ m * 2 ^ 24 → n ≤ 2 ^ 12 → m ≤ 2 ^ 12 → a * m + b * n < 2 ^ 53
 products a b n m p q r s =
     let x : a ≤ 2 ^ 36 = omega arith in
     let y : b ≤ 2 ^ 36 = omega arith in
@@ -56,7 +56,7 @@ mean-room n p d N P h =
     let c : 0 < n * n = mul-pos N N in
     omega arith
 
-module _ {l : ℕ} {f : Line} {t : ℕ → ℤ} (w : TickLine l f t) (n : ℕ) (N : 0 < n) (M : n ≤ 4096) where
+module _ {l : ℕ} {f : Line} {t : ℕ → ℤ} (w : TickLine l f t) (n : ℕ) (N : 0 < n) (M : n ≤ 2 ^ 12) where
   pub window-total-size : (i : ℕ) → n ≤ i + 1 → i < l → natAbs (windowTotal n t i) ≤ n * 2 ^ 24
   window-total-size i b h = window-size w (i + 1 - n) n (omega arith)
 

@@ -22,7 +22,7 @@ pub record WholeLine (b l : ℕ) (f : Line) (t : ℕ → ℤ) : Type 0 where
 
 -- they are whole ticks, of magnitude at most 16,777,216
 abbrev pub TickLine : ℕ → Line → (ℕ → ℤ) → Type 0
-TickLine = WholeLine 16777216
+TickLine = WholeLine (2 ^ 24)
 
 module _ {b l : ℕ} {f : Line} {t : ℕ → ℤ} (w : WholeLine b l f t) where
   pub window-size : (a k : ℕ) → a + k ≤ l → natAbs (total t a k) ≤ k * b
@@ -64,12 +64,12 @@ module _ {b l : ℕ} {f : Line} {t : ℕ → ℤ} {slide : Float → Float → F
 
 -- and of whole ticks in every window
 pub running-exact : {l : ℕ} {f : Line} {t : ℕ → ℤ} {slide : Float → Float → Float → Float} → TickLine l f t → Slides slide
-    → (n k : ℕ) → 0 < n → n ≤ 4096 → n + k ≤ l → runningSum slide n f k ≡ ofInt binary64 (total t k n)
+    → (n k : ℕ) → 0 < n → n ≤ 2 ^ 12 → n + k ≤ l → runningSum slide n f k ≡ ofInt binary64 (total t k n)
 running-exact w s n k N M h = running-whole w s n k N (omega arith) h
 
 -- ---- means
 
-module _ {l : ℕ} {f : Line} {t : ℕ → ℤ} (w : TickLine l f t) (n : ℕ) (N : 0 < n) (M : n ≤ 4096) where
+module _ {l : ℕ} {f : Line} {t : ℕ → ℤ} (w : TickLine l f t) (n : ℕ) (N : 0 < n) (M : n ≤ 2 ^ 12) where
   -- a window's sum and its length are whole numbers that f64 counts without a gap
   pub window-whole : (a : ℕ) → a + n ≤ l → Whole binary64 (total t a n) n
   window-whole a h = record { some = N; size = omega (arith, window-size w a n h); divisor = omega arith }

@@ -104,11 +104,11 @@ unfolding sumFrom
 sum-of-finite f a zero h = unfold isNan in refl
 sum-of-finite f a (suc k) h = add-number binary64 _ _ (sum-of-finite f a k (λ j l. h j (omega arith))) (h (a + k) (omega arith))
 
-count-positive : (n : ℕ) → (0 < n) × (n ≤ 4096) → T (positive (ofInt binary64 (pos n)))
+count-positive : (n : ℕ) → (0 < n) × (n ≤ 2 ^ 12) → T (positive (ofInt binary64 (pos n)))
 unfolding ofInt
 count-positive n (p, q) = positive-of-value (round binary64 false n 1) n 1 (round-whole binary64 false n (omega arith)) p
 
-pub means-are-numbers : (n : ℕ) (s : List Float) → (0 < n) × (n ≤ 4096) → all accepted s ≡ true → Numbers (mean n (line s)) (length s)
+pub means-are-numbers : (n : ℕ) (s : List Float) → (0 < n) × (n ≤ 2 ^ 12) → all accepted s ≡ true → Numbers (mean n (line s)) (length s)
 unfolding mean fromBar windowSum
 means-are-numbers n s (p, q) h = record { at = λ i l. go i l (leb (n - 1) i) refl }
   where

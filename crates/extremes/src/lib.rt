@@ -11,6 +11,7 @@ ghost use Rattle.extremes.specs.inner.Best.{Numbers};
 ghost use Rattle.extremes.specs.inner.Range.{alone, joined, RangeOf};
 ghost use Rattle.extremes.specs.inner.Part.{Replacing};
 ghost use Rattle.extremes.specs.inner.Blocks.{Room, Begun, Windows, UpTo, Whole};
+ghost use Rattle.limits.specs.Limits.{longestSeries, longestWindow};
 
 // The highest and the lowest of neighbouring cells.
 pub struct HighLow {
@@ -114,7 +115,7 @@ fn write_block(cells: &[f64], n: usize, e: usize, last: usize, rows: &mut [f64])
 
 // The last of n bars from e on, or the last of all.
 fn last_of(e: usize, n: usize, bars: usize) -> usize
-    requires { ⌜ (0 < n) × (n ≤ 4096) × (e < bars) × (bars ≤ 65536) ⌝ }
+    requires { ⌜ (0 < n) × (n ≤ longestWindow) × (e < bars) × (bars ≤ longestSeries) ⌝ }
     ensures { λ r. ⌜ (e ≤ r) × (r < e + n) × (r < bars) × (min (e + n) bars ≡ r + 1) ⌝ }
 {
     if e + n < bars { e + n - 1 } else { bars - 1 }

@@ -37,6 +37,7 @@ use Rattle.rules_double.proofs.Bounds.{running-mean-bounded}
 use Rattle.guarantees.specs.Calls.{DoubleCall, SingleCall, MidCall}
 use Rattle.rules_middle.proofs.Ticks.{two-is}
 use Rattle.guarantees.specs.Series.{bar}
+use Rattle.limits.specs.Limits.{longestSeries, longestWindow}
 
 -- long, short or flat
 abbrev pub Position : Float → Type 0
@@ -64,14 +65,14 @@ flat-or true x p = inr (inr refl)
 flat-or false x p = p
 
 module _ (f : Line) (i : ℕ) (h : Bounded (2 ^ 30) f i) where
-  single-position : (n : ℕ) → 0 < n → n ≤ 4096 → Position (singleLine n f i)
+  single-position : (n : ℕ) → 0 < n → n ≤ longestWindow → Position (singleLine n f i)
   unfolding singleLine
   single-position n N M =
       let average = mean-bounded n N M (mean n f) i (mean-bounded n N M f i h) i (le-refl i) in
       let gap : AtMost (2 ^ 31) (sub binary64 (f i) (mean n (mean n f) i)) = sub-at-most (h i (le-refl i)) average (omega arith) in
       from-bar-holds Position (2 * n - 2) _ i (inr (inr refl)) (λ k. flat-or (eq (mean n (mean n f) i) plusZero) _ (sign-position gap))
 
-  double-position : (n m : ℕ) → 0 < n → n < m → m ≤ 4096 → i < 65536 → Position (doubleLine n m f i)
+  double-position : (n m : ℕ) → 0 < n → n < m → m ≤ longestWindow → i < longestSeries → Position (doubleLine n m f i)
   unfolding doubleLine
   double-position n m N L M l =
       from-bar-holds Position (m - 1) _ i (inr (inr refl))
@@ -81,7 +82,7 @@ module _ (f : Line) (i : ℕ) (h : Bounded (2 ^ 30) f i) where
       let gap : AtMost (2 ^ 48) (sub binary64 (runningMean n f i) (runningMean m f i)) = sub-at-most short long (omega arith) in
       sign-position gap)
 
-  mid-position : (n : ℕ) → 0 < n → n ≤ 4096 → Position (midLine n f i)
+  mid-position : (n : ℕ) → 0 < n → n ≤ longestWindow → Position (midLine n f i)
   unfolding midLine
   mid-position n N M =
       let average = mean n f i in

@@ -19,6 +19,7 @@ use Rattle.cells.proofs.Written.{getD-written}
 use Rattle.cells.specs.Line.{Line, line}
 use Rattle.values.proofs.Ticks.{ticked}
 use Rattle.exact_ticks.proofs.Exact.{TickLine}
+use Rattle.limits.specs.Limits.{longestWindow}
 
 -- each is an f64, and a whole tick: a whole number from -16,777,216 to 16,777,216, and not -0.0
 pub record WholeTicks (s : List Float) : Type 0 where
@@ -44,7 +45,7 @@ whole-ticks {s} w = record {
 
 pub record Bar (n : ℕ) (s out₁ : List Float) (f : Line) (i : ℕ) : Type 0 where
   pub some : 0 < n
-  pub narrow : n ≤ 4096
+  pub narrow : n ≤ longestWindow
   pub inside : i < length s
   pub cell : getD out₁ i nan ≡ f i
 

@@ -6,8 +6,8 @@ use Rattle.rules_double.specs.Double.{runningMean}
 use Rattle.exact_ticks.proofs.Bounds.{AtMost, Bounded, div-at-most, running-bounded}
 
 -- windows of accepted prices, or of their means
-module _ (n : ℕ) (N : 0 < n) (M : n ≤ 4096) (f : Line) (i : ℕ) (h : Bounded (2 ^ 30) f i) where
+module _ (n : ℕ) (N : 0 < n) (M : n ≤ 2 ^ 12) (f : Line) (i : ℕ) (h : Bounded (2 ^ 30) f i) where
   -- of at most 65,536 bars
-  pub running-mean-bounded : n ≤ i + 1 → i < 65536 → AtMost (2 ^ 47) (runningMean n f i)
+  pub running-mean-bounded : n ≤ i + 1 → i < 2 ^ 16 → AtMost (2 ^ 47) (runningMean n f i)
   unfolding runningMean
   running-mean-bounded b l = div-at-most (running-bounded (2 ^ 30) f i h n (i + 1 - n) (omega arith)) n (omega arith)

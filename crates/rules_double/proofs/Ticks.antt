@@ -1,7 +1,7 @@
 -- The two-average rule on whole ticks is decided exactly. Assumes nothing.
 use mathlib.Core.Path.{_≡_}
 use mathlib.Core.Bool.{cond}
-use Prim.Native.Nat.{ℕ, _+_, _-_, _<_, _≤_}
+use Prim.Native.Nat.{ℕ, _+_, _-_, _<_, _≤_, _^_}
 use native.Mathlib.Omega.{arith}
 use lib.IntN.{ℤ, pos, negℤ, natAbs, _+ℤ_, _*ℤ_, +ℤ-assoc}
 use lib.Signed.{ltZ}
@@ -26,12 +26,12 @@ subtract-slides = record {
 }
 
 module _ {l : ℕ} {f : Line} {t : ℕ → ℤ} (w : TickLine l f t) where
-  running-mean-exact : (n i : ℕ) → 0 < n → n ≤ 4096 → n ≤ i + 1 → i < l → runningMean n f i ≡ quotient binary64 (windowTotal n t i) n
+  running-mean-exact : (n i : ℕ) → 0 < n → n ≤ 2 ^ 12 → n ≤ i + 1 → i < l → runningMean n f i ≡ quotient binary64 (windowTotal n t i) n
   unfolding runningMean
   running-mean-exact n i N M b h = rw (running-exact w subtract-slides n (i + 1 - n) N M (omega arith))
 
   -- +1 exactly when m times the last n prices' sum is at least n times the last m prices' sum, else -1
-  pub double-exact : (n m i : ℕ) → 0 < n → n < m → m ≤ 4096 → m ≤ i + 1 → i < l
+  pub double-exact : (n m i : ℕ) → 0 < n → n < m → m ≤ 2 ^ 12 → m ≤ i + 1 → i < l
       → doubleLine n m f i ≡ cond (ltZ (windowTotal n t i *ℤ pos m) (windowTotal m t i *ℤ pos n)) minusOne plusOne
   unfolding doubleLine
   double-exact n m i N L M b h =

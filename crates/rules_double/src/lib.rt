@@ -1,6 +1,7 @@
 // The double rule: how its answer is found and its cells are written.
 use calls::Answer;
 use calls::Refusal;
+use limits::LONGEST_WINDOW;
 ghost use mathlib.Core.Path.{_≡_};
 ghost use mathlib.Core.List.{[], _∷_};
 ghost use Prim.Native.Nat.{_+_, _<_, _≤_};
@@ -15,10 +16,11 @@ ghost use Rattle.windows.specs.Window.{addThenSubtract};
 ghost use Rattle.windows.specs.inner.Sums.{Running};
 ghost use Rattle.rules_double.specs.Double.{doubleLine, doubleAnswer};
 ghost use Rattle.rules_double.specs.inner.Stages.{Started, crossing};
+ghost use Rattle.limits.specs.Limits.{longestWindow};
 
 // The sign of the short average less the long one, from the sums of n and of m prices.
 fn cross(short: f64, n: usize, long: f64, m: usize) -> f64
-    requires { ⌜ (n ≤ 4096) × (m ≤ 4096) ⌝ }
+    requires { ⌜ (n ≤ longestWindow) × (m ≤ longestWindow) ⌝ }
     ensures { λ r. ⌜ r ≡ crossing n m short long ⌝ }
 {
     rounding::sign(short / (n as f64) - long / (m as f64))
@@ -26,7 +28,7 @@ fn cross(short: f64, n: usize, long: f64, m: usize) -> f64
 
 // The running sum of the n bars before bar i.
 fn running_sum(series: &[f64], n: usize, i: usize) -> f64
-    requires { ⌜ (0 < n) × (n ≤ 4096) × (n ≤ i) × (i ≤ length (now series)) ⌝ }
+    requires { ⌜ (0 < n) × (n ≤ longestWindow) × (n ≤ i) × (i ≤ length (now series)) ⌝ }
     ensures { λ r. ⌜ Running addThenSubtract n (line (now (series .entry))) i r ⌝ }
 {
     let mut sum = windows::sum_at(series, n, n - 1);
@@ -57,7 +59,7 @@ fn write_crossings(series: &[f64], n: usize, m: usize, out: &mut [f64])
 
 // Writes each bar's position.
 pub fn write_double(series: &[f64], n: usize, m: usize, out: &mut [f64])
-    requires { ⌜ (0 < n) × (n < m) × (m ≤ 4096) × (length (now series) ≤ length (now out)) ⌝ }
+    requires { ⌜ (0 < n) × (n < m) × (m ≤ longestWindow) × (length (now series) ≤ length (now out)) ⌝ }
     ensures { λ _. ⌜ Writing (length (now (series .entry))) (doubleLine n m (line (now (series .entry)))) (now (out .entry)) (now (out .exit)) ⌝ }
 {
     let first = cells::fill_lead(out, m - 1, series.len(), 0.0);
@@ -70,10 +72,10 @@ pub fn write_double(series: &[f64], n: usize, m: usize, out: &mut [f64])
 fn check_windows(bars: usize, n: usize, m: usize) -> Answer
     ensures { λ r. ⌜ r ≡ windowed bars (n ∷ m ∷ []) (unless (ltb n m) WindowsOutOfOrder (Cells bars)) ⌝ }
 {
-    if n > 4096 {
+    if n > LONGEST_WINDOW {
         return Answer::Refused(Refusal::WindowTooLong);
     }
-    if m > 4096 {
+    if m > LONGEST_WINDOW {
         return Answer::Refused(Refusal::WindowTooLong);
     }
     if bars == 0 {

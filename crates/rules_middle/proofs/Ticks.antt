@@ -45,7 +45,7 @@ lt-times a b n N =
     (ltb-same (above a * n + below b * n) (above b * n + below a * n) (above a + below b) (above b + below a)
     (λ h. lt-of-mul-lt-mul-right n (omega arith)) (λ h. omega (arith, mul-lt-mul-of-pos-right h N)))
 
-module _ (n : ℕ) (M : n ≤ 4096) where
+module _ (n : ℕ) (M : n ≤ 2 ^ 12) where
   order : (a b : ℤ) → Small n a → Small n b → lt (quotient binary64 a n) (quotient binary64 b n) ≡ ltZ a b
   order a b v w = quotient-lt (v .whole) (w .whole) (products (natAbs a) (natAbs b) n n (v .size) (w .size) M M) ∙ lt-times a b n (v .whole .some)
 
@@ -105,7 +105,7 @@ times-cancel a b n N e =
     let y : below a ≡ below b = eq-of-mul-eq-mul-right n N (below a) (below b) (omega (arith, ap below e)) in
     parts-same a b (omega arith)
 
-module _ (n : ℕ) (N : 0 < n) (M : n ≤ 4096) where
+module _ (n : ℕ) (N : 0 < n) (M : n ≤ 2 ^ 12) where
   quotient-about : (a : ℤ) → Small n a → About binary64 (quotient binary64 a n) a n (n * 2 ^ 25)
   quotient-about a v = about-weaken (n * 2 ^ 25) (about-quotient (v .whole)) (omega (arith, v .size))
 
@@ -130,7 +130,7 @@ module _ (n : ℕ) (N : 0 < n) (M : n ≤ 4096) where
       ∙ ap (λ (t : Bool). cond t minusOne plusOne)
       (about-order p q (λ e. d (times-cancel (s *ℤ pos 2) (h +ℤ w) n N (sym (times-two s n) ∙ e))) (omega arith) ∙ ap (λ (z : ℤ). ltZ z ((h +ℤ w) *ℤ pos n)) (times-two s n) ∙ lt-times (s *ℤ pos 2) (h +ℤ w) n N)
 
-module _ {l : ℕ} {f : Line} {t : ℕ → ℤ} (w : TickLine l f t) (n : ℕ) (N : 0 < n) (M : n ≤ 4096) where
+module _ {l : ℕ} {f : Line} {t : ℕ → ℤ} (w : TickLine l f t) (n : ℕ) (N : 0 < n) (M : n ≤ 2 ^ 12) where
   window-small : (i : ℕ) → n ≤ i + 1 → i < l → Small n (windowTotal n t i)
   window-small i b h = record { whole = window-whole w n N M (i + 1 - n) (omega arith); size = window-total-size w n N M i b h }
 

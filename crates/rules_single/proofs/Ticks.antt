@@ -67,7 +67,7 @@ module _ {l : ℕ} {f : Line} {t : ℕ → ℤ} (w : TickLine l f t) (n : ℕ) (
 
   total-small : natAbs D ≤ 2 ^ 53
   total-small =
-      let d = total-size (windowTotal n t) (i + 1 - n) n (n * 16777216) (λ j m. window-size w (i + 1 - n + j + 1 - n) n (omega arith)) in
+      let d = total-size (windowTotal n t) (i + 1 - n) n (n * 2 ^ 24) (λ j m. window-size w (i + 1 - n + j + 1 - n) n (omega arith)) in
       omega (arith, square)
 
   total-exact : runs n (runs n f) i ≡ ofInt binary64 D

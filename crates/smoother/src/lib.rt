@@ -12,6 +12,7 @@ ghost use Rattle.smoother_table.specs.Coefficients.{coefficients};
 ghost use Rattle.smoother.specs.Smoother.{formula, smooth, smootherAnswer};
 ghost use Rattle.smoother.specs.inner.Stages.{Begun, Smoothed};
 ghost use Rattle.smoother_table.specs.Period.{wholePart};
+ghost use Rattle.limits.specs.Limits.{longestPeriod};
 
 // One cell, from the last three prices, the newest first, and the last two cells.
 pub fn step(c: Coefficients, p0: f64, p1: f64, p2: f64, us1: f64, us2: f64) -> f64
@@ -53,7 +54,7 @@ fn write_steps(price: &[f64], c: Coefficients, out: &mut [f64])
 
 // Writes the smoother's line of any series.
 pub fn write_smooth(price: &[f64], period: usize, out: &mut [f64])
-    requires { ⌜ (period ≤ 512) × (length (now price) ≤ length (now out)) ⌝ }
+    requires { ⌜ (period ≤ longestPeriod) × (length (now price) ≤ length (now out)) ⌝ }
     ensures { λ _. ⌜ Smoothed (coefficients period) (now (price .entry)) (now (out .entry)) (now (out .exit)) ⌝ }
 {
     if price.len() <= 4 {

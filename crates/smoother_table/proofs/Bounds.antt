@@ -14,6 +14,7 @@ use Rattle.rounding.specs.Leaves.{magnitudeOf}
 use Rattle.smoother_table.specs.Recorded.{a1Bits, b1Bits}
 use Rattle.smoother_table.specs.Coefficients.{power, a1Table, b1Table, a1Of, b1Of}
 use Rattle.smoother_table.specs.Bounds.{InBounds, inBounds}
+use Rattle.limits.specs.Limits.{longestPeriod}
 
 -- the test holds of each pair of entries
 everyPair : (Float → Float → Bool) → List Float → List Float → Bool
@@ -61,17 +62,17 @@ read a1 b1 e =
     let between = and-parts low high (and-parts (low && high) most e .0) in
     record { above-0 = between .0; below-1 = between .1; double = and-parts (low && high) most e .1 }
 
-long : (length a1Table ≡ 512) × (length b1Table ≡ 512)
+long : (length a1Table ≡ longestPeriod) × (length b1Table ≡ longestPeriod)
 unfolding a1Table b1Table a1Bits b1Bits
 long = (refl, refl)
 
-pub in-bounds : (period : ℕ) → 0 < period → period ≤ 512 → InBounds (a1Of period) (b1Of period)
+pub in-bounds : (period : ℕ) → 0 < period → period ≤ longestPeriod → InBounds (a1Of period) (b1Of period)
 unfolding a1Of b1Of
 in-bounds zero p h = absurd (not-suc-le-zero p)
 in-bounds (suc k) p h =
     read _ _ (pair-at inBounds a1Table b1Table bounds-computed k (rw (long .0) h) (rw (long .1) h))
 
-pub a1-rises : (period : ℕ) → 0 < period → period < 512 → lt (a1Of period) (a1Of (period + 1)) ≡ true
+pub a1-rises : (period : ℕ) → 0 < period → period < longestPeriod → lt (a1Of period) (a1Of (period + 1)) ≡ true
 unfolding a1Of
 a1-rises zero p h = absurd (not-suc-le-zero p)
 a1-rises (suc k) p h = rw add-one (rising-at plusZero a1Table rise-computed k (rw (long .0) h))

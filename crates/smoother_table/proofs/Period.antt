@@ -12,13 +12,14 @@ use lib.Ieee.Fits.{down-pos}
 use Rattle.cells.specs.Line.{plusZero}
 use Rattle.smoother_table.specs.Coefficients.{power}
 use Rattle.smoother_table.specs.Period.{isPeriod, wholePart}
+use Rattle.limits.specs.Limits.{longestPeriod}
 
 -- ---- a number from 0 to 512 can be cut to its whole part, and that is at most 512
 
 pub record Cut (x : Float) : Type 0 where
   pub above : T (lt (fin true 1 (pos 0)) x)
   pub below : T (lt x (fin false 1 (pos 64)))
-  pub small : wholePart x ≤ 512
+  pub small : wholePart x ≤ longestPeriod
 
 at-most : (a b : ℕ) (t : Bool) → ltb a b || (eqb a b && t) ≡ true → a ≤ b
 at-most a b t = go (ltb a b) (eqb a b) refl refl
@@ -52,7 +53,7 @@ cut (fin false m e) h l =
     wider : (n d : ℕ) → 0 < d → n * 1 ≤ 1 * 2 ^ 9 * d → n < 513 * d
     wider n d p q = omega arith
 
-    capped : (k : ℕ) → k < 513 → min k (2 ^ 64 - 1) ≤ 512
+    capped : (k : ℕ) → k < 513 → min k (2 ^ 64 - 1) ≤ longestPeriod
     capped k p = omega arith
 cut (fin true m e) h l =
     let n = m * up e in

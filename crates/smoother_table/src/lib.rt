@@ -1,10 +1,12 @@
 // The coefficients of the ultimate smoother, by its period.
 mod table;
 
+use limits::LONGEST_PERIOD_F64;
 ghost use mathlib.Core.Path.{_≡_};
 ghost use Prim.Native.Nat.{_≤_};
 ghost use Rattle.smoother_table.specs.Coefficients.{ofPair, coefficients};
 ghost use Rattle.smoother_table.specs.Period.{isPeriod};
+ghost use Rattle.limits.specs.Limits.{longestPeriod};
 
 // What the smoother's step needs of its period.
 pub struct Coefficients {
@@ -35,7 +37,7 @@ impl Coefficients {
 
     // The coefficients of a whole period.
     pub fn of_period(period: usize) -> Coefficients
-        requires { ⌜ period ≤ 512 ⌝ }
+        requires { ⌜ period ≤ longestPeriod ⌝ }
         ensures { λ r. ⌜ r ≡ coefficients period ⌝ }
     {
         if period == 0 {
@@ -55,7 +57,7 @@ pub fn is_period(x: f64) -> bool
     ensures { λ r. ⌜ r ≡ isPeriod x ⌝ }
 {
     if x >= 0.0 {
-        if x <= 512.0 {
+        if x <= LONGEST_PERIOD_F64 {
             return std::num::truncating_f64_to_u64(x) as f64 == x;
         }
     }

@@ -1,4 +1,8 @@
 // The tests of a call's values.
+use limits::LARGEST_TICK;
+use limits::LARGEST_TICK_BITS;
+use limits::LARGEST_VALUE;
+use limits::LARGEST_VALUE_BITS;
 ghost use mathlib.Core.Path.{_≡_};
 ghost use mathlib.Core.Bool.{not};
 ghost use Prim.Native.Nat.{_^_, _≤_};
@@ -9,13 +13,14 @@ ghost use Rattle.values.specs.Accepted.{within, accepted, tick, finite, 
 ghost use Rattle.rounding.specs.Leaves.{magnitudeOf};
 ghost use Rattle.values.specs.inner.Quick.{capped, NoneAbove, EachUpTo};
 ghost use Rattle.values.specs.inner.Fraction.{comesBack};
+ghost use Rattle.limits.specs.Limits.{valuePower};
 
 // Whether x lies within 2^30. A NaN does not.
 fn is_near(x: f64) -> bool
-    ensures { λ r. ⌜ r ≡ within 30 x ⌝ }
+    ensures { λ r. ⌜ r ≡ within valuePower x ⌝ }
 {
-    if x >= -1073741824.0 {
-        x <= 1073741824.0
+    if x >= -LARGEST_VALUE {
+        x <= LARGEST_VALUE
     } else {
         false
     }
@@ -33,7 +38,7 @@ pub fn is_tick(x: f64) -> bool
     ensures { λ r. ⌜ r ≡ tick x ⌝ }
 {
     let size = rounding::magnitude(x);
-    if size <= 16777216.0 {
+    if size <= LARGEST_TICK {
         let whole = std::num::truncating_f64_to_u64(size);
         if (whole as f64) == size {
             if x == 0.0 {
@@ -95,7 +100,7 @@ pub fn accepted_by(together: u64, s: &[f64]) -> bool
     requires { ⌜ NoneAbove together (now s) 0 (length (now s)) ⌝ }
     ensures { λ r. ⌜ r ≡ all accepted (now (s .entry)) ⌝ }
 {
-    if together <= 4742290407621132288 {
+    if together <= LARGEST_VALUE_BITS {
         true
     } else {
         each_accepted(s)
@@ -109,7 +114,7 @@ pub fn all_accepted(s: &[f64]) -> bool
 {
     let some = cells::smaller(s.len(), 16);
     let head = bits_together(s, 0, some);
-    if head <= 4742290407621132288 {
+    if head <= LARGEST_VALUE_BITS {
         accepted_by(head | bits_together(s, some, s.len()), s)
     } else {
         each_accepted(s)
@@ -128,7 +133,7 @@ fn is_tick_size(x: f64) -> bool
     ensures { λ r. ⌜ r ≡ tick (magnitudeOf x) ⌝ }
 {
     let size = rounding::magnitude(x);
-    (size <= 16777216.0) & is_whole(size)
+    (size <= LARGEST_TICK) & is_whole(size)
 }
 
 // Whether every number of s, where each lies from 0.0 to 2^24, is a whole tick. All are looked at, so that the loop takes several at a time.
@@ -169,7 +174,7 @@ pub fn all_ticks(s: &[f64]) -> bool
         return true;
     }
     if is_tick(s[0]) {
-        if bits_together(s, 0, s.len()) <= 4715268809856909312 {
+        if bits_together(s, 0, s.len()) <= LARGEST_TICK_BITS {
             return all_whole(s);
         }
         return each_tick(s);

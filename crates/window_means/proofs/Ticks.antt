@@ -2,7 +2,7 @@
 use mathlib.Core.Path.{_≡_, refl, sym, ap, _∙_}
 use mathlib.Core.Bool.{true}
 use mathlib.Core.List.{List, [], _∷_}
-use Prim.Native.Nat.{ℕ, zero, suc, _-_, _<_, _≤_, zero-le, suc-le-suc}
+use Prim.Native.Nat.{ℕ, zero, suc, _-_, _<_, _≤_, zero-le, suc-le-suc, _^_}
 use native.Mathlib.Nat.{not-suc-le-zero, le-of-suc-le-suc}
 use native.Mathlib.Omega.{arith}
 use lib.Dec.{T}
@@ -34,7 +34,7 @@ over-lead (suc r) (suc k) d f g (x ∷ old) h p q =
 
 -- On whole ticks the cells of `sma` are the means, but for those before the first whole window.
 pub means-of-ticks : (s : List Float) (n : ℕ) {r : ℕ} {old mid now : List Float} → ((i : ℕ) → T (fits binary64 (line s i))) → all tick s ≡ true
-    → Writing (length s) (smaLine n (line s)) old mid → Led (n - 1) (length s) plusZero r mid now → (0 < n) × (n ≤ 4096)
+    → Writing (length s) (smaLine n (line s)) old mid → Led (n - 1) (length s) plusZero r mid now → (0 < n) × (n ≤ 2 ^ 12)
     → Writing (length s) (mean n (line s)) old now
 unfolding mean
 means-of-ticks s n {r} {old} floats ticks v l (p, q) =

@@ -5,6 +5,7 @@ ghost use lib.ListN.{length};
 ghost use Rattle.cells.specs.Line.{line};
 ghost use Rattle.windows.specs.Window.{windowSum, mean};
 ghost use Rattle.windows.specs.inner.Eight.{Windows, SixteenOf, Eight, eachPlus, eachOver};
+ghost use Rattle.limits.specs.Limits.{longestWindow};
 
 // A number for each of eight bars side by side.
 pub struct Lanes {
@@ -81,7 +82,7 @@ pub fn sums_at(series: &[f64], n: usize, i: usize) -> Lanes
 
 // Each lane divided by n.
 pub fn divided(sums: Lanes, n: usize) -> Lanes
-    requires { ⌜ n ≤ 4096 ⌝ }
+    requires { ⌜ n ≤ longestWindow ⌝ }
     ensures { λ r. ⌜ r ≡ eachOver n sums ⌝ }
 {
     let count = n as f64;

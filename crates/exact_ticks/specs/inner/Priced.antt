@@ -6,12 +6,13 @@ use Prim.Native.Nat.{ℕ, _*_, _<_, _≤_}
 use lib.ListN.{length}
 use lib.Ieee.{Float}
 use Rattle.values.specs.Accepted.{accepted, all}
+use Rattle.limits.specs.Limits.{longestSeries, longestWindow}
 
 -- a window, room for the cells and in the work slice, and accepted prices
 pub record Priced (n : ℕ) (s : List Float) (out work : ℕ) : Type 0 where
   pub some : 0 < n
-  pub narrow : n ≤ 4096
-  pub short : length s ≤ 65536
+  pub narrow : n ≤ longestWindow
+  pub short : length s ≤ longestSeries
   pub out-long : length s ≤ out
   pub work-long : 8 * length s ≤ work
   pub values : all accepted s ≡ true

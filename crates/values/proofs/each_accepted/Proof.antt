@@ -10,6 +10,7 @@ use lib.Ieee.{Float, binary64, toBits}
 use Rattle.values.specs.Accepted.{within, accepted}
 use Rattle.values.proofs.Both.{Tested, none-tested, one-tested, all-tested}
 use Rattle.values.proofs.each_accepted.Statement.{statement}
+use Rattle.limits.specs.Limits.{valuePower}
 use Rattle.values.proofs.each_accepted.Tie as tie
 
 abbrev Inv-loop : tie.InvT-loop
@@ -19,7 +20,7 @@ abbrev μ-loop : tie.MeasureT-loop
 μ-loop s near₀ zeros₀ i₀ near zeros i = length s - i
 
 -- a value's two tests
-parts : (x : Float) (near : Bool) (bits : ℕ) → near ≡ within 30 x → eqb bits 0 ≡ not (eqb (toBits binary64 x) (2 ^ 63)) → accepted x ≡ near && eqb bits 0
+parts : (x : Float) (near : Bool) (bits : ℕ) → near ≡ within valuePower x → eqb bits 0 ≡ not (eqb (toBits binary64 x) (2 ^ 63)) → accepted x ≡ near && eqb bits 0
 unfolding accepted
 parts x near bits p q = rw (p, q)
 

@@ -7,6 +7,7 @@ use Rattle.cells.specs.Line.{line}
 use Rattle.cells.specs.Written.{Writing}
 use Rattle.windows.specs.declared.Lanes.{Lanes}
 use Rattle.windows.specs.Window.{mean}
+use Rattle.limits.specs.Limits.{longestWindow}
 
 -- the eight lanes, stored from cell i on
 abbrev pub storeEight : List Float → ℕ → Lanes → List Float
@@ -17,7 +18,7 @@ storeEight cells i r =
 -- the means before bar `from`, which is past the lead, stand in `now`, which has room for the rest
 pub record Begun (s : List Float) (n from : ℕ) (now : List Float) : Type 0 where
   pub some : 0 < n
-  pub short : n ≤ 4096
+  pub short : n ≤ longestWindow
   pub past-lead : min (n - 1) (length s) ≤ from
   pub inside : from ≤ length s
   pub room : length s ≤ length now

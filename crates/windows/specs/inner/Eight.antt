@@ -6,18 +6,19 @@ use Rattle.cells.specs.Line.{Line}
 use Rattle.windows.specs.declared.Lanes.{Lanes}
 use Rattle.windows.specs.Window.{over}
 use Rattle.windows.specs.declared.Sixteen.{Sixteen}
+use Rattle.limits.specs.Limits.{longestWindow}
 
 -- a whole window of n bars ends at each of `count` bars from i on
 pub record Windows (n i count bars : ℕ) : Type 0 where
   pub some : 0 < n
-  pub short : n ≤ 4096
+  pub short : n ≤ longestWindow
   pub full : n ≤ i + 1
   pub inside : i + count ≤ bars
 
 -- a window that is not empty, and a cell for each bar
 pub record WindowRoom (n bars cells : ℕ) : Type 0 where
   pub some : 0 < n
-  pub short : n ≤ 4096
+  pub short : n ≤ longestWindow
   pub room : bars ≤ cells
 
 -- the cells of a line at the eight bars from i on

@@ -1,0 +1,2 @@
+-- The limits of a call.
+pub mod Limits
