@@ -1,5 +1,5 @@
 -- What the functions under the averages ask of each other. Assumes nothing.
-use mathlib.Core.Path.{_≡_, refl, sym, _∙_}
+use mathlib.Core.Path.{_≡_, refl}
 use mathlib.Core.Bool.{Bool, true, false}
 use mathlib.Core.List.{List, [], _∷_}
 use Prim.Native.Nat.{ℕ, _+_, _-_, _<_, _≤_}
@@ -9,8 +9,8 @@ use lib.Ieee.{Float, nan}
 use Rattle.calls.specs.declared.Answer.{Answer}
 use Rattle.calls.specs.declared.Answer.the-variants.{Cells, Refused}
 use Rattle.calls.specs.declared.Refusal.the-variants.{ValueNotAccepted}
-use Rattle.calls.specs.Answer.{unless, answered}
-use Rattle.calls.proofs.Room.{room, opened}
+use Rattle.calls.specs.Answer.{unless, answered, countOf}
+use Rattle.calls.proofs.Room.{room, answered-room, answered-windows}
 use Rattle.calls.specs.Call.{Call}
 use Rattle.calls.proofs.Call.{refused, counted}
 use Rattle.cells.specs.Line.{Line, line}
@@ -18,7 +18,7 @@ use Rattle.cells.proofs.Line.{from-bar}
 use Rattle.cells.specs.inner.Leads.{Led}
 use Rattle.cells.proofs.Leads.{lead-stands}
 use Rattle.cells.specs.Written.{Writing}
-use Rattle.cells.proofs.Written.{none-written, step, ends, then-written}
+use Rattle.cells.proofs.Written.{step, then-written}
 use Rattle.windows.specs.Window.{windowSum, over, addDifference}
 use Rattle.windows.specs.inner.Sums.{Running}
 use Rattle.windows.proofs.Window.{first-running}
@@ -57,18 +57,10 @@ module _ (s : List Float) {t : Bool} (e : t ≡ all accepted s) where
 
 -- ---- a call with one window
 
-module _ (ok : Float → Bool) (s : List Float) (n out : ℕ) {r : Answer} {k : ℕ} (e : r ≡ answered ok s (n ∷ []) out []) (q : r ≡ Cells k) where
-  -- where there are cells to be written, there is room for them, and a window
-  pub window-room : 0 < k → WindowRoom n (length s) out
-  window-room h =
-      let o = opened ok s n out [] k (sym e ∙ q) h in
-      record { some = o .some; short = o .narrow; room = room ok s (n ∷ []) out [] k (sym e ∙ q) .out-long }
-
-  -- and they are all written
-  pub all-called : {A : Type 0} {f : ℕ → A} {old now : List A} → 0 < k → Writing (length s) f old now
-      → Call (answered ok s (n ∷ []) out []) f old (Cells k) now
-  all-called h w = counted (sym q ∙ e) (ends w (sym (opened ok s n out [] k (sym e ∙ q) h .whole)))
-
-  -- no cells
-  pub none-called : {A : Type 0} {f : ℕ → A} {old : List A} → k ≤ 0 → Call (answered ok s (n ∷ []) out []) f old (Cells k) old
-  none-called h = counted (sym q ∙ e) (ends none-written (omega arith))
+-- where there are cells to be written, there is room for them, and a window
+pub window-room : (ok : Float → Bool) (s : List Float) (n out : ℕ) {r : Answer} → r ≡ answered ok s (n ∷ []) out [] → 0 < countOf r
+    → WindowRoom n (length s) out
+window-room ok s n out e h = record {
+  window = answered-windows ok s (n ∷ []) out [] e h .0;
+  room = answered-room ok s (n ∷ []) out [] e h .out-long;
+}

@@ -14,8 +14,7 @@ ghost use Rattle.calls.specs.Call.{Call};
 ghost use Rattle.cells.specs.Line.{Line, line, fromBar};
 ghost use Rattle.cells.specs.inner.Leads.{Led};
 ghost use Rattle.cells.specs.Written.{Writing};
-ghost use Rattle.windows.specs.inner.Eight.{WindowRoom};
-ghost use Rattle.averages.specs.Sma.{smaLine};
+ghost use Rattle.averages.specs.Sma.{smaLine, SmaCall};
 ghost use Rattle.averages.specs.inner.Stages.{Sliding, First, Summed};
 
 // What is found on the way through a series: the bits of the prices together, and a sum or a cell.
@@ -81,18 +80,6 @@ fn write_means(series: &[f64], n: usize, sum: f64, out: &mut [f64])
     slide_means(series, n, sum, out);
 }
 
-// Writes the cells of `sma`.
-pub fn write_sma(series: &[f64], n: usize, out: &mut [f64])
-    requires { ⌜ WindowRoom n (length (now series)) (length (now out)) ⌝ }
-    ensures { λ _. ⌜ Writing (length (now (series .entry))) (smaLine n (line (now (series .entry)))) (now (out .entry)) (now (out .exit)) ⌝ }
-{
-    if n <= series.len() {
-        write_means(series, n, windows::sum_at(series, n, n - 1), out);
-    } else {
-        fill_nan(out, n - 1, series.len());
-    }
-}
-
 // The answer of a call whose window does not fit: where cells are due, the bars end before the window does, and all are NaN.
 pub fn answer_lead(series: &[f64], n: usize, out: &mut [f64]) -> Answer
     requires { ⌜ windowFits (length (now series)) n (length (now out)) ≡ false ⌝ }
@@ -100,18 +87,15 @@ pub fn answer_lead(series: &[f64], n: usize, out: &mut [f64]) -> Answer
         (now (out .entry)) r (now (out .exit))) ⌝ }
 {
     let due = checks::answer_window(series, n, out.len());
-    if let Answer::Cells(count) = due {
-        if count > 0 {
-            fill_nan(out, n - 1, series.len());
-        }
+    if calls::has_cells(due) {
+        fill_nan(out, n - 1, series.len());
     }
     due
 }
 
 // The mean of the last n prices: TA-Lib's SMA.
 pub fn sma(series: &[f64], n: usize, out: &mut [f64]) -> Answer
-    ensures { λ r. ⌜ Call (answered accepted (now (series .entry)) (n ∷ []) (length (now (out .entry))) []) (smaLine n (line (now (series .entry))))
-        (now (out .entry)) r (now (out .exit)) ⌝ }
+    ensures { λ r. ⌜ SmaCall (now (series .entry)) n (now (out .entry)) r (now (out .exit)) ⌝ }
 {
     if checks::window_fits(series.len(), n, out.len()) {
         let sum = sum_first(series, n);

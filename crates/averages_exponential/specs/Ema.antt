@@ -1,11 +1,17 @@
 -- What each average answers and writes. Assumes nothing.
+use mathlib.Core.List.{List, [], _∷_}
 use Prim.Native.Nat.{ℕ, _+_, _-_}
 use lib.IntN.{pos}
 use lib.Ieee.{Float, binary64, div, ofInt}
-use Rattle.cells.specs.Line.{Line}
+use lib.ListN.{length}
+use Rattle.cells.specs.Line.{Line, line}
 use Rattle.windows.specs.Window.{mean}
 use Rattle.averages_exponential.specs.Blend.{smoothLine}
 use Rattle.rounding.specs.Leaves.{two}
+use Rattle.calls.specs.Answer.{answered}
+use Rattle.calls.specs.Call.{Call}
+use Rattle.calls.specs.declared.Answer.{Answer}
+use Rattle.values.specs.Accepted.{accepted}
 
 -- 2 / (n + 1)
 abbrev pub emaAlpha : ℕ → Float
@@ -14,3 +20,7 @@ emaAlpha n = div binary64 two (ofInt binary64 (pos (n + 1)))
 -- TA-Lib's EMA: the seed is the mean of the first n, at bar n - 1
 abbrev pub emaLine : ℕ → Line → Line
 emaLine n f = smoothLine (emaAlpha n) (n - 1) (mean n f (n - 1)) f
+
+-- what a call of `ema` promises
+abbrev pub EmaCall : List Float → ℕ → List Float → Answer → List Float → Type 0
+EmaCall s n out₀ = Call (answered accepted s (n ∷ []) (length out₀) []) (emaLine n (line s)) out₀

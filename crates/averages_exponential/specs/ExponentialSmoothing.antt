@@ -8,8 +8,9 @@ use Rattle.calls.specs.declared.Answer.{Answer}
 use Rattle.calls.specs.declared.Answer.the-variants.{Cells}
 use Rattle.values.specs.Accepted.{accepted, finite}
 use Rattle.calls.specs.Answer.{checked, andThen, unless}
-use Rattle.cells.specs.Line.{Line}
+use Rattle.cells.specs.Line.{Line, line}
 use Rattle.averages_exponential.specs.Blend.{smoothLine}
+use Rattle.calls.specs.Call.{Call}
 
 -- the seed is the first value
 abbrev pub exponentialLine : Float → Line → Line
@@ -18,3 +19,7 @@ exponentialLine alpha f = smoothLine alpha 0 (f 0) f
 -- refusals 1 to 5, then 6 for alpha; no bars give the empty answer
 unfoldable pub exponentialAnswer : List Float → Float → ℕ → Answer
 exponentialAnswer s alpha output = andThen (checked accepted (s ∷ []) (output ∷ []) []) (unless (finite alpha) ParameterNotFinite (Cells (length s)))
+
+-- what a call of `exponential_smoothing` promises
+abbrev pub ExponentialSmoothingCall : List Float → Float → List Float → Answer → List Float → Type 0
+ExponentialSmoothingCall s alpha out₀ = Call (exponentialAnswer s alpha (length out₀)) (exponentialLine alpha (line s)) out₀

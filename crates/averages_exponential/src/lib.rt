@@ -3,18 +3,17 @@ use averages::Found;
 use calls::Answer;
 use calls::Refusal;
 ghost use mathlib.Core.Path.{_≡_};
-ghost use mathlib.Core.List.{[], _∷_};
 ghost use Prim.Native.Nat.{_+_, _≤_};
 ghost use lib.ListN.{length};
 ghost use Rattle.values.specs.Accepted.{accepted, all};
 ghost use Rattle.calls.specs.declared.Refusal.the-variants.{ValueNotAccepted};
 ghost use Rattle.calls.specs.declared.Answer.the-variants.{Cells};
-ghost use Rattle.calls.specs.Answer.{unless, answered};
+ghost use Rattle.calls.specs.Answer.{unless};
 ghost use Rattle.calls.specs.Call.{Call};
 ghost use Rattle.cells.specs.Line.{line};
 ghost use Rattle.averages_exponential.specs.Blend.{blend, smoothLine};
-ghost use Rattle.averages_exponential.specs.Ema.{emaLine};
-ghost use Rattle.averages_exponential.specs.ExponentialSmoothing.{exponentialLine, exponentialAnswer};
+ghost use Rattle.averages_exponential.specs.Ema.{EmaCall};
+ghost use Rattle.averages_exponential.specs.ExponentialSmoothing.{ExponentialSmoothingCall};
 ghost use Rattle.averages_exponential.specs.inner.Blending.{Seeded, HalfWay, Middle, Smoothing, Smooth};
 
 // alpha of x and the rest of `last`.
@@ -94,8 +93,7 @@ fn answer_smooth(series: &[f64], alpha: f64, first: usize, seed: Found, out: &mu
 
 // The exponential mean with the weight 2 / (n + 1), from the mean of the first n prices on: TA-Lib's EMA.
 pub fn ema(series: &[f64], n: usize, out: &mut [f64]) -> Answer
-    ensures { λ r. ⌜ Call (answered accepted (now (series .entry)) (n ∷ []) (length (now (out .entry))) []) (emaLine n (line (now (series .entry))))
-        (now (out .entry)) r (now (out .exit)) ⌝ }
+    ensures { λ r. ⌜ EmaCall (now (series .entry)) n (now (out .entry)) r (now (out .exit)) ⌝ }
 {
     if checks::window_fits(series.len(), n, out.len()) {
         let sum = averages::sum_first(series, n);
@@ -111,8 +109,7 @@ pub fn ema(series: &[f64], n: usize, out: &mut [f64]) -> Answer
 
 // The exponential mean with the weight alpha, from the first price on.
 pub fn exponential_smoothing(series: &[f64], alpha: f64, out: &mut [f64]) -> Answer
-    ensures { λ r. ⌜ Call (exponentialAnswer (now (series .entry)) alpha (length (now (out .entry)))) (exponentialLine alpha (line (now (series .entry))))
-        (now (out .entry)) r (now (out .exit)) ⌝ }
+    ensures { λ r. ⌜ ExponentialSmoothingCall (now (series .entry)) alpha (now (out .entry)) r (now (out .exit)) ⌝ }
 {
     if checks::window_fits(series.len(), 1, out.len()) & values::is_finite(alpha) {
         let seed = Found {

@@ -22,12 +22,12 @@ module _ {size n share : ℕ} (h : Shared size n share) where
 
   pub sum-near : size ≤ 68719476736
   sum-near =
-      let b = h .short in
+      let b = h .window .narrow in
       let c = h .small in
       omega arith
 
   rest-below : (a : ℕ) → a % (2 * n) < 2 * n
-  rest-below a = mod-lt a (let p = h .some in omega arith)
+  rest-below a = mod-lt a (let p = h .window .some in omega arith)
 
   -- 2 * n shares are 2^38 and a little more
   shares : (274877906944 ≤ share * (2 * n)) × (share * (2 * n) ≤ 274877906944 + 2 * n)
@@ -52,7 +52,7 @@ module _ {size n share : ℕ} (h : Shared size n share) where
   at-most-one-more : guess ≤ whole + 1
   at-most-one-more =
       let s = sum-near in
-      let b = h .short in
+      let b = h .window .narrow in
       let l = below-two (2 * size + n) (2 * n) share 274877906944 whole (parts .1) (shares .1) (omega arith) in
       omega arith
 
@@ -73,7 +73,7 @@ module _ {size n share : ℕ} (h : Shared size n share) where
   pub product-fits : (2 * size + n) * share < 2 ^ 64
   product-fits =
       let s = shares in
-      let b = h .short in
+      let b = h .window .narrow in
       let c = h .small in
       let l : (2 * size + n) * 2 ≤ 2 * n * 33554433 = omega arith in
       let p = mul-le-mul-right share l in
@@ -82,6 +82,6 @@ module _ {size n share : ℕ} (h : Shared size n share) where
   pub back-fits : guess * (2 * n) < 2 ^ 64
   back-fits =
       let s = sum-near in
-      let b = h .short in
+      let b = h .window .narrow in
       let p = mul-le-mul-right (2 * n) at-most-one-more in
       omega (arith, parts .0)

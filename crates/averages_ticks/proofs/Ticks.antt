@@ -14,16 +14,14 @@ use mir.Val.{SFits}
 use Rattle.values.specs.Accepted.{tick, all}
 use Rattle.values.proofs.All.{and-parts, all-at}
 use Rattle.calls.specs.declared.Answer.{Answer}
-use Rattle.calls.specs.declared.Answer.the-variants.{Cells}
-use Rattle.calls.specs.Answer.{answered}
-use Rattle.calls.proofs.Room.{room}
+use Rattle.calls.specs.Answer.{answered, countOf}
+use Rattle.calls.proofs.Room.{room, answered-room, answered-windows}
 use Rattle.cells.specs.Line.{line}
 use Rattle.cells.proofs.Line.{before-bar, from-bar}
 use Rattle.values.proofs.Ticks.{ticked}
 use Rattle.cells.specs.Written.{Writing}
 use Rattle.cells.proofs.Written.{writing-same}
 use Rattle.averages_ticks.specs.TickMean.{toTick, tickMeanLine}
-use Rattle.averages.proofs.Stages.{window-room}
 use Rattle.rounding.specs.Whole.{total}
 use Rattle.rounding_laws.proofs.Integers.{total-size, total-slides}
 use Rattle.averages_ticks.proofs.Whole.{in-i64, held, kept}
@@ -108,8 +106,11 @@ unfolding tickMeanLine
 tick-cell n i r h = rw (r .is, from-bar (n - 1) (pos 0) _ i (omega arith))
 
 -- a call of whole ticks that was answered, where there are cells to be written
-pub tick-room : (s : List Float) (n out : ℕ) {r : Answer} {k : ℕ} → r ≡ answered tick s (n ∷ []) out [] → r ≡ Cells k → 0 < k → TickRoom s n out
-tick-room s n out {k = k} e q h =
-    let w = window-room tick s n out e q h in
-    let ticks : Ticks s = record { each = room tick s (n ∷ []) out [] k (sym e ∙ q) .values } in
-    record { some = w .some; short = w .short; room = w .room; ticks = ticks }
+pub tick-room : (s : List Float) (n out : ℕ) {r : Answer} → r ≡ answered tick s (n ∷ []) out [] → 0 < countOf r → TickRoom s n out
+tick-room s n out e h =
+    let facts = answered-room tick s (n ∷ []) out [] e h in
+    record {
+      window = answered-windows tick s (n ∷ []) out [] e h .0;
+      room = facts .out-long;
+      ticks = record { each = facts .values };
+    }

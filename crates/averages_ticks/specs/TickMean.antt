@@ -1,9 +1,15 @@
 -- What each average answers and writes. Assumes nothing.
+use mathlib.Core.List.{List, [], _∷_}
 use Prim.Native.Nat.{ℕ, suc, _+_, _-_, _*_, _/_}
 use lib.IntN.{ℤ, pos, negsuc, negℤ}
-use lib.Ieee.{toSigned}
+use lib.Ieee.{toSigned, Float}
+use lib.ListN.{length}
 use Rattle.rounding.specs.Whole.{total}
-use Rattle.cells.specs.Line.{Line, fromBar}
+use Rattle.cells.specs.Line.{Line, fromBar, line}
+use Rattle.calls.specs.Answer.{answered}
+use Rattle.calls.specs.Call.{Call}
+use Rattle.calls.specs.declared.Answer.{Answer}
+use Rattle.values.specs.Accepted.{tick}
 
 -- ---- tick_mean, our own: on whole numbers
 
@@ -19,3 +25,7 @@ toTick (negsuc a) n = negℤ (pos ((2 * suc a + n) / (2 * n)))
 -- the window's sum over n, and 0 before bar n - 1
 unfoldable pub tickMeanLine : ℕ → Line → ℕ → ℤ
 tickMeanLine n f = fromBar (n - 1) (pos 0) (λ i. toTick (tickSum f (i + 1 - n) n) n)
+
+-- what a call of `tick_mean` promises
+abbrev pub TickMeanCall : List Float → ℕ → List ℤ → Answer → List ℤ → Type 0
+TickMeanCall s n out₀ = Call (answered tick s (n ∷ []) (length out₀) []) (tickMeanLine n (line s)) out₀

@@ -1,16 +1,12 @@
 // The mean of whole ticks, on integers.
 use calls::Answer;
 ghost use mathlib.Core.Path.{_≡_};
-ghost use mathlib.Core.List.{[], _∷_};
 ghost use Prim.Native.Nat.{_+_, _-_, _*_, _/_, _<_, _≤_};
 ghost use lib.ListN.{length};
 ghost use lib.IntN.{natAbs};
-ghost use Rattle.values.specs.Accepted.{tick};
-ghost use Rattle.calls.specs.Answer.{answered};
-ghost use Rattle.calls.specs.Call.{Call};
 ghost use Rattle.cells.specs.Line.{line};
 ghost use Rattle.cells.specs.Written.{Writing};
-ghost use Rattle.averages_ticks.specs.TickMean.{toTick, tickMeanLine};
+ghost use Rattle.averages_ticks.specs.TickMean.{toTick, tickMeanLine, TickMeanCall};
 ghost use Rattle.averages_ticks.specs.inner.Share.{shareOf, Shared};
 ghost use Rattle.averages_ticks.specs.inner.Ticks.{TickRoom, LeadRoom, Summed, TickSliding};
 ghost use Rattle.limits.specs.Limits.{longestWindow};
@@ -100,14 +96,11 @@ fn write_tick_means(series: &[f64], n: usize, out: &mut [i64])
 
 // The mean of the last n whole ticks, to a whole tick.
 pub fn tick_mean(series: &[f64], n: usize, out: &mut [i64]) -> Answer
-    ensures { λ r. ⌜ Call (answered tick (now (series .entry)) (n ∷ []) (length (now (out .entry))) []) (tickMeanLine n (line (now (series .entry))))
-        (now (out .entry)) r (now (out .exit)) ⌝ }
+    ensures { λ r. ⌜ TickMeanCall (now (series .entry)) n (now (out .entry)) r (now (out .exit)) ⌝ }
 {
     let due = checks::answer_tick_window(series, n, out.len());
-    if let Answer::Cells(count) = due {
-        if count > 0 {
-            write_tick_means(series, n, out);
-        }
+    if calls::has_cells(due) {
+        write_tick_means(series, n, out);
     }
     due
 }

@@ -1,14 +1,17 @@
--- The contract of every call. `due` is the answer, f the line of the cells, r what came; 0 is at entry and 1 at exit. Assumes nothing.
-use mathlib.Core.Path.{_≡_}
+-- How a call meets its contract: where cells are due all of them are written, and else none. Assumes nothing.
+use mathlib.Core.Path.{_≡_, sym, _∙_}
 use mathlib.Core.List.{List}
-use Prim.Native.Nat.{ℕ, _*_}
-use lib.Ieee.{Float}
+use mathlib.Core.Bool.{Bool, false, true}
+use Prim.Native.Nat.{ℕ, _<_}
+use native.Mathlib.Omega.{arith}
+use borrow.Author.Tests.{ltb-false, ltb-true}
+use lib.Dec.{ltb}
 use Rattle.calls.specs.declared.Refusal.{Refusal}
 use Rattle.calls.specs.declared.Answer.{Answer}
 use Rattle.calls.specs.declared.Answer.the-variants.{Cells, Refused}
-use Rattle.cells.specs.Line.{plusZero}
 use Rattle.cells.specs.Written.{Writing}
-use Rattle.calls.specs.Call.{BandCall, Call, WorkCall}
+use Rattle.calls.specs.Answer.{countOf}
+use Rattle.calls.specs.Call.{Call}
 
 module _ {A : Type 0} {due : Answer} {f : ℕ → A} {out₀ : List A} where
   -- a refusal changes no cell
@@ -19,19 +22,29 @@ module _ {A : Type 0} {due : Answer} {f : ℕ → A} {out₀ : List A} where
   pub counted : {k : ℕ} {out₁ : List A} → Cells k ≡ due → Writing k f out₀ out₁ → Call due f out₀ (Cells k) out₁
   counted e o = record { answer = e; cells = o .is }
 
-  module _ {l : ℕ} {work₀ : List Float} where
-    pub work-refused : {r : Answer} {q : Refusal} → r ≡ due → r ≡ Refused q → WorkCall due f out₀ l work₀ r out₀ work₀
-    work-refused e q = record { answer = e; cells = rw q; work = rw q }
+  -- no cells
+  pub none-called : {r : Answer} → r ≡ due → countOf r ≡ 0 → Call due f out₀ r out₀
+  none-called e z = record { answer = e; cells = rw z }
 
-    pub work-counted : {k : ℕ} {out₁ : List A} {work₁ : List Float} → Cells k ≡ due
-        → Writing k f out₀ out₁ → Writing (8 * l) (λ i. plusZero) work₀ work₁ → WorkCall due f out₀ l work₀ (Cells k) out₁ work₁
-    work-counted e o w = record { answer = e; cells = o .is; work = w .is }
+-- a call that has cells has one for each of l bars
+abbrev pub AllBars : Answer → ℕ → Type 0
+AllBars due l = (k : ℕ) → due ≡ Cells k → 0 < k → k ≡ l
 
-    pub band-refused : {g h : ℕ → A} {upper₀ lower₀ : List A} {r : Answer} {q : Refusal} → r ≡ due → r ≡ Refused q
-        → BandCall due f out₀ g h upper₀ lower₀ l work₀ r out₀ upper₀ lower₀ work₀
-    band-refused e q = record { answer = e; middle = rw q; upper = rw q; lower = rw q; work = rw q }
+-- where there are cells, they are those of all bars
+pub all-counted : {due r : Answer} {l : ℕ} → AllBars due l → r ≡ due → 0 < countOf r → countOf r ≡ l
+all-counted {r = Cells k} whole e h = whole k (sym e) h
+all-counted {r = Refused q} whole e h = let none : 0 < 0 = h in absurd (omega arith)
 
-    pub band-counted : {g h : ℕ → A} {upper₀ lower₀ out₁ upper₁ lower₁ : List A} {k : ℕ} {work₁ : List Float} → Cells k ≡ due
-        → Writing k f out₀ out₁ → Writing k g upper₀ upper₁ → Writing k h lower₀ lower₁ → Writing (8 * l) (λ i. plusZero) work₀ work₁
-        → BandCall due f out₀ g h upper₀ lower₀ l work₀ (Cells k) out₁ upper₁ lower₁ work₁
-    band-counted e m u d w = record { answer = e; middle = m .is; upper = u .is; lower = d .is; work = w .is }
+-- all cells
+pub all-called : {A : Type 0} {due r : Answer} {l : ℕ} {f : ℕ → A} {out₀ out₁ : List A} → AllBars due l → r ≡ due → 0 < countOf r
+    → Writing l f out₀ out₁ → Call due f out₀ r out₁
+all-called whole e h w = record { answer = e; cells = rw (all-counted whole e h) (w .is) }
+
+-- ---- by the test of `has_cells`
+
+module _ (r : Answer) {t : Bool} (e : t ≡ ltb 0 (countOf r)) where
+  pub some-cells : t ≡ true → 0 < countOf r
+  some-cells h = ltb-true 0 (countOf r) (sym e ∙ h)
+
+  pub no-cells : t ≡ false → countOf r ≡ 0
+  no-cells h = let none = ltb-false 0 (countOf r) (sym e ∙ h) in omega arith

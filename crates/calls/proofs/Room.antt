@@ -19,16 +19,30 @@ use Rattle.calls.specs.declared.Refusal.the-variants.{
 }
 use Rattle.calls.specs.declared.Answer.{Answer}
 use Rattle.calls.specs.declared.Answer.the-variants.{Cells, Refused}
-use Rattle.values.specs.Accepted.{all}
+use Rattle.values.specs.Accepted.{finite, all}
 use Rattle.values.proofs.All.{and-true, and-parts}
-use Rattle.calls.specs.Answer.{countOf, first, unless, andThen, emptyIf, slices, checked, windowed, answered}
+use Rattle.calls.specs.Answer.{
+  countOf,
+  first,
+  unless,
+  andThen,
+  emptyIf,
+  slices,
+  checked,
+  anyZero,
+  limited,
+  unlessEmpty,
+  windowed,
+  answered,
+}
+use Rattle.calls.proofs.Call.{AllBars}
 use Rattle.calls.specs.inner.Fits.{windowFits, Fits}
 use Rattle.calls.specs.inner.Room.{AtLeast}
-use Rattle.limits.specs.Limits.{longestSeries, longestWindow}
+use Rattle.limits.specs.Limits.{longestSeries, longestWindow, longestPeriod, Window}
 
 -- ---- the table for one series
 
-or-false : (t : Bool) → t || false ≡ t
+pub or-false : (t : Bool) → t || false ≡ t
 or-false true = refl
 or-false false = refl
 
@@ -64,21 +78,18 @@ pub checked-one : (ok : Float → Bool) (s : List Float) (outputs work : List �
 unfolding checked
 checked-one ok s outputs work = rw (and-true (all ok s))
 
-pub windowed-one : (l n : ℕ) (next : Answer) → windowed l (n ∷ []) next ≡ unless (leb n longestWindow) WindowTooLong (emptyIf (eqb l 0 || eqb n 0) next)
+pub windowed-one : (l n : ℕ) (next : Answer)
+    → windowed l (n ∷ []) next ≡ unless (leb n longestWindow) WindowTooLong (emptyIf (eqb l 0 || eqb n 0) next)
 unfolding windowed
 windowed-one l n next = rw (and-true (leb n longestWindow), or-false (eqb n 0))
+
+-- ---- what is known where a count was answered
 
 pub record Room (ok : Float → Bool) (s : List Float) (out : ℕ) (work : List ℕ) : Type 0 where
   pub short : length s ≤ longestSeries
   pub out-long : length s ≤ out
   pub work-long : AtLeast (8 * length s) work
   pub values : all ok s ≡ true
-
--- a window of cells, and cells to be written: all of them
-pub record Open (l n k : ℕ) : Type 0 where
-  pub some : 0 < n
-  pub narrow : n ≤ longestWindow
-  pub whole : k ≡ l
 
 pub unless-cells : (t : Bool) (q : Refusal) (next : Answer) (k : ℕ) → unless t q next ≡ Cells k → (t ≡ true) × (next ≡ Cells k)
 unless-cells true q next k e = (refl, e)
@@ -126,24 +137,75 @@ checked-room ok s out work k e =
       values = unless-cells (all ok s) _ _ k (a .1) .0;
     }
 
--- a call with windows that was answered
-pub room : (ok : Float → Bool) (s : List Float) (windows : List ℕ) (out : ℕ) (work : List ℕ) (k : ℕ) → answered ok s windows out work ≡ Cells k
-    → Room ok s out work
-unfolding answered
-room ok s windows out work k e = checked-room ok s out work _ (andThen-cells _ _ k e .0)
+-- ---- the parameters
 
--- and its window, where there are cells to be written
-pub opened : (ok : Float → Bool) (s : List Float) (n out : ℕ) (work : List ℕ) (k : ℕ) → answered ok s (n ∷ []) out work ≡ Cells k → 0 < k
-    → Open (length s) n k
-unfolding answered
-opened ok s n out work k e h =
-    let l = length s in
-    let all-of-it = Cells l in
-    let t = andThen-cells (checked ok (s ∷ []) (out ∷ []) work) (windowed l (n ∷ []) all-of-it) k e in
-    let a = unless-cells (leb n longestWindow) _ _ k (sym (windowed-one l n all-of-it) ∙ t .1) in
-    let b = emptyIf-cells (eqb l 0 || eqb n 0) all-of-it k (a .1) h in
-    let c = or-parts (eqb l 0) (eqb n 0) (b .0) in
-    record { some = nonzero n (c .1); narrow = leb-true _ _ (a .0); whole = sym (same-count _ _ (b .1)) }
+-- each of the windows has a bar at least, and is not too long
+abbrev pub EachWindow : List ℕ → Type 0
+EachWindow [] = Unit {0}
+EachWindow (n ∷ ns) = Window n × EachWindow ns
+
+each-window : (ns : List ℕ) → all (λ n. leb n longestWindow) ns ≡ true → anyZero ns ≡ false → EachWindow ns
+each-window [] e z = tt
+each-window (n ∷ ns) e z =
+    let narrow = and-parts (leb n longestWindow) _ e in
+    let some = or-parts (eqb n 0) (anyZero ns) z in
+    (record { some = nonzero n (some .0); narrow = leb-true _ _ (narrow .0) }, each-window ns (narrow .1) (some .1))
+
+-- what is known of the parameters of a call of l bars that has cells, and what came after them
+pub record Asked (l : ℕ) (numbers : List Float) (windows periods : List ℕ) (next : Answer) (k : ℕ) : Type 0 where
+  pub finite-numbers : all finite numbers ≡ true
+  pub short-periods : all (λ n. leb n longestPeriod) periods ≡ true
+  pub some-periods : anyZero periods ≡ false
+  pub each : EachWindow windows
+  pub bars : 0 < l
+  pub rest : next ≡ Cells k
+
+pub asked : (l : ℕ) (numbers : List Float) (windows periods : List ℕ) (next : Answer) (k : ℕ)
+    → limited numbers windows periods (unlessEmpty l windows periods next) ≡ Cells k → 0 < k → Asked l numbers windows periods next k
+asked l numbers windows periods next k e h =
+    let a = unless-cells (all finite numbers) _ _ k e in
+    let b = unless-cells (all (λ n. leb n longestPeriod) periods) _ _ k (a .1) in
+    let c = unless-cells (all (λ n. leb n longestWindow) windows) _ _ k (b .1) in
+    let d = emptyIf-cells (anyZero periods || anyZero (l ∷ windows)) next k (c .1) h in
+    let some = or-parts (anyZero periods) _ (d .0) in
+    let bars = or-parts (eqb l 0) (anyZero windows) (some .1) in
+    record {
+      finite-numbers = a .0;
+      short-periods = b .0;
+      some-periods = some .0;
+      each = each-window windows (c .0) (bars .1);
+      bars = nonzero l (bars .0);
+      rest = d .1;
+    }
+
+-- ---- a call of one series with windows
+
+module _ (ok : Float → Bool) (s : List Float) (windows : List ℕ) (out : ℕ) (work : List ℕ) (k : ℕ) (e : answered ok s windows out work ≡ Cells k) where
+  -- it has room for its cells
+  pub room : Room ok s out work
+  unfolding answered
+  room = checked-room ok s out work _ (andThen-cells (checked ok (s ∷ []) (out ∷ []) work) _ k e .0)
+
+  -- and where there are cells to be written, windows
+  pub opened : 0 < k → Asked (length s) [] windows [] (Cells (length s)) k
+  unfolding answered windowed
+  opened h = asked (length s) [] windows [] (Cells (length s)) k (andThen-cells (checked ok (s ∷ []) (out ∷ []) work) _ k e .1) h
+
+-- it has a cell for each bar
+pub all-bars : (ok : Float → Bool) (s : List Float) (windows : List ℕ) (out : ℕ) (work : List ℕ) → AllBars (answered ok s windows out work) (length s)
+all-bars ok s windows out work k e h = sym (same-count _ _ (opened ok s windows out work k e h .rest))
+
+-- what is known where an answer has cells
+module _ (ok : Float → Bool) (s : List Float) (windows : List ℕ) (out : ℕ) (work : List ℕ) where
+  pub answered-room : {r : Answer} → r ≡ answered ok s windows out work → 0 < countOf r → Room ok s out work
+  answered-room {r = Cells k} e h = room ok s windows out work k (sym e)
+  answered-room {r = Refused q} e h = let none : 0 < 0 = h in absurd (omega arith)
+
+  pub answered-windows : {r : Answer} → r ≡ answered ok s windows out work → 0 < countOf r → EachWindow windows
+  answered-windows {r = Cells k} e h = opened ok s windows out work k (sym e) h .each
+  answered-windows {r = Refused q} e h = let none : 0 < 0 = h in absurd (omega arith)
+
+-- ---- a window that fits
 
 pub fits-parts : (bars n out : ℕ) → windowFits bars n out ≡ true → Fits bars n out
 unfolding windowFits
@@ -153,21 +215,20 @@ fits-parts bars n out e =
     let c = and-parts (ltb 0 n && leb n longestWindow) (leb n bars) (b .0) in
     let d = and-parts (ltb 0 n) (leb n longestWindow) (c .0) in
     record {
-      some = ltb-true _ _ (d .0);
-      narrow = leb-true _ _ (d .1);
+      window = record { some = ltb-true _ _ (d .0); narrow = leb-true _ _ (d .1) };
       inside = leb-true _ _ (c .1);
       short = leb-true _ _ (b .1);
       room = leb-true _ _ (a .1);
     }
 
 -- where it does not fit though all else is in order, the bars end before the window does
-pub none-fits : (bars n out : ℕ) → windowFits bars n out ≡ false → 0 < n → n ≤ longestWindow → bars ≤ longestSeries → bars ≤ out → bars < n
+pub none-fits : (bars n out : ℕ) → windowFits bars n out ≡ false → Window n → bars ≤ longestSeries → bars ≤ out → bars < n
 unfolding windowFits
-none-fits bars n out e p q r s = go (leb n bars) refl
+none-fits bars n out e w r s = go (leb n bars) refl
   where
     go : (t : Bool) → leb n bars ≡ t → bars < n
     go false f = leb-false _ _ f
-    go true f = absurd (true≢false (sym (rw (lt-ltb 0 n p, le-leb n longestWindow q, f, le-leb bars longestSeries r, le-leb bars out s)) ∙ e))
+    go true f = absurd (true≢false (sym (rw (lt-ltb 0 n (w .some), le-leb n longestWindow (w .narrow), f, le-leb bars longestSeries r, le-leb bars out s)) ∙ e))
 
 -- a count that is answered twice
 pub counted-twice : (t : Bool) (q : Refusal) (k : ℕ) → andThen (unless t q (Cells k)) (Cells k) ≡ unless t q (Cells k)
@@ -182,9 +243,9 @@ module _ (ok : Float → Bool) (s : List Float) (n out : ℕ) (f : windowFits (l
       rw (checked-one ok s (out ∷ []) [], slices-one (length s) out [], le-leb _ _ (h .short), le-leb _ _ (h .room))
 
   pub fits-answered : answered ok s (n ∷ []) out [] ≡ unless (all ok s) ValueNotAccepted (Cells (length s))
-  unfolding answered
+  unfolding answered windowed
   fits-answered =
       let h = fits-parts (length s) n out f in
       let bars : eqb (length s) 0 ≡ false = ne-eqb (length s) 0 (λ (e : length s ≡ 0). omega arith) in
       let some : eqb n 0 ≡ false = ne-eqb n 0 (λ (e : n ≡ 0). omega arith) in
-      rw (fits-checked, windowed-one (length s) n (Cells (length s)), le-leb _ _ (h .narrow), bars, some, counted-twice (all ok s))
+      rw (fits-checked, le-leb _ _ (h .window .narrow), bars, some, counted-twice (all ok s))

@@ -19,8 +19,8 @@ use Rattle.calls.specs.declared.Refusal.the-variants.{
 }
 use Rattle.calls.specs.declared.Answer.{Answer}
 use Rattle.calls.specs.declared.Answer.the-variants.{Cells, Refused}
-use Rattle.values.specs.Accepted.{all}
-use Rattle.limits.specs.Limits.{longestSeries, longestWindow}
+use Rattle.values.specs.Accepted.{finite, all}
+use Rattle.limits.specs.Limits.{longestSeries, longestWindow, longestPeriod}
 
 -- document 01's number of a refusal
 abbrev pub number : Refusal → ℕ
@@ -92,11 +92,24 @@ abbrev pub anyZero : List ℕ → Bool
 anyZero [] = false
 anyZero (n ∷ ns) = eqb n 0 || anyZero ns
 
--- Refusal 7 for integer windows, then the empty answer for no bars or a window of none, then what is next.
+-- Refusals 6 and 7, of the parameters: f64 parameters that are finite, and windows and smoother periods that are not too long.
+abbrev pub limited : List Float → List ℕ → List ℕ → Answer → Answer
+limited numbers windows periods next =
+    unless (all finite numbers) ParameterNotFinite
+    (unless (all (λ n. leb n longestPeriod) periods) WindowTooLong
+    (unless (all (λ n. leb n longestWindow) windows) WindowTooLong
+    next))
+
+-- The empty answer, for no bars, or a window or a period of none.
+abbrev pub unlessEmpty : ℕ → List ℕ → List ℕ → Answer → Answer
+unlessEmpty l windows periods next = emptyIf (anyZero periods || anyZero (l ∷ windows)) next
+
+-- Refusal 7 for integer windows, then the empty answer, then what is next.
 unfoldable pub windowed : ℕ → List ℕ → Answer → Answer
-windowed l windows next = unless (all (λ n. leb n longestWindow) windows) WindowTooLong (emptyIf (anyZero (l ∷ windows)) next)
+windowed l windows next = limited [] windows [] (unlessEmpty l windows [] next)
 
 -- A call of one series and of integer windows, with no condition of its own on them.
 unfoldable pub answered : (Float → Bool) → List Float → List ℕ → ℕ → List ℕ → Answer
 unfolding checked windowed
-answered ok s windows output work = andThen (checked ok (s ∷ []) (output ∷ []) work) (windowed (length s) windows (Cells (length s)))
+answered ok s windows output work =
+    andThen (checked ok (s ∷ []) (output ∷ []) work) (windowed (length s) windows (Cells (length s)))

@@ -1,5 +1,6 @@
 // What a call answers: a count of cells, or one of document 01's refusals.
 ghost use mathlib.Core.Path.{_≡_};
+ghost use lib.Dec.{ltb};
 ghost use Rattle.calls.specs.Answer.{number, refusalOf, countOf};
 
 pub enum Refusal {
@@ -54,4 +55,11 @@ pub fn count_of(answer: Answer) -> usize
         Answer::Cells(count) => count,
         Answer::Refused(_) => 0,
     }
+}
+
+// Whether an answer has cells.
+pub fn has_cells(answer: Answer) -> bool
+    ensures { λ r. ⌜ r ≡ ltb 0 (countOf answer) ⌝ }
+{
+    count_of(answer) > 0
 }

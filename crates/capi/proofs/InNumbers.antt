@@ -1,16 +1,47 @@
--- The contract of a call in numbers, as C programs see it: `due` is the answer, f the line of the cells; 0 is at entry and 1 at exit. Assumes nothing.
-use mathlib.Core.List.{List}
-use Prim.Native.Nat.{ℕ}
-use lib.Ieee.{Float}
+-- From a call to its numbers, and back. Assumes nothing.
+use mathlib.Core.Path.{_≡_, refl, sym, _∙_}
+use Prim.Native.Nat.{ℕ, zero, suc}
+use native.Mathlib.Omega.{arith}
+use Rattle.calls.specs.declared.Refusal.{Refusal}
+use Rattle.calls.specs.declared.Refusal.the-variants.{
+  SeriesTooLong,
+  LengthsDiffer,
+  OutputTooShort,
+  WorkTooShort,
+  ValueNotAccepted,
+  ParameterNotFinite,
+  WindowTooLong,
+  SeriesTooShort,
+  WindowsOutOfOrder,
+}
 use Rattle.calls.specs.declared.Answer.{Answer}
-use Rattle.calls.specs.Call.{Call, WorkCall}
+use Rattle.calls.specs.declared.Answer.the-variants.{Cells, Refused}
+use Rattle.calls.specs.Answer.{number, refusalOf, countOf}
 use Rattle.capi.specs.declared.CAnswer.{CAnswer}
-use Rattle.capi.specs.Numbers.{CCall, CWorkCall, Numbers}
+use Rattle.capi.specs.Numbers.{Numbers, InNumbers}
 
-module _ {A : Type 0} {due : Answer} {f : ℕ → A} {out₀ : List A} where
-  pub in-numbers : {a : Answer} {r : CAnswer} {out₁ : List A} → Call due f out₀ a out₁ → Numbers a r → CCall due f out₀ r out₁
-  in-numbers c n = record { numbers = rw (c .answer) at n; cells = rw (c .answer) at (c .cells) }
+pub told : {P : Answer → Type 0} {a : Answer} {r : CAnswer} → P a → Numbers a r → InNumbers P r
+told {a = a} c n = record { answer = a; call = c; numbers = n }
 
-  pub work-in-numbers : {l : ℕ} {work₀ : List Float} {a : Answer} {r : CAnswer} {out₁ : List A} {work₁ : List Float}
-      → WorkCall due f out₀ l work₀ a out₁ work₁ → Numbers a r → CWorkCall due f out₀ l work₀ r out₁ work₁
-  work-in-numbers c n = record { numbers = rw (c .answer) at n; cells = rw (c .answer) at (c .cells); work = rw (c .answer) at (c .work) }
+-- every refusal has a number other than 0
+numbered : (q : Refusal) → number q ≡ 0 → ⊥
+numbered SeriesTooLong e = omega arith
+numbered LengthsDiffer e = omega arith
+numbered OutputTooShort e = omega arith
+numbered WorkTooShort e = omega arith
+numbered ValueNotAccepted e = omega arith
+numbered ParameterNotFinite e = omega arith
+numbered WindowTooLong e = omega arith
+numbered SeriesTooShort e = omega arith
+numbered WindowsOutOfOrder e = omega arith
+
+answered-with : (a : Answer) → refusalOf a ≡ 0 → a ≡ Cells (countOf a)
+answered-with (Cells k) e = refl
+answered-with (Refused q) e = absurd (numbered q e)
+
+-- Refusal 0 says that the call was answered with as many cells as the count: its contract holds of that answer.
+pub accepted-call : {P : Answer → Type 0} {r : CAnswer} → InNumbers P r → r .refusal ≡ 0 → P (Cells (r .count))
+accepted-call {P} {r} c e =
+    let n = c .numbers in
+    let a : c .answer ≡ Cells (r .count) = answered-with (c .answer) (sym (n .refusal) ∙ e) ∙ rw (n .count) in
+    rw a at (c .call)

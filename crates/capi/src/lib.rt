@@ -1,22 +1,15 @@
 // The library as C functions: each calls the library's own and turns its answer into numbers. include/tegbalowu.h declares them.
 use calls::Answer;
-ghost use mathlib.Core.List.{[], _∷_};
-ghost use lib.ListN.{length};
-ghost use Rattle.values.specs.Accepted.{accepted, tick};
-ghost use Rattle.calls.specs.Answer.{checked, answered};
-ghost use Rattle.cells.specs.Line.{line};
-ghost use Rattle.averages.specs.Sma.{smaLine};
-ghost use Rattle.averages_exponential.specs.Ema.{emaLine};
-ghost use Rattle.averages_exponential.specs.ExponentialSmoothing.{exponentialLine, exponentialAnswer};
-ghost use Rattle.averages_ticks.specs.TickMean.{tickMeanLine};
-ghost use Rattle.smoother_table.specs.Coefficients.{coefficients};
-ghost use Rattle.smoother_table.specs.Period.{wholePart};
-ghost use Rattle.true_range.specs.TrueRange.{trueRangeLine};
-ghost use Rattle.smoother.specs.Smoother.{smooth, smootherAnswer};
-ghost use Rattle.rules_single.specs.Single.{singleLine};
-ghost use Rattle.rules_double.specs.Double.{doubleLine, doubleAnswer};
-ghost use Rattle.rules_middle.specs.Middle.{midLine};
-ghost use Rattle.capi.specs.Numbers.{Numbers, CCall, CWorkCall};
+ghost use Rattle.averages.specs.Sma.{SmaCall};
+ghost use Rattle.averages_exponential.specs.Ema.{EmaCall};
+ghost use Rattle.averages_exponential.specs.ExponentialSmoothing.{ExponentialSmoothingCall};
+ghost use Rattle.averages_ticks.specs.TickMean.{TickMeanCall};
+ghost use Rattle.true_range.specs.TrueRange.{TrueRangeCall};
+ghost use Rattle.smoother.specs.Smoother.{UltimateSmootherCall};
+ghost use Rattle.rules_single.specs.Single.{SingleCall};
+ghost use Rattle.rules_double.specs.Double.{DoubleCall};
+ghost use Rattle.rules_middle.specs.Middle.{MidCall};
+ghost use Rattle.capi.specs.Numbers.{Numbers, InNumbers};
 
 // An answer in numbers: the refusal, or 0, and how many cells were written.
 #[repr(C)]
@@ -36,16 +29,14 @@ fn numbers(answer: Answer) -> CAnswer
 
 #[no_mangle]
 pub extern "C" fn tegbalowu_sma(series: &[f64], n: usize, out: &mut [f64]) -> CAnswer
-    ensures { λ r. ⌜ CCall (answered accepted (now (series .entry)) (n ∷ []) (length (now (out .entry))) []) (smaLine n (line (now (series .entry))))
-        (now (out .entry)) r (now (out .exit)) ⌝ }
+    ensures { λ r. ⌜ InNumbers (λ a. SmaCall (now (series .entry)) n (now (out .entry)) a (now (out .exit))) r ⌝ }
 {
     numbers(averages::sma(series, n, out))
 }
 
 #[no_mangle]
 pub extern "C" fn tegbalowu_ema(series: &[f64], n: usize, out: &mut [f64]) -> CAnswer
-    ensures { λ r. ⌜ CCall (answered accepted (now (series .entry)) (n ∷ []) (length (now (out .entry))) []) (emaLine n (line (now (series .entry))))
-        (now (out .entry)) r (now (out .exit)) ⌝ }
+    ensures { λ r. ⌜ InNumbers (λ a. EmaCall (now (series .entry)) n (now (out .entry)) a (now (out .exit))) r ⌝ }
 {
     numbers(averages_exponential::ema(series, n, out))
 }
@@ -56,16 +47,14 @@ pub extern "C" fn tegbalowu_exponential_smoothing(
     alpha: f64,
     out: &mut [f64],
 ) -> CAnswer
-    ensures { λ r. ⌜ CCall (exponentialAnswer (now (series .entry)) alpha (length (now (out .entry)))) (exponentialLine alpha (line (now (series .entry))))
-        (now (out .entry)) r (now (out .exit)) ⌝ }
+    ensures { λ r. ⌜ InNumbers (λ a. ExponentialSmoothingCall (now (series .entry)) alpha (now (out .entry)) a (now (out .exit))) r ⌝ }
 {
     numbers(averages_exponential::exponential_smoothing(series, alpha, out))
 }
 
 #[no_mangle]
 pub extern "C" fn tegbalowu_tick_mean(series: &[f64], n: usize, out: &mut [i64]) -> CAnswer
-    ensures { λ r. ⌜ CCall (answered tick (now (series .entry)) (n ∷ []) (length (now (out .entry))) []) (tickMeanLine n (line (now (series .entry))))
-        (now (out .entry)) r (now (out .exit)) ⌝ }
+    ensures { λ r. ⌜ InNumbers (λ a. TickMeanCall (now (series .entry)) n (now (out .entry)) a (now (out .exit))) r ⌝ }
 {
     numbers(averages_ticks::tick_mean(series, n, out))
 }
@@ -76,9 +65,7 @@ pub extern "C" fn tegbalowu_ultimate_smoother(
     period: f64,
     out: &mut [f64],
 ) -> CAnswer
-    ensures { λ r. ⌜ CCall (smootherAnswer (now (price .entry)) period (length (now (out .entry))))
-        (smooth (coefficients (wholePart period)) (line (now (price .entry))))
-        (now (out .entry)) r (now (out .exit)) ⌝ }
+    ensures { λ r. ⌜ InNumbers (λ a. UltimateSmootherCall (now (price .entry)) period (now (out .entry)) a (now (out .exit))) r ⌝ }
 {
     numbers(smoother::ultimate_smoother(price, period, out))
 }
@@ -90,9 +77,7 @@ pub extern "C" fn tegbalowu_true_range(
     close_prev: &[f64],
     out: &mut [f64],
 ) -> CAnswer
-    ensures { λ r. ⌜ CCall (checked accepted (now (high .entry) ∷ now (low .entry) ∷ now («close_prev» .entry) ∷ []) (length (now (out .entry)) ∷ []) [])
-        (trueRangeLine (line (now (high .entry))) (line (now (low .entry))) (line (now («close_prev» .entry))))
-        (now (out .entry)) r (now (out .exit)) ⌝ }
+    ensures { λ r. ⌜ InNumbers (λ a. TrueRangeCall (now (high .entry)) (now (low .entry)) (now («close_prev» .entry)) (now (out .entry)) a (now (out .exit))) r ⌝ }
 {
     numbers(true_range::true_range(high, low, close_prev, out))
 }
@@ -104,10 +89,7 @@ pub extern "C" fn tegbalowu_single_sma_positions(
     out: &mut [f64],
     work: &mut [f64],
 ) -> CAnswer
-    ensures { λ r. ⌜ CWorkCall
-        (answered accepted (now (series .entry)) (n ∷ []) (length (now (out .entry))) (length (now (work .entry)) ∷ []))
-        (singleLine n (line (now (series .entry)))) (now (out .entry)) (length (now (series .entry))) (now (work .entry))
-        r (now (out .exit)) (now (work .exit)) ⌝ }
+    ensures { λ r. ⌜ InNumbers (λ a. SingleCall (now (series .entry)) n (now (out .entry)) (now (work .entry)) a (now (out .exit)) (now (work .exit))) r ⌝ }
 {
     numbers(rules::single_sma_positions(series, n, out, work))
 }
@@ -119,8 +101,7 @@ pub extern "C" fn tegbalowu_double_sma_positions(
     m: usize,
     out: &mut [f64],
 ) -> CAnswer
-    ensures { λ r. ⌜ CCall (doubleAnswer (now (series .entry)) n m (length (now (out .entry)))) (doubleLine n m (line (now (series .entry))))
-        (now (out .entry)) r (now (out .exit)) ⌝ }
+    ensures { λ r. ⌜ InNumbers (λ a. DoubleCall (now (series .entry)) n m (now (out .entry)) a (now (out .exit))) r ⌝ }
 {
     numbers(rules::double_sma_positions(series, n, m, out))
 }
@@ -132,10 +113,7 @@ pub extern "C" fn tegbalowu_mid_positions(
     out: &mut [f64],
     work: &mut [f64],
 ) -> CAnswer
-    ensures { λ r. ⌜ CWorkCall
-        (answered accepted (now (series .entry)) (n ∷ []) (length (now (out .entry))) (length (now (work .entry)) ∷ []))
-        (midLine n (line (now (series .entry)))) (now (out .entry)) (length (now (series .entry))) (now (work .entry))
-        r (now (out .exit)) (now (work .exit)) ⌝ }
+    ensures { λ r. ⌜ InNumbers (λ a. MidCall (now (series .entry)) n (now (out .entry)) (now (work .entry)) a (now (out .exit)) (now (work .exit))) r ⌝ }
 {
     numbers(rules::mid_positions(series, n, out, work))
 }

@@ -31,7 +31,7 @@ module _ {A : Type 0} {b bars r : ℕ} {d : A} {old mid : List A} (w : Led b bar
 
 -- ---- stages in one slice
 
-not-yet : {k : ℕ} {f : Line} {old now : List Float} (i : ℕ) → Writing k f old now → k ≤ i → line now i ≡ line old i
+pub not-yet : {k : ℕ} {f : Line} {old now : List Float} (i : ℕ) → Writing k f old now → k ≤ i → line now i ≡ line old i
 not-yet {k} {f} {old} i w h = rw (w .is) (getD-untouched k f old i nan h)
 
 -- a cell that the lead and the loop have not reached still holds what stood there

@@ -29,7 +29,7 @@ module _ {A : Type 0} where
   rows (suc a) k g f [] h = absurd (not-suc-le-zero h)
   rows (suc a) k g f (x ∷ old) h = rw suc-add (ap (λ (t : List A). g 0 ∷ t) (rows a k (λ i. g (suc i)) f old (le-of-suc-le-suc h)))
 
-  drop-written : (a : ℕ) (g : ℕ → A) (old : List A) → drop a (written a g old) ≡ drop a old
+  pub drop-written : (a : ℕ) (g : ℕ → A) (old : List A) → drop a (written a g old) ≡ drop a old
   drop-written zero g old = refl
   drop-written (suc a) g [] = refl
   drop-written (suc a) g (x ∷ old) = drop-written a (λ i. g (suc i)) old

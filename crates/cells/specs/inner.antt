@@ -2,3 +2,4 @@
 pub mod Kept
 pub mod Leads
 pub mod Rows
+pub mod Touched

@@ -5,14 +5,15 @@ use limits::LONGEST_SERIES;
 use limits::LONGEST_WINDOW;
 ghost use mathlib.Core.Path.{_≡_};
 ghost use mathlib.Core.List.{[], _∷_};
-ghost use Prim.Native.Nat.{_*_, min};
+ghost use Prim.Native.Nat.{_*_, min, _≤_};
 ghost use lib.Dec.{leb};
 ghost use lib.ListN.{length};
 ghost use Rattle.values.specs.Accepted.{accepted, tick, all};
-ghost use Rattle.calls.specs.Answer.{unless, andThen, slices, checked, windowed, answered};
+ghost use Rattle.calls.specs.Answer.{unless, andThen, slices, checked, windowed, answered, clearedOf, emptyIf};
 ghost use Rattle.calls.specs.inner.Fits.{windowFits};
 ghost use Rattle.calls.specs.declared.Answer.the-variants.{Cells};
 ghost use Rattle.calls.specs.declared.Refusal.the-variants.{WorkTooShort, ValueNotAccepted};
+ghost use Rattle.checks.specs.inner.Due.{CellsDue};
 
 // The first refusal by the lengths of a series and its output; else the series' length.
 fn check_lengths(bars: usize, out: usize) -> Answer
@@ -103,17 +104,48 @@ pub fn check_ticks(series: &[f64], out: usize) -> Answer
     check_tick_values(due, series)
 }
 
-// What one window makes of an answer of `bars` cells.
-fn check_window(bars: usize, n: usize) -> Answer
-    ensures { λ r. ⌜ r ≡ windowed bars (n ∷ []) (Cells bars) ⌝ }
+// Refused for this reason, unless the test holds.
+pub fn unless_refused(test: bool, reason: Refusal, next: Answer) -> Answer
+    ensures { λ r. ⌜ r ≡ unless test reason next ⌝ }
 {
-    if n > LONGEST_WINDOW {
-        return Answer::Refused(Refusal::WindowTooLong);
-    }
-    if n == 0 {
-        return Answer::Cells(0);
-    }
-    Answer::Cells(bars)
+    if test { next } else { Answer::Refused(reason) }
+}
+
+// The empty answer, where the test holds.
+pub fn empty_if(test: bool, next: Answer) -> Answer
+    ensures { λ r. ⌜ r ≡ emptyIf test next ⌝ }
+{
+    if test { Answer::Cells(0) } else { next }
+}
+
+// Refusal 7 and the empty answer for one window, then what is next.
+pub fn check_window(bars: usize, n: usize, next: Answer) -> Answer
+    ensures { λ r. ⌜ r ≡ windowed bars (n ∷ []) next ⌝ }
+{
+    let none = (bars == 0) | (n == 0);
+    unless_refused(
+        n <= LONGEST_WINDOW,
+        Refusal::WindowTooLong,
+        empty_if(none, next),
+    )
+}
+
+// The same for two windows.
+pub fn check_two_windows(bars: usize, n: usize, m: usize, next: Answer) -> Answer
+    ensures { λ r. ⌜ r ≡ windowed bars (n ∷ m ∷ []) next ⌝ }
+{
+    let narrow = (n <= LONGEST_WINDOW) & (m <= LONGEST_WINDOW);
+    let none = (bars == 0) | ((n == 0) | (m == 0));
+    unless_refused(narrow, Refusal::WindowTooLong, empty_if(none, next))
+}
+
+// The same for three windows.
+pub fn check_three_windows(bars: usize, a: usize, b: usize, c: usize, next: Answer) -> Answer
+    ensures { λ r. ⌜ r ≡ windowed bars (a ∷ b ∷ c ∷ []) next ⌝ }
+{
+    let narrow = (a <= LONGEST_WINDOW) & ((b <= LONGEST_WINDOW) & (c <= LONGEST_WINDOW));
+    let none = (bars == 0) | ((a == 0) | ((b == 0) | (c == 0)));
+    unless_refused(narrow, Refusal::WindowTooLong, empty_if(none, next))
 }
 
 // Whether a window is whole and all lengths are in order, so that only the values are left to be refused.
@@ -128,7 +160,8 @@ pub fn answer_window(series: &[f64], n: usize, out: usize) -> Answer
     ensures { λ r. ⌜ r ≡ answered accepted (now (series .entry)) (n ∷ []) out [] ⌝ }
 {
     let due = check(series, out);
-    let next = check_window(series.len(), n);
+    let bars = series.len();
+    let next = check_window(bars, n, Answer::Cells(bars));
     and_then(due, next)
 }
 
@@ -137,7 +170,8 @@ pub fn answer_window_with_work(series: &[f64], n: usize, out: usize, work: usize
     ensures { λ r. ⌜ r ≡ answered accepted (now (series .entry)) (n ∷ []) out (work ∷ []) ⌝ }
 {
     let due = check_with_work(series, out, work);
-    let next = check_window(series.len(), n);
+    let bars = series.len();
+    let next = check_window(bars, n, Answer::Cells(bars));
     and_then(due, next)
 }
 
@@ -146,7 +180,8 @@ pub fn answer_tick_window(series: &[f64], n: usize, out: usize) -> Answer
     ensures { λ r. ⌜ r ≡ answered tick (now (series .entry)) (n ∷ []) out [] ⌝ }
 {
     let due = check_ticks(series, out);
-    let next = check_window(series.len(), n);
+    let bars = series.len();
+    let next = check_window(bars, n, Answer::Cells(bars));
     and_then(due, next)
 }
 
@@ -230,4 +265,19 @@ pub fn check_channel(
     ensures { λ r. ⌜ r ≡ checked accepted (now (first .entry) ∷ now (second .entry) ∷ now (third .entry) ∷ []) (middle ∷ upper ∷ lower ∷ []) (work ∷ []) ⌝ }
 {
     check_three_with_work(first, second, third, shortest(middle, upper, lower), work)
+}
+
+// Whether cells are to be written, by the answer to a call of `bars` bars. It writes nothing but +0.0 to the work slice of an answer that has no cells.
+pub fn cells_due(due: Answer, bars: usize, work: &mut [f64]) -> bool
+    requires { ⌜ clearedOf due (8 * bars) ≤ length (now work) ⌝ }
+    ensures { λ r. ⌜ CellsDue due bars r (now (work .entry)) (now (work .exit)) ⌝ }
+{
+    let Answer::Cells(count) = due else {
+        return false;
+    };
+    if count > 0 {
+        return true;
+    }
+    cells::clear(work, 8 * bars);
+    false
 }

@@ -3,4 +3,5 @@ pub mod Blocks
 pub mod Extreme
 pub mod Order
 pub mod Part
+pub mod Parts
 pub mod Range

@@ -1,5 +1,4 @@
 -- What a user gets, as theorems about the definitions that the contracts cite. Each statement stands under one sentence.
-pub mod Calls
 pub mod NoLookAhead
 pub mod OnTicks
 pub mod Positions

@@ -21,11 +21,8 @@ use Rattle.rules_double.proofs.Open.{double-opened}
 use Rattle.rules_single.specs.Single.{singleLine}
 use Rattle.rules_double.specs.Double.{runningMean, doubleLine, doubleAnswer}
 use Rattle.rules_middle.specs.Middle.{midLine}
+use Rattle.rounding_laws.proofs.Bounds.{AtMost, add-at-most, div-at-most, sub-at-most}
 use Rattle.exact_ticks.proofs.Bounds.{
-  AtMost,
-  add-at-most,
-  div-at-most,
-  sub-at-most,
   from-bar-holds,
   Bounded,
   prices-bounded,

@@ -1,4 +1,5 @@
 pub mod About
+pub mod Bounds
 pub mod Error
 pub mod Integers
 pub mod Multiples

@@ -3,7 +3,8 @@ use Prim.Native.Nat.{ℕ, _+_, _-_, _^_, _<_, _≤_}
 use native.Mathlib.Omega.{arith}
 use Rattle.cells.specs.Line.{Line}
 use Rattle.rules_double.specs.Double.{runningMean}
-use Rattle.exact_ticks.proofs.Bounds.{AtMost, Bounded, div-at-most, running-bounded}
+use Rattle.rounding_laws.proofs.Bounds.{AtMost, div-at-most}
+use Rattle.exact_ticks.proofs.Bounds.{Bounded, running-bounded}
 
 -- windows of accepted prices, or of their means
 module _ (n : ℕ) (N : 0 < n) (M : n ≤ 2 ^ 12) (f : Line) (i : ℕ) (h : Bounded (2 ^ 30) f i) where

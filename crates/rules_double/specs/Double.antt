@@ -10,9 +10,10 @@ use Rattle.calls.specs.declared.Answer.{Answer}
 use Rattle.calls.specs.declared.Answer.the-variants.{Cells}
 use Rattle.values.specs.Accepted.{accepted}
 use Rattle.calls.specs.Answer.{checked, andThen, unless, windowed}
-use Rattle.cells.specs.Line.{Line, plusZero, fromBar}
+use Rattle.cells.specs.Line.{Line, plusZero, fromBar, line}
 use Rattle.rounding.specs.Leaves.{signOf}
 use Rattle.windows.specs.Window.{over, runningSum, addThenSubtract}
+use Rattle.calls.specs.Call.{Call}
 
 -- the average of n bars at bar i, by a running sum
 unfoldable pub runningMean : ℕ → Line → Line
@@ -28,3 +29,7 @@ doubleAnswer s n m output =
     andThen (checked accepted (s ∷ []) (output ∷ []) [])
     (windowed (length s) (n ∷ m ∷ [])
     (unless (ltb n m) WindowsOutOfOrder (Cells (length s))))
+
+-- what a call of `double_sma_positions` promises
+abbrev pub DoubleCall : List Float → ℕ → ℕ → List Float → Answer → List Float → Type 0
+DoubleCall s n m out₀ = Call (doubleAnswer s n m (length out₀)) (doubleLine n m (line s)) out₀

@@ -3,24 +3,19 @@ use calls::Answer;
 use calls::Refusal;
 use limits::LONGEST_WINDOW;
 ghost use mathlib.Core.Path.{_≡_};
-ghost use mathlib.Core.List.{[], _∷_};
 ghost use Prim.Native.Nat.{_+_, _<_, _≤_};
-ghost use lib.Dec.{ltb};
 ghost use lib.ListN.{length};
-ghost use Rattle.calls.specs.declared.Refusal.the-variants.{WindowsOutOfOrder};
-ghost use Rattle.calls.specs.declared.Answer.the-variants.{Cells};
-ghost use Rattle.calls.specs.Answer.{unless, windowed};
 ghost use Rattle.cells.specs.Line.{line};
 ghost use Rattle.cells.specs.Written.{Writing};
 ghost use Rattle.windows.specs.Window.{addThenSubtract};
 ghost use Rattle.windows.specs.inner.Sums.{Running};
 ghost use Rattle.rules_double.specs.Double.{doubleLine, doubleAnswer};
 ghost use Rattle.rules_double.specs.inner.Stages.{Started, crossing};
-ghost use Rattle.limits.specs.Limits.{longestWindow};
+ghost use Rattle.limits.specs.Limits.{Window};
 
 // The sign of the short average less the long one, from the sums of n and of m prices.
 fn cross(short: f64, n: usize, long: f64, m: usize) -> f64
-    requires { ⌜ (n ≤ longestWindow) × (m ≤ longestWindow) ⌝ }
+    requires { ⌜ Window n × Window m ⌝ }
     ensures { λ r. ⌜ r ≡ crossing n m short long ⌝ }
 {
     rounding::sign(short / (n as f64) - long / (m as f64))
@@ -28,7 +23,7 @@ fn cross(short: f64, n: usize, long: f64, m: usize) -> f64
 
 // The running sum of the n bars before bar i.
 fn running_sum(series: &[f64], n: usize, i: usize) -> f64
-    requires { ⌜ (0 < n) × (n ≤ longestWindow) × (n ≤ i) × (i ≤ length (now series)) ⌝ }
+    requires { ⌜ Window n × (n ≤ i) × (i ≤ length (now series)) ⌝ }
     ensures { λ r. ⌜ Running addThenSubtract n (line (now (series .entry))) i r ⌝ }
 {
     let mut sum = windows::sum_at(series, n, n - 1);
@@ -59,7 +54,7 @@ fn write_crossings(series: &[f64], n: usize, m: usize, out: &mut [f64])
 
 // Writes each bar's position.
 pub fn write_double(series: &[f64], n: usize, m: usize, out: &mut [f64])
-    requires { ⌜ (0 < n) × (n < m) × (m ≤ longestWindow) × (length (now series) ≤ length (now out)) ⌝ }
+    requires { ⌜ Window n × Window m × (n < m) × (length (now series) ≤ length (now out)) ⌝ }
     ensures { λ _. ⌜ Writing (length (now (series .entry))) (doubleLine n m (line (now (series .entry)))) (now (out .entry)) (now (out .exit)) ⌝ }
 {
     let first = cells::fill_lead(out, m - 1, series.len(), 0.0);
@@ -68,38 +63,13 @@ pub fn write_double(series: &[f64], n: usize, m: usize, out: &mut [f64])
     }
 }
 
-// What two windows make of an answer of `bars` cells: too long, none, out of order.
-fn check_windows(bars: usize, n: usize, m: usize) -> Answer
-    ensures { λ r. ⌜ r ≡ windowed bars (n ∷ m ∷ []) (unless (ltb n m) WindowsOutOfOrder (Cells bars)) ⌝ }
-{
-    if n > LONGEST_WINDOW {
-        return Answer::Refused(Refusal::WindowTooLong);
-    }
-    if m > LONGEST_WINDOW {
-        return Answer::Refused(Refusal::WindowTooLong);
-    }
-    if bars == 0 {
-        return Answer::Cells(0);
-    }
-    if n == 0 {
-        return Answer::Cells(0);
-    }
-    if m == 0 {
-        return Answer::Cells(0);
-    }
-    if n >= m {
-        return Answer::Refused(Refusal::WindowsOutOfOrder);
-    }
-    Answer::Cells(bars)
-}
-
 // The answer of `double_sma_positions`.
 pub fn answer_double(series: &[f64], n: usize, m: usize, out: usize) -> Answer
     ensures { λ r. ⌜ r ≡ doubleAnswer (now (series .entry)) n m out ⌝ }
 {
+    let bars = series.len();
     let due = checks::check(series, out);
-    if let Answer::Refused(_) = due {
-        return due;
-    }
-    check_windows(series.len(), n, m)
+    let order = checks::unless_refused(n < m, Refusal::WindowsOutOfOrder, Answer::Cells(bars));
+    let next = checks::check_two_windows(bars, n, m, order);
+    checks::and_then(due, next)
 }

@@ -15,7 +15,7 @@ use Rattle.cells.specs.inner.Rows.{beside}
 use Rattle.cells.specs.Written.{Writing}
 use Rattle.cells.proofs.Written.{writing-same}
 use Rattle.rules_middle.specs.Middle.{againstMiddle, midLine}
-use Rattle.exact_ticks.proofs.Stages.{part-is, part-long}
+use Rattle.cells.proofs.Parts.{part-is, part-long}
 
 pub causal-mid : (n : ℕ) → 0 < n → Causal (midLine n)
 unfolding midLine

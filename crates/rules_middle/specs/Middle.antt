@@ -1,12 +1,18 @@
 -- The three rules of the sheet: what each answers and writes. A position is the sign of a difference: +1 for +0.0 and above,
 -- -1 for -0.0 and below. Assumes nothing.
 use mathlib.Core.Bool.{cond, _||_}
+use mathlib.Core.List.{List, [], _∷_}
 use Prim.Native.Nat.{ℕ, _-_, _*_}
 use lib.Ieee.{Float, binary64, add, sub, div, eq}
-use Rattle.cells.specs.Line.{Line, plusZero, fromBar}
+use lib.ListN.{length}
+use Rattle.cells.specs.Line.{Line, plusZero, fromBar, line}
 use Rattle.rounding.specs.Leaves.{signOf, two}
 use Rattle.windows.specs.Window.{mean}
 use Rattle.extremes.specs.Extreme.{larger, smaller, extreme}
+use Rattle.calls.specs.Answer.{answered}
+use Rattle.calls.specs.Call.{WorkCall}
+use Rattle.calls.specs.declared.Answer.{Answer}
+use Rattle.values.specs.Accepted.{accepted}
 
 -- ---- mid_positions: the middle
 
@@ -20,3 +26,8 @@ unfoldable pub midLine : ℕ → Line → Line
 midLine n f =
     fromBar (2 * n - 2) plusZero
     (λ i. againstMiddle (mean n f i) (extreme larger n (mean n f) i) (extreme smaller n (mean n f) i))
+
+-- what a call of `mid_positions` promises
+abbrev pub MidCall : List Float → ℕ → List Float → List Float → Answer → List Float → List Float → Type 0
+MidCall s n out₀ work₀ =
+    WorkCall (answered accepted s (n ∷ []) (length out₀) (length work₀ ∷ [])) (midLine n (line s)) out₀ (length s) work₀

@@ -2,13 +2,14 @@
 ghost use mathlib.Core.Path.{_≡_};
 ghost use Prim.Native.Nat.{_+_, _*_, _<_, _≤_};
 ghost use lib.ListN.{length};
-ghost use Rattle.cells.specs.Line.{line, plusZero};
+ghost use Rattle.cells.specs.Line.{line};
 ghost use Rattle.cells.specs.Written.{Writing};
 ghost use Rattle.windows.specs.Window.{mean};
-ghost use Rattle.exact_ticks.specs.inner.Priced.{Priced};
 ghost use Rattle.rules_middle.specs.Middle.{againstMiddle, midLine};
-ghost use Rattle.exact_ticks.specs.inner.Stages.{Averaged};
+ghost use Rattle.window_means.specs.inner.Averaged.{Averaged};
 ghost use Rattle.rules_middle.specs.inner.Stages.{Ranges};
+ghost use Rattle.cells.specs.inner.Touched.{Touched};
+ghost use Rattle.checks.specs.inner.Due.{Priced};
 
 // The sign of a mean less half of highest plus lowest, 0 if either is 0.
 fn against_middle(average: f64, high: f64, low: f64) -> f64
@@ -25,7 +26,7 @@ fn against_middle(average: f64, high: f64, low: f64) -> f64
 
 // Writes the mean of each bar to `out`, and the highest and the lowest of the last n means to two rows of `work`.
 fn write_ranges(series: &[f64], n: usize, out: &mut [f64], work: &mut [f64])
-    requires { ⌜ Priced n (now series) (length (now out)) (length (now work)) ⌝ }
+    requires { ⌜ Priced 2 n (now series) (length (now out)) (length (now work)) ⌝ }
     ensures { λ _. ⌜ Writing (length (now (series .entry))) (mean n (line (now (series .entry)))) (now (out .entry)) (now (out .exit))
         × Ranges n (now (series .entry)) (now (work .entry)) (now (work .exit)) ⌝ }
 {
@@ -48,13 +49,12 @@ fn write_against_middles(series: &[f64], n: usize, out: &mut [f64], work: &[f64]
     }
 }
 
-// Writes each bar's position by way of `work`, which is cleared.
+// Writes each bar's position. The first two rows of `work` are used.
 pub fn write_mid(series: &[f64], n: usize, out: &mut [f64], work: &mut [f64])
-    requires { ⌜ Priced n (now series) (length (now out)) (length (now work)) ⌝ }
+    requires { ⌜ Priced 2 n (now series) (length (now out)) (length (now work)) ⌝ }
     ensures { λ _. ⌜ Writing (length (now (series .entry))) (midLine n (line (now (series .entry)))) (now (out .entry)) (now (out .exit))
-        × Writing (8 * length (now (series .entry))) (λ i. plusZero) (now (work .entry)) (now (work .exit)) ⌝ }
+        × Touched (2 * length (now (series .entry))) (now (work .entry)) (now (work .exit)) ⌝ }
 {
     write_ranges(series, n, out, work);
     write_against_middles(series, n, out, work);
-    cells::clear(work, 8 * series.len());
 }

@@ -4,15 +4,15 @@ ghost use mathlib.Core.Bool.{true};
 ghost use Prim.Native.Nat.{_+_, _*_, _<_, _≤_};
 ghost use lib.ListN.{length};
 ghost use Rattle.values.specs.Accepted.{tick, all};
-ghost use Rattle.cells.specs.Line.{line, plusZero};
+ghost use Rattle.cells.specs.Line.{line};
 ghost use Rattle.cells.specs.Written.{Writing};
-ghost use Rattle.windows.specs.inner.Eight.{WindowRoom};
 ghost use Rattle.windows.specs.Window.{mean};
-ghost use Rattle.exact_ticks.specs.inner.Priced.{Priced};
-ghost use Rattle.windows.specs.inner.Runs.{runs, Opening};
 ghost use Rattle.rules_single.specs.inner.Ticks.{tie, TickRows};
 ghost use Rattle.rules_single.specs.Single.{againstMean, singleLine};
-ghost use Rattle.exact_ticks.specs.inner.Stages.{Averaged};
+ghost use Rattle.window_means.specs.inner.Averaged.{Averaged};
+ghost use Rattle.cells.specs.inner.Touched.{Touched};
+ghost use Rattle.checks.specs.inner.Due.{Priced};
+ghost use Rattle.window_means.specs.inner.Ticks.{longTicks};
 
 // The sign of a price less its average, 0 where that average is 0.0.
 fn against_mean(price: f64, average: f64) -> f64
@@ -34,32 +34,6 @@ fn write_against_means(series: &[f64], n: usize, out: &mut [f64])
     while i < series.len() {
         out[i] = against_mean(series[i], out[i]);
         i += 1;
-    }
-}
-
-// Writes the running sums from bar n - 1 on, where the first n cells are summed afresh.
-fn slide_sums(series: &[f64], n: usize, sums: &mut [f64])
-    requires { ⌜ Opening n (now series) (now sums) ⌝ }
-    ensures { λ _. ⌜ Writing (length (now (series .entry))) (runs n (line (now (series .entry)))) (now (sums .entry)) (now (sums .exit)) ⌝ }
-{
-    let mut sum = windows::sum_at(series, n, n - 1);
-    let mut i = n - 1;
-    while i + 1 < series.len() {
-        sums[i] = sum;
-        i += 1;
-        sum = sum + (series[i] - series[i - n]);
-    }
-    sums[i] = sum;
-}
-
-// Writes the running sum of each bar's window, and 0.0 before the first whole one.
-fn write_sums(series: &[f64], n: usize, sums: &mut [f64])
-    requires { ⌜ WindowRoom n (length (now series)) (length (now sums)) ⌝ }
-    ensures { λ _. ⌜ Writing (length (now (series .entry))) (runs n (line (now (series .entry)))) (now (sums .entry)) (now (sums .exit)) ⌝ }
-{
-    let first = cells::fill_lead(sums, n - 1, series.len(), 0.0);
-    if first < series.len() {
-        slide_sums(series, n, sums);
     }
 }
 
@@ -100,47 +74,45 @@ fn write_tick_positions(series: &[f64], work: &[f64], n: usize, out: &mut [f64])
     }
 }
 
-// Writes each bar's position of whole ticks by way of `work`, which is cleared. Running sums are exact, and decide all but ties.
+// Writes each bar's position of whole ticks. Running sums are exact, and decide all but ties. Two rows of `work` are used.
 fn write_single_of_ticks(series: &[f64], n: usize, out: &mut [f64], work: &mut [f64])
-    requires { ⌜ Priced n (now series) (length (now out)) (length (now work)) ⌝ }
+    requires { ⌜ Priced 2 n (now series) (length (now out)) (length (now work)) ⌝ }
     requires { ⌜ (n ≤ 1022) × (all tick (now series) ≡ true) ⌝ }
     ensures { λ _. ⌜ Writing (length (now (series .entry))) (singleLine n (line (now (series .entry)))) (now (out .entry)) (now (out .exit))
-        × Writing (8 * length (now (series .entry))) (λ i. plusZero) (now (work .entry)) (now (work .exit)) ⌝ }
+        × Touched (2 * length (now (series .entry))) (now (work .entry)) (now (work .exit)) ⌝ }
 {
     let bars = series.len();
-    write_sums(series, n, out);
+    windows::write_sums(series, n, out);
     window_means::write_means_of_ticks(series, n, work);
-    write_sums(&out[..bars], n, &mut work[bars..]);
+    windows::write_sums(&out[..bars], n, &mut work[bars..]);
     write_tick_positions(series, work, n, out);
-    cells::clear(work, 8 * bars);
 }
 
-// Writes each bar's position of any prices by way of `work`, which is cleared.
-fn write_single_of_prices(series: &[f64], n: usize, out: &mut [f64], work: &mut [f64])
-    requires { ⌜ Priced n (now series) (length (now out)) (length (now work)) ⌝ }
+// Writes each bar's position by the means of the means. One row of `work` is used.
+fn write_single_of_means(series: &[f64], n: usize, ticks: bool, out: &mut [f64], work: &mut [f64])
+    requires { ⌜ Priced 2 n (now series) (length (now out)) (length (now work)) ⌝ }
+    requires { ⌜ ticks ≡ longTicks n (now series) ⌝ }
     ensures { λ _. ⌜ Writing (length (now (series .entry))) (singleLine n (line (now (series .entry)))) (now (out .entry)) (now (out .exit))
-        × Writing (8 * length (now (series .entry))) (λ i. plusZero) (now (work .entry)) (now (work .exit)) ⌝ }
+        × Touched (2 * length (now (series .entry))) (now (work .entry)) (now (work .exit)) ⌝ }
 {
     let bars = series.len();
-    window_means::write_means_of_prices(series, n, work);
+    window_means::write_means_by(series, n, ticks, work);
     window_means::write_means(&work[..bars], n, out);
     write_against_means(series, n, out);
-    cells::clear(work, 8 * bars);
 }
 
-// Writes each bar's position. It pays to look whether the prices are whole ticks where the window is long.
+// Writes each bar's position. The first two rows of `work` are used.
 pub fn write_single(series: &[f64], n: usize, out: &mut [f64], work: &mut [f64])
-    requires { ⌜ Priced n (now series) (length (now out)) (length (now work)) ⌝ }
+    requires { ⌜ Priced 2 n (now series) (length (now out)) (length (now work)) ⌝ }
     ensures { λ _. ⌜ Writing (length (now (series .entry))) (singleLine n (line (now (series .entry)))) (now (out .entry)) (now (out .exit))
-        × Writing (8 * length (now (series .entry))) (λ i. plusZero) (now (work .entry)) (now (work .exit)) ⌝ }
+        × Touched (2 * length (now (series .entry))) (now (work .entry)) (now (work .exit)) ⌝ }
 {
-    if n > 12 {
-        if n <= 1022 {
-            if values::all_ticks(series) {
-                write_single_of_ticks(series, n, out, work);
-                return;
-            }
+    let ticks = window_means::are_long_ticks(series, n);
+    if n <= 1022 {
+        if ticks {
+            write_single_of_ticks(series, n, out, work);
+            return;
         }
     }
-    write_single_of_prices(series, n, out, work);
+    write_single_of_means(series, n, ticks, out, work);
 }

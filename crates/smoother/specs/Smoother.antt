@@ -8,10 +8,11 @@ use Rattle.calls.specs.declared.Answer.{Answer}
 use Rattle.calls.specs.declared.Answer.the-variants.{Cells}
 use Rattle.values.specs.Accepted.{accepted, finite}
 use Rattle.calls.specs.Answer.{checked, andThen, unless}
-use Rattle.cells.specs.Line.{Line}
-use Rattle.smoother_table.specs.Period.{isPeriod}
+use Rattle.cells.specs.Line.{Line, line}
+use Rattle.smoother_table.specs.Period.{isPeriod, wholePart}
 use Rattle.smoother_table.specs.declared.Coefficients.{Coefficients}
-use Rattle.smoother_table.specs.Coefficients.{power}
+use Rattle.smoother_table.specs.Coefficients.{power, coefficients}
+use Rattle.calls.specs.Call.{Call}
 
 -- ---- the line
 
@@ -42,3 +43,8 @@ smootherAnswer s period output =
     (unless (finite period) ParameterNotFinite
     (unless (isPeriod period) WindowTooLong
     (Cells (length s))))
+
+-- what a call of `ultimate_smoother` promises
+abbrev pub UltimateSmootherCall : List Float → Float → List Float → Answer → List Float → Type 0
+UltimateSmootherCall s period out₀ =
+    Call (smootherAnswer s period (length out₀)) (smooth (coefficients (wholePart period)) (line s)) out₀

@@ -5,13 +5,11 @@ use smoother_table::Coefficients;
 ghost use mathlib.Core.Path.{_≡_};
 ghost use Prim.Native.Nat.{_<_, _≤_};
 ghost use lib.ListN.{length};
-ghost use Rattle.calls.specs.Call.{Call};
 ghost use Rattle.cells.specs.Line.{line};
 ghost use Rattle.cells.specs.Written.{Writing};
 ghost use Rattle.smoother_table.specs.Coefficients.{coefficients};
-ghost use Rattle.smoother.specs.Smoother.{formula, smooth, smootherAnswer};
+ghost use Rattle.smoother.specs.Smoother.{formula, UltimateSmootherCall};
 ghost use Rattle.smoother.specs.inner.Stages.{Begun, Smoothed};
-ghost use Rattle.smoother_table.specs.Period.{wholePart};
 ghost use Rattle.limits.specs.Limits.{longestPeriod};
 
 // One cell, from the last three prices, the newest first, and the last two cells.
@@ -67,9 +65,7 @@ pub fn write_smooth(price: &[f64], period: usize, out: &mut [f64])
 
 // The ultimate smoother: see `smootherAnswer` and `smooth`.
 pub fn ultimate_smoother(price: &[f64], period: f64, out: &mut [f64]) -> Answer
-    ensures { λ r. ⌜ Call (smootherAnswer (now (price .entry)) period (length (now (out .entry))))
-        (smooth (coefficients (wholePart period)) (line (now (price .entry))))
-        (now (out .entry)) r (now (out .exit)) ⌝ }
+    ensures { λ r. ⌜ UltimateSmootherCall (now (price .entry)) period (now (out .entry)) r (now (out .exit)) ⌝ }
 {
     let due = checks::check(price, out.len());
     if let Answer::Refused(_) = due {

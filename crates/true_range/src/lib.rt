@@ -4,17 +4,13 @@ use calls::Answer;
 use calls::Refusal;
 use smoother_table::Coefficients;
 ghost use mathlib.Core.Path.{_≡_};
-ghost use mathlib.Core.List.{[], _∷_};
+ghost use mathlib.Core.List.{[]};
 ghost use Prim.Native.Nat.{_<_};
 ghost use lib.ListN.{length};
 ghost use Rattle.checks.specs.inner.Three.{Three};
 ghost use Rattle.extremes.specs.Extreme.{larger};
-ghost use Rattle.true_range.specs.TrueRange.{trueRange, trueRangeLine};
+ghost use Rattle.true_range.specs.TrueRange.{trueRange, TrueRangeCall};
 ghost use Rattle.true_range.specs.inner.Ranging.{Ranging};
-ghost use Rattle.values.specs.Accepted.{accepted};
-ghost use Rattle.calls.specs.Answer.{checked};
-ghost use Rattle.calls.specs.Call.{Call};
-ghost use Rattle.cells.specs.Line.{line};
 
 // The larger of two, the first of equals.
 fn larger_of(x: f64, y: f64) -> f64
@@ -66,9 +62,7 @@ pub fn write_true_range(high: &[f64], low: &[f64], close_prev: &[f64], out: &mut
 
 // True range: see `trueRangeLine`.
 pub fn true_range(high: &[f64], low: &[f64], close_prev: &[f64], out: &mut [f64]) -> Answer
-    ensures { λ r. ⌜ Call (checked accepted (now (high .entry) ∷ now (low .entry) ∷ now («close_prev» .entry) ∷ []) (length (now (out .entry)) ∷ []) [])
-        (trueRangeLine (line (now (high .entry))) (line (now (low .entry))) (line (now («close_prev» .entry))))
-        (now (out .entry)) r (now (out .exit)) ⌝ }
+    ensures { λ r. ⌜ TrueRangeCall (now (high .entry)) (now (low .entry)) (now («close_prev» .entry)) (now (out .entry)) r (now (out .exit)) ⌝ }
 {
     let due = checks::check_three(high, low, close_prev, out.len());
     if let Answer::Refused(_) = due {

@@ -15,17 +15,17 @@ use Rattle.window_means.specs.inner.Storing.{storeEight}
 
 -- eight more stores, of the cells that a line asks
 pub eight-more : {f : Line} {old now : List Float} {k : ℕ} {r : Lanes} → Writing k f old now → Eight f k r → k + 7 < length old
-    → Writing (k + 8) f old (set (set (set (set (set (set (set (set now k (r .a)) (k + 1) (r .b)) (k + 2) (r .c)) (k + 3) (r .d))
-    (k + 4) (r .e)) (k + 5) (r .f)) (k + 6) (r .g)) (k + 7) (r .h))
+    → Writing (k + 8) f old (set (set (set (set (set (set (set (set now k (r .lane0)) (k + 1) (r .lane1)) (k + 2) (r .lane2)) (k + 3) (r .lane3))
+    (k + 4) (r .lane4)) (k + 5) (r .lane5)) (k + 6) (r .lane6)) (k + 7) (r .lane7))
 eight-more {k = k} w r h =
-    let one = step k (k + 1) w (r .first) (omega arith) in
-    let two = step (k + 1) (k + 2) one (r .second) (omega arith) in
-    let three = step (k + 2) (k + 3) two (r .third) (omega arith) in
-    let four = step (k + 3) (k + 4) three (r .fourth) (omega arith) in
-    let five = step (k + 4) (k + 5) four (r .fifth) (omega arith) in
-    let six = step (k + 5) (k + 6) five (r .sixth) (omega arith) in
-    let seven = step (k + 6) (k + 7) six (r .seventh) (omega arith) in
-    step (k + 7) (k + 8) seven (r .eighth) (omega arith)
+    let one = step k (k + 1) w (r .lane0) (omega arith) in
+    let two = step (k + 1) (k + 2) one (r .lane1) (omega arith) in
+    let three = step (k + 2) (k + 3) two (r .lane2) (omega arith) in
+    let four = step (k + 3) (k + 4) three (r .lane3) (omega arith) in
+    let five = step (k + 4) (k + 5) four (r .lane4) (omega arith) in
+    let six = step (k + 5) (k + 6) five (r .lane5) (omega arith) in
+    let seven = step (k + 6) (k + 7) six (r .lane6) (omega arith) in
+    step (k + 7) (k + 8) seven (r .lane7) (omega arith)
 
 -- eight more cells of a line, stored
 pub eight-stored : (k : ℕ) {f : Line} {old now next : List Float} {r : Lanes} → Writing k f old now → Eight f k r

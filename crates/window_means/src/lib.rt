@@ -11,20 +11,21 @@ ghost use Rattle.windows.specs.Window.{mean};
 ghost use Rattle.windows.specs.inner.Eight.{WindowRoom};
 ghost use Rattle.window_means.specs.inner.Storing.{storeEight, Begun, Reached};
 ghost use Rattle.values.specs.Accepted.{tick, all};
+ghost use Rattle.window_means.specs.inner.Ticks.{longTicks};
 
 // Stores the eight lanes from cell i on.
 fn store_eight(means: &mut [f64], i: usize, eight: Lanes)
     requires { ⌜ i + 8 ≤ length (now means) ⌝ }
     ensures { λ _. ⌜ now (means .exit) ≡ storeEight (now (means .entry)) i eight ⌝ }
 {
-    means[i] = eight.a;
-    means[i + 1] = eight.b;
-    means[i + 2] = eight.c;
-    means[i + 3] = eight.d;
-    means[i + 4] = eight.e;
-    means[i + 5] = eight.f;
-    means[i + 6] = eight.g;
-    means[i + 7] = eight.h;
+    means[i] = eight.lane0;
+    means[i + 1] = eight.lane1;
+    means[i + 2] = eight.lane2;
+    means[i + 3] = eight.lane3;
+    means[i + 4] = eight.lane4;
+    means[i + 5] = eight.lane5;
+    means[i + 6] = eight.lane6;
+    means[i + 7] = eight.lane7;
 }
 
 // Writes the means from bar `from` on, sixteen at a time, and gives the bar where fewer than sixteen are left.
@@ -84,20 +85,43 @@ pub fn write_means_of_ticks(series: &[f64], n: usize, means: &mut [f64])
     requires { ⌜ all tick (now series) ≡ true ⌝ }
     ensures { λ _. ⌜ Writing (length (now (series .entry))) (mean n (line (now (series .entry)))) (now (means .entry)) (now (means .exit)) ⌝ }
 {
-    averages::write_sma(series, n, means);
-    cells::fill_lead(means, n - 1, series.len(), 0.0);
+    windows::write_sums(series, n, means);
+    let count = n as f64;
+    let mut i = 0;
+    while i < series.len() {
+        means[i] = means[i] / count;
+        i += 1;
+    }
 }
 
-// Writes the means of prices. It pays to look whether they are whole ticks where the window is long.
+// Whether it pays to know that the prices are whole ticks, and they are: where the window is long, running sums are faster.
+pub fn are_long_ticks(series: &[f64], n: usize) -> bool
+    ensures { λ r. ⌜ r ≡ longTicks n (now (series .entry)) ⌝ }
+{
+    if n > 12 {
+        values::all_ticks(series)
+    } else {
+        false
+    }
+}
+
+// Writes the means of prices, where it is known whether they are whole ticks.
+pub fn write_means_by(series: &[f64], n: usize, ticks: bool, means: &mut [f64])
+    requires { ⌜ WindowRoom n (length (now series)) (length (now means)) ⌝ }
+    requires { ⌜ ticks ≡ longTicks n (now series) ⌝ }
+    ensures { λ _. ⌜ Writing (length (now (series .entry))) (mean n (line (now (series .entry)))) (now (means .entry)) (now (means .exit)) ⌝ }
+{
+    if ticks {
+        write_means_of_ticks(series, n, means);
+    } else {
+        write_means(series, n, means);
+    }
+}
+
+// Writes the means of prices.
 pub fn write_means_of_prices(series: &[f64], n: usize, means: &mut [f64])
     requires { ⌜ WindowRoom n (length (now series)) (length (now means)) ⌝ }
     ensures { λ _. ⌜ Writing (length (now (series .entry))) (mean n (line (now (series .entry)))) (now (means .entry)) (now (means .exit)) ⌝ }
 {
-    if n > 12 {
-        if values::all_ticks(series) {
-            write_means_of_ticks(series, n, means);
-            return;
-        }
-    }
-    write_means(series, n, means);
+    write_means_by(series, n, are_long_ticks(series, n), means);
 }

@@ -11,57 +11,57 @@ use Rattle.windows.specs.inner.Eight.{Eight, eachOver, eachPlus}
 
 -- eight sums side by side, each k cells long: what the loop that sums keeps of eight of its lanes
 pub record Summed (f : Line) (a k : ℕ) (r : Lanes) : Type 0 where
-  pub first : Summing minusZero f a k (r .a)
-  pub second : Summing minusZero f (a + 1) k (r .b)
-  pub third : Summing minusZero f (a + 2) k (r .c)
-  pub fourth : Summing minusZero f (a + 3) k (r .d)
-  pub fifth : Summing minusZero f (a + 4) k (r .e)
-  pub sixth : Summing minusZero f (a + 5) k (r .f)
-  pub seventh : Summing minusZero f (a + 6) k (r .g)
-  pub eighth : Summing minusZero f (a + 7) k (r .h)
+  pub lane0 : Summing minusZero f a k (r .lane0)
+  pub lane1 : Summing minusZero f (a + 1) k (r .lane1)
+  pub lane2 : Summing minusZero f (a + 2) k (r .lane2)
+  pub lane3 : Summing minusZero f (a + 3) k (r .lane3)
+  pub lane4 : Summing minusZero f (a + 4) k (r .lane4)
+  pub lane5 : Summing minusZero f (a + 5) k (r .lane5)
+  pub lane6 : Summing minusZero f (a + 6) k (r .lane6)
+  pub lane7 : Summing minusZero f (a + 7) k (r .lane7)
 
 -- none is summed yet
-pub none-of-eight : {f : Line} {a : ℕ} → Summed f a 0 (record { a = minusZero; b = minusZero; c = minusZero; d = minusZero; e = minusZero; f = minusZero; g = minusZero; h = minusZero })
-none-of-eight = record { first = none-summed; second = none-summed; third = none-summed; fourth = none-summed; fifth = none-summed; sixth = none-summed; seventh = none-summed; eighth = none-summed }
+pub none-of-eight : {f : Line} {a : ℕ} → Summed f a 0 (record { lane0 = minusZero; lane1 = minusZero; lane2 = minusZero; lane3 = minusZero; lane4 = minusZero; lane5 = minusZero; lane6 = minusZero; lane7 = minusZero })
+none-of-eight = record { lane0 = none-summed; lane1 = none-summed; lane2 = none-summed; lane3 = none-summed; lane4 = none-summed; lane5 = none-summed; lane6 = none-summed; lane7 = none-summed }
 
 -- one more cell in each
 pub each-added : {f : Line} {a k : ℕ} {r : Lanes} → Summed f a k r → Summed f a (k + 1) (eachPlus f (a + k) r)
 each-added {f} {a} {k} s =
     record {
-      first = one-added (s .first);
-      second = added-at (a + k + 1) (s .second) (omega arith);
-      third = added-at (a + k + 2) (s .third) (omega arith);
-      fourth = added-at (a + k + 3) (s .fourth) (omega arith);
-      fifth = added-at (a + k + 4) (s .fifth) (omega arith);
-      sixth = added-at (a + k + 5) (s .sixth) (omega arith);
-      seventh = added-at (a + k + 6) (s .seventh) (omega arith);
-      eighth = added-at (a + k + 7) (s .eighth) (omega arith);
+      lane0 = one-added (s .lane0);
+      lane1 = added-at (a + k + 1) (s .lane1) (omega arith);
+      lane2 = added-at (a + k + 2) (s .lane2) (omega arith);
+      lane3 = added-at (a + k + 3) (s .lane3) (omega arith);
+      lane4 = added-at (a + k + 4) (s .lane4) (omega arith);
+      lane5 = added-at (a + k + 5) (s .lane5) (omega arith);
+      lane6 = added-at (a + k + 6) (s .lane6) (omega arith);
+      lane7 = added-at (a + k + 7) (s .lane7) (omega arith);
     }
 
 -- the windows' sums at the eight bars from i on, the first of which starts at bar a
 pub eight-sums : (n i a : ℕ) {f : Line} {k : ℕ} {r : Lanes} → Summed f a k r → (k ≡ n) × (a + n ≡ i + 1) → Eight (windowSum n f) i r
 eight-sums n i a s (p, q) =
     record {
-      first = window-sum n _ (s .first) (omega arith);
-      second = window-sum n _ (s .second) (omega arith);
-      third = window-sum n _ (s .third) (omega arith);
-      fourth = window-sum n _ (s .fourth) (omega arith);
-      fifth = window-sum n _ (s .fifth) (omega arith);
-      sixth = window-sum n _ (s .sixth) (omega arith);
-      seventh = window-sum n _ (s .seventh) (omega arith);
-      eighth = window-sum n _ (s .eighth) (omega arith);
+      lane0 = window-sum n _ (s .lane0) (omega arith);
+      lane1 = window-sum n _ (s .lane1) (omega arith);
+      lane2 = window-sum n _ (s .lane2) (omega arith);
+      lane3 = window-sum n _ (s .lane3) (omega arith);
+      lane4 = window-sum n _ (s .lane4) (omega arith);
+      lane5 = window-sum n _ (s .lane5) (omega arith);
+      lane6 = window-sum n _ (s .lane6) (omega arith);
+      lane7 = window-sum n _ (s .lane7) (omega arith);
     }
 
 -- the means at those bars, from the sums
 pub eight-means : (n i : ℕ) (f : Line) {r : Lanes} → Eight (windowSum n f) i r → n ≤ i + 1 → Eight (mean n f) i (eachOver n r)
 eight-means n i f s h =
     record {
-      first = mean-of n _ f (s .first) (omega arith);
-      second = mean-of n _ f (s .second) (omega arith);
-      third = mean-of n _ f (s .third) (omega arith);
-      fourth = mean-of n _ f (s .fourth) (omega arith);
-      fifth = mean-of n _ f (s .fifth) (omega arith);
-      sixth = mean-of n _ f (s .sixth) (omega arith);
-      seventh = mean-of n _ f (s .seventh) (omega arith);
-      eighth = mean-of n _ f (s .eighth) (omega arith);
+      lane0 = mean-of n _ f (s .lane0) (omega arith);
+      lane1 = mean-of n _ f (s .lane1) (omega arith);
+      lane2 = mean-of n _ f (s .lane2) (omega arith);
+      lane3 = mean-of n _ f (s .lane3) (omega arith);
+      lane4 = mean-of n _ f (s .lane4) (omega arith);
+      lane5 = mean-of n _ f (s .lane5) (omega arith);
+      lane6 = mean-of n _ f (s .lane6) (omega arith);
+      lane7 = mean-of n _ f (s .lane7) (omega arith);
     }

@@ -4,32 +4,34 @@ ghost use Prim.Native.Nat.{_+_, _≤_};
 ghost use lib.ListN.{length};
 ghost use Rattle.cells.specs.Line.{line};
 ghost use Rattle.windows.specs.Window.{windowSum, mean};
-ghost use Rattle.windows.specs.inner.Eight.{Windows, SixteenOf, Eight, eachPlus, eachOver};
+ghost use Rattle.windows.specs.inner.Eight.{Windows, SixteenOf, Eight, eachPlus, eachOver, WindowRoom};
 ghost use Rattle.limits.specs.Limits.{longestWindow};
+ghost use Rattle.cells.specs.Written.{Writing};
+ghost use Rattle.windows.specs.inner.Runs.{Opening, runs};
 
 // A number for each of eight bars side by side.
 pub struct Lanes {
-    pub a: f64,
-    pub b: f64,
-    pub c: f64,
-    pub d: f64,
-    pub e: f64,
-    pub f: f64,
-    pub g: f64,
-    pub h: f64,
+    pub lane0: f64,
+    pub lane1: f64,
+    pub lane2: f64,
+    pub lane3: f64,
+    pub lane4: f64,
+    pub lane5: f64,
+    pub lane6: f64,
+    pub lane7: f64,
 }
 
 impl Lanes {
     // No price is summed yet.
     pub const NONE: Lanes = Lanes {
-        a: -0.0,
-        b: -0.0,
-        c: -0.0,
-        d: -0.0,
-        e: -0.0,
-        f: -0.0,
-        g: -0.0,
-        h: -0.0,
+        lane0: -0.0,
+        lane1: -0.0,
+        lane2: -0.0,
+        lane3: -0.0,
+        lane4: -0.0,
+        lane5: -0.0,
+        lane6: -0.0,
+        lane7: -0.0,
     };
 }
 
@@ -39,14 +41,14 @@ pub fn added(sums: Lanes, series: &[f64], at: usize) -> Lanes
     ensures { λ r. ⌜ r ≡ eachPlus (line (now (series .entry))) at sums ⌝ }
 {
     Lanes {
-        a: sums.a + series[at],
-        b: sums.b + series[at + 1],
-        c: sums.c + series[at + 2],
-        d: sums.d + series[at + 3],
-        e: sums.e + series[at + 4],
-        f: sums.f + series[at + 5],
-        g: sums.g + series[at + 6],
-        h: sums.h + series[at + 7],
+        lane0: sums.lane0 + series[at],
+        lane1: sums.lane1 + series[at + 1],
+        lane2: sums.lane2 + series[at + 2],
+        lane3: sums.lane3 + series[at + 3],
+        lane4: sums.lane4 + series[at + 4],
+        lane5: sums.lane5 + series[at + 5],
+        lane6: sums.lane6 + series[at + 6],
+        lane7: sums.lane7 + series[at + 7],
     }
 }
 
@@ -87,14 +89,14 @@ pub fn divided(sums: Lanes, n: usize) -> Lanes
 {
     let count = n as f64;
     Lanes {
-        a: sums.a / count,
-        b: sums.b / count,
-        c: sums.c / count,
-        d: sums.d / count,
-        e: sums.e / count,
-        f: sums.f / count,
-        g: sums.g / count,
-        h: sums.h / count,
+        lane0: sums.lane0 / count,
+        lane1: sums.lane1 / count,
+        lane2: sums.lane2 / count,
+        lane3: sums.lane3 / count,
+        lane4: sums.lane4 / count,
+        lane5: sums.lane5 / count,
+        lane6: sums.lane6 / count,
+        lane7: sums.lane7 / count,
     }
 }
 
@@ -147,5 +149,31 @@ pub fn means_of_sixteen(series: &[f64], n: usize, i: usize) -> Sixteen
     Sixteen {
         low: divided(sums.low, n),
         high: divided(sums.high, n),
+    }
+}
+
+// Writes the running sums from bar n - 1 on, where the first n cells are summed afresh.
+fn slide_sums(series: &[f64], n: usize, sums: &mut [f64])
+    requires { ⌜ Opening n (now series) (now sums) ⌝ }
+    ensures { λ _. ⌜ Writing (length (now (series .entry))) (runs n (line (now (series .entry)))) (now (sums .entry)) (now (sums .exit)) ⌝ }
+{
+    let mut sum = sum_at(series, n, n - 1);
+    let mut i = n - 1;
+    while i + 1 < series.len() {
+        sums[i] = sum;
+        i += 1;
+        sum = sum + (series[i] - series[i - n]);
+    }
+    sums[i] = sum;
+}
+
+// Writes the running sum of each bar's window, and 0.0 before the first whole one.
+pub fn write_sums(series: &[f64], n: usize, sums: &mut [f64])
+    requires { ⌜ WindowRoom n (length (now series)) (length (now sums)) ⌝ }
+    ensures { λ _. ⌜ Writing (length (now (series .entry))) (runs n (line (now (series .entry)))) (now (sums .entry)) (now (sums .exit)) ⌝ }
+{
+    let first = cells::fill_lead(sums, n - 1, series.len(), 0.0);
+    if first < series.len() {
+        slide_sums(series, n, sums);
     }
 }

@@ -31,7 +31,7 @@ write-means-requires : tie.Need-write-means-requires
 write-means-requires c κs =
     let at-first = c .before .before .before .before .before in
     let h = fits (at-first .before) in
-    record { some = h .some; short = h .narrow; inside = h .inside; room = h .room; is = at-first .sum-first .ensures .sum }
+    record { window = h .window; inside = h .inside; room = h .room; is = at-first .sum-first .ensures .sum }
 
 returns : tie.Need-returns
 returns c =
@@ -60,7 +60,7 @@ sma-spec =
     tie.close
     (tie.spec
     (λ c κs. search needs)  -- window-fits-requires
-    (λ c κs. (fits c .some, fits c .inside))  -- sum-first-requires
+    (λ c κs. (fits c .window .some, fits c .inside))  -- sum-first-requires
     (λ c κs. search needs)  -- bits-together-requires
     accepted-by-requires
     write-means-requires

@@ -16,8 +16,7 @@ slide-means-requires c κs =
     let start = at-lead .before .before .before .before in
     let a = start .args in
     record {
-      some = omega arith;
-      short = omega arith;
+      window = search needs;
       inside = omega arith;
       room = simp length-set (omega arith);
       cells = stands (first-mean (now (a .series)) (a .n) (at-lead .fill-nan .ensures) (start .pre .is) (omega arith));

@@ -11,12 +11,11 @@ use Rattle.windows.specs.inner.Sums.{Running}
 use Rattle.values.specs.inner.Quick.{NoneAbove}
 use Rattle.averages.specs.declared.Found.{Found}
 use Rattle.averages.specs.Sma.{smaLine}
-use Rattle.limits.specs.Limits.{longestWindow}
+use Rattle.limits.specs.Limits.{Window}
 
 -- the first n cells of `sma` stand in `now`, which has room for the rest, and `sum` is that of the first n bars
 pub record Sliding (s : List Float) (n : ℕ) (sum : Float) (now : List Float) : Type 0 where
-  pub some : 0 < n
-  pub short : n ≤ longestWindow
+  pub window : Window n
   pub inside : n ≤ length s
   pub room : length s ≤ length now
   pub cells : Writing n (smaLine n (line s)) now now
@@ -29,8 +28,7 @@ pub record First (s : List Float) (n : ℕ) (r : Found) : Type 0 where
 
 -- `sum` is that of the first n bars, and there is room for all cells
 pub record Summed (s : List Float) (n : ℕ) (sum : Float) (cells : ℕ) : Type 0 where
-  pub some : 0 < n
-  pub short : n ≤ longestWindow
+  pub window : Window n
   pub inside : n ≤ length s
   pub room : length s ≤ cells
   pub is : sum ≡ windowSum n (line s) (n - 1)

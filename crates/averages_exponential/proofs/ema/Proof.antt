@@ -50,7 +50,7 @@ ema-spec =
     tie.close
     (tie.spec
     (λ c κs. search needs)  -- window-fits-requires
-    (λ c κs. (fits c .some, fits c .inside))  -- sum-first-requires
+    (λ c κs. (fits c .window .some, fits c .inside))  -- sum-first-requires
     (λ c. let h = fits (c .before .before) in count-is-float _ (omega arith))  -- int-to-float-answer-smooth
     (λ c. let h = fits (c .before .before .before) in omega arith)  -- add-answer-smooth
     (λ c. let h = fits (c .before .before .before .before) in count-is-float _ (omega arith))  -- int-to-float-answer-smooth-2

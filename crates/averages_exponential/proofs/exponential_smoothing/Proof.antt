@@ -68,7 +68,7 @@ returns-3 c =
     let yes = at-else .before .is-finite .ensures ∙ sym (c .before .is-finite2 .ensures) ∙ c .if2 .taken in
     let no = sym (at-fits .window-fits .ensures) ∙ first-false _ _ (at-else .if1 .left) yes in
     let room = checked-room _ _ _ _ _ (sym (at-check .check .ensures) ∙ at-passed .enum-told2 .given .1) in
-    let few : length (now (a .series)) < 1 = none-fits (length (now (a .series))) 1 _ no (omega arith) (omega arith) (room .short) (room .out-long) in
+    let few : length (now (a .series)) < 1 = none-fits (length (now (a .series))) 1 _ no (record { some = omega arith; narrow = omega arith }) (room .short) (room .out-long) in
     let none : length (now (a .series)) ≡ 0 = omega arith in
     counted (rw (rest at-passed, ← c .before .is-finite2 .ensures, c .if2 .taken, none)) none-written
 

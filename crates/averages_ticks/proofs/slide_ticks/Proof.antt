@@ -53,7 +53,7 @@ to-tick-requires : tie.Need-to-tick-requires Inv-loop μ-loop
 to-tick-requires c κs =
     let at = c .before .before .before in
     let pre = at .before .before .before .pre in
-    record { some = pre .some; short = pre .short; small = sum-small (pre .ticks) (window c .sum); is = at .before .share-of .ensures }
+    record { window = pre .window; small = sum-small (pre .ticks) (window c .sum); is = at .before .share-of .ensures }
 
 -- and of those that stay in the next one
 rest : (c : tie.After-row-known2 Inv-loop μ-loop)

@@ -12,8 +12,7 @@ slide-ticks-requires c κs =
     let lead = c .before .before .sum-lead2 .ensures in
     let pre = start .pre in
     record {
-      some = pre .some;
-      short = pre .short;
+      window = pre .window;
       inside = omega arith;
       room = omega arith;
       ticks = pre .ticks;

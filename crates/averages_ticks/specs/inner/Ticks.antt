@@ -10,7 +10,7 @@ use Rattle.values.specs.Accepted.{tick, all}
 use Rattle.cells.specs.Line.{line}
 use Rattle.cells.specs.Written.{Writing}
 use Rattle.averages_ticks.specs.TickMean.{tickSum, tickMeanLine}
-use Rattle.limits.specs.Limits.{longestWindow}
+use Rattle.limits.specs.Limits.{longestWindow, Window}
 
 -- a series of whole ticks
 pub record Ticks (s : List Float) : Type 0 where
@@ -24,8 +24,7 @@ pub record TickSum (s : List Float) (a k : ℕ) (z : ℤ) : Type 0 where
 
 -- a series of ticks, a window, and a cell for each bar
 pub record TickRoom (s : List Float) (n cells : ℕ) : Type 0 where
-  pub some : 0 < n
-  pub short : n ≤ longestWindow
+  pub window : Window n
   pub room : length s ≤ cells
   pub ticks : Ticks s
 
@@ -43,8 +42,7 @@ pub record Summed (s : List Float) (first : ℕ) (z : ℤ) (old now : List ℤ) 
 
 -- the cells before bar n - 1 stand in `now`, which has room for the rest, and z is the sum of those bars
 pub record TickSliding (s : List Float) (n : ℕ) (z : ℤ) (now : List ℤ) : Type 0 where
-  pub some : 0 < n
-  pub short : n ≤ longestWindow
+  pub window : Window n
   pub inside : n ≤ length s
   pub room : length s ≤ length now
   pub ticks : Ticks s

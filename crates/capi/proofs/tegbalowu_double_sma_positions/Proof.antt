@@ -1,6 +1,6 @@
 -- `tegbalowu_double_sma_positions` meets its contract: it is the library's `double_sma_positions`, in numbers. Assumes nothing.
 use borrow.Author.Needs.{needs}
-use Rattle.capi.proofs.InNumbers.{in-numbers}
+use Rattle.capi.proofs.InNumbers.{told}
 use Rattle.capi.proofs.tegbalowu_double_sma_positions.Statement.{statement}
 use Rattle.capi.proofs.tegbalowu_double_sma_positions.Tie as tie
 
@@ -11,5 +11,5 @@ tegbalowu-double-sma-positions-spec =
     (λ c κs. search needs)  -- double-sma-positions-requires
     (λ c κs. search needs)  -- numbers-requires
     (λ c. search needs)  -- same-length
-    (λ c. search (needs, in-numbers))  -- returns
+    (λ c. search (needs, told))  -- returns
     )

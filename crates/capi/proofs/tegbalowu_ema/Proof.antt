@@ -1,6 +1,6 @@
 -- `tegbalowu_ema` meets its contract: it is the library's `ema`, in numbers. Assumes nothing.
 use borrow.Author.Needs.{needs}
-use Rattle.capi.proofs.InNumbers.{in-numbers}
+use Rattle.capi.proofs.InNumbers.{told}
 use Rattle.capi.proofs.tegbalowu_ema.Statement.{statement}
 use Rattle.capi.proofs.tegbalowu_ema.Tie as tie
 
@@ -11,5 +11,5 @@ tegbalowu-ema-spec =
     (λ c κs. search needs)  -- ema-requires
     (λ c κs. search needs)  -- numbers-requires
     (λ c. search needs)  -- same-length
-    (λ c. search (needs, in-numbers))  -- returns
+    (λ c. search (needs, told))  -- returns
     )

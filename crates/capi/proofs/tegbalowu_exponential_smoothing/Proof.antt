@@ -1,6 +1,6 @@
 -- `tegbalowu_exponential_smoothing` meets its contract: it is the library's `exponential_smoothing`, in numbers. Assumes nothing.
 use borrow.Author.Needs.{needs}
-use Rattle.capi.proofs.InNumbers.{in-numbers}
+use Rattle.capi.proofs.InNumbers.{told}
 use Rattle.capi.proofs.tegbalowu_exponential_smoothing.Statement.{statement}
 use Rattle.capi.proofs.tegbalowu_exponential_smoothing.Tie as tie
 
@@ -11,5 +11,5 @@ tegbalowu-exponential-smoothing-spec =
     (λ c κs. search needs)  -- exponential-smoothing-requires
     (λ c κs. search needs)  -- numbers-requires
     (λ c. search needs)  -- same-length
-    (λ c. search (needs, in-numbers))  -- returns
+    (λ c. search (needs, told))  -- returns
     )

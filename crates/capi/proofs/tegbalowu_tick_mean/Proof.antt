@@ -1,6 +1,6 @@
 -- `tegbalowu_tick_mean` meets its contract: it is the library's `tick_mean`, in numbers. Assumes nothing.
 use borrow.Author.Needs.{needs}
-use Rattle.capi.proofs.InNumbers.{in-numbers}
+use Rattle.capi.proofs.InNumbers.{told}
 use Rattle.capi.proofs.tegbalowu_tick_mean.Statement.{statement}
 use Rattle.capi.proofs.tegbalowu_tick_mean.Tie as tie
 
@@ -11,5 +11,5 @@ tegbalowu-tick-mean-spec =
     (λ c κs. search needs)  -- tick-mean-requires
     (λ c κs. search needs)  -- numbers-requires
     (λ c. search needs)  -- same-length
-    (λ c. search (needs, in-numbers))  -- returns
+    (λ c. search (needs, told))  -- returns
     )

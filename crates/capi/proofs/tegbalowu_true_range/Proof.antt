@@ -1,6 +1,6 @@
 -- `tegbalowu_true_range` meets its contract: it is the library's `true_range`, in numbers. Assumes nothing.
 use borrow.Author.Needs.{needs}
-use Rattle.capi.proofs.InNumbers.{in-numbers}
+use Rattle.capi.proofs.InNumbers.{told}
 use Rattle.capi.proofs.tegbalowu_true_range.Statement.{statement}
 use Rattle.capi.proofs.tegbalowu_true_range.Tie as tie
 
@@ -11,5 +11,5 @@ tegbalowu-true-range-spec =
     (λ c κs. search needs)  -- true-range-requires
     (λ c κs. search needs)  -- numbers-requires
     (λ c. search needs)  -- same-length
-    (λ c. search (needs, in-numbers))  -- returns
+    (λ c. search (needs, told))  -- returns
     )

@@ -1,6 +1,6 @@
 -- `tegbalowu_ultimate_smoother` meets its contract: it is the library's `ultimate_smoother`, in numbers. Assumes nothing.
 use borrow.Author.Needs.{needs}
-use Rattle.capi.proofs.InNumbers.{in-numbers}
+use Rattle.capi.proofs.InNumbers.{told}
 use Rattle.capi.proofs.tegbalowu_ultimate_smoother.Statement.{statement}
 use Rattle.capi.proofs.tegbalowu_ultimate_smoother.Tie as tie
 
@@ -11,5 +11,5 @@ tegbalowu-ultimate-smoother-spec =
     (λ c κs. search needs)  -- ultimate-smoother-requires
     (λ c κs. search needs)  -- numbers-requires
     (λ c. search needs)  -- same-length
-    (λ c. search (needs, in-numbers))  -- returns
+    (λ c. search (needs, told))  -- returns
     )

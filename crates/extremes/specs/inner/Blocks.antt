@@ -10,12 +10,11 @@ use Rattle.extremes.specs.Extreme.{larger, smaller, extreme}
 use Rattle.extremes.specs.inner.Best.{Numbers}
 use Rattle.extremes.specs.inner.Range.{RangeOf}
 use Rattle.extremes.specs.inner.Part.{Replacing}
-use Rattle.limits.specs.Limits.{longestSeries, longestWindow}
+use Rattle.limits.specs.Limits.{longestSeries, Window}
 
 -- a window, at most as many numbers as a series has, and two cells for each
 pub record Room (s : List Float) (n cells : ℕ) : Type 0 where
-  pub some : 0 < n
-  pub narrow : n ≤ longestWindow
+  pub window : Window n
   pub short : length s ≤ longestSeries
   pub room : length s + length s ≤ cells
   pub numbers : Numbers (line s) (length s)

@@ -1,41 +1,34 @@
--- `double_sma_positions` meets its contract: the answer is the table's, and a count is what was written. Assumes nothing.
+-- `double_sma_positions` meets its contract: the answer is the table's, and where it has cells they are written. Assumes nothing.
 use mathlib.Core.Path.{sym, _∙_}
-use native.Mathlib.Omega.{arith}
+use Prim.Native.Nat.{_<_}
 use borrow.Author.Needs.{needs}
-use Rattle.calls.proofs.Call.{refused, counted}
-use Rattle.cells.proofs.Written.{none-written, ends}
-use Rattle.rules_double.proofs.Open.{double-opened}
+use Rattle.calls.specs.Answer.{countOf}
+use Rattle.calls.proofs.Call.{some-cells, no-cells, all-called, none-called}
+use Rattle.rules_double.proofs.Open.{double-ready, double-bars}
 use Rattle.rules.proofs.double_sma_positions.Statement.{statement}
 use Rattle.rules.proofs.double_sma_positions.Tie as tie
 
-write-double-requires : tie.Need-write-double-requires
-write-double-requires c κs =
-    let told = c .before .before .before in
-    omega (arith, double-opened _ _ _ _ _ (sym (told .before .before .answer-double .ensures) ∙ told .due .given .1) (c .before .if1 .taken))
+due : (c : tie.Then1) → 0 < countOf (c .before .before .answer-double .result)
+due c = some-cells (c .before .before .answer-double .result) (c .before .has-cells .ensures) (c .if1 .taken)
 
 returns : tie.Need-returns
 returns c =
-    let at = c .before .before in
-    let told = at .before .before .before .before in
-    let answer = sym (told .due .given .1) ∙ told .before .before .answer-double .ensures in
-    let facts = double-opened _ _ _ _ _ (sym answer) (at .before .before .if1 .taken) in
-    counted answer (ends (at .write-double .ensures) (sym (facts .whole)))
+    let at-then = c .before .before .before .before in
+    all-called (double-bars _ _ _ _) (at-then .before .before .answer-double .ensures) (due at-then) (c .before .before .write-double .ensures)
 
 returns-2 : tie.Need-returns-2
 returns-2 c =
-    let told = c .before .before in
-    counted (sym (told .due .given .1) ∙ told .before .before .answer-double .ensures) (ends none-written (omega arith))
+    let answer = c .before .before .answer-double in
+    none-called (answer .ensures) (no-cells (answer .result) (c .before .has-cells .ensures) (c .if1 .left))
 
 pub double-sma-positions-spec : {M : Type 1} → statement M
 double-sma-positions-spec =
     tie.close
     (tie.spec
     (λ c κs. search needs)  -- answer-double-requires
-    (λ c. search needs)  -- enum-known-due
-    write-double-requires
-    (λ c. search needs)  -- enum-told
+    (λ c κs. search needs)  -- has-cells-requires
+    (λ c κs. double-ready _ _ _ _ (c .before .before .before .answer-double .ensures) (due (c .before)))  -- write-double-requires
     (λ c. search needs)  -- same-length
     returns
     returns-2
-    (λ c. refused (c .before .before .answer-double .ensures) (c .enum-told .given .1))  -- returns-3
     )

@@ -1,4 +1,4 @@
--- `answer_double` meets its contract: a refusal of the check stands, and else the windows' answer does. Assumes nothing.
+-- `answer_double` meets its contract: the table is read from the top. Assumes nothing.
 use borrow.Author.Needs.{needs}
 use Rattle.rules_double.specs.Double.{doubleAnswer}
 use Rattle.rules_double.proofs.answer_double.Statement.{statement}
@@ -9,9 +9,9 @@ answer-double-spec =
     tie.close
     (tie.spec
     (λ c κs. search needs)  -- check-requires
-    (λ c. search needs)  -- enum-told
-    (λ c. unfold doubleAnswer in rw (← c .before .before .check .ensures, c .enum-told .given .1))  -- returns
-    (λ c. search needs)  -- enum-told-2
-    (λ c κs. search needs)  -- check-windows-requires
-    (λ c. unfold doubleAnswer in rw (← c .before .before .before .check .ensures, c .before .enum-told2 .given .1, c .check-windows .ensures))  -- returns-2
+    (λ c κs. search needs)  -- unless-refused-requires
+    (λ c κs. search needs)  -- check-two-windows-requires
+    (λ c κs. search needs)  -- and-then-requires
+    (λ c. unfold doubleAnswer in
+    rw (c .and-then .ensures, c .before .check-two-windows .ensures, c .before .before .unless-refused .ensures, c .before .before .before .check .ensures))  -- returns
     )

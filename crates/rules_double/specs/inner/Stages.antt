@@ -8,7 +8,7 @@ use Rattle.cells.specs.Written.{Writing}
 use Rattle.rounding.specs.Leaves.{signOf}
 use Rattle.windows.specs.Window.{over}
 use Rattle.rules_double.specs.Double.{doubleLine}
-use Rattle.limits.specs.Limits.{longestWindow}
+use Rattle.limits.specs.Limits.{Window}
 
 -- ---- two averages
 
@@ -18,9 +18,9 @@ crossing n m short long = signOf (sub binary64 (over n short) (over m long))
 
 -- two windows that are in order and full at bar m - 1, and the cells before it
 pub record Started (n m : ℕ) (s now : List Float) : Type 0 where
-  pub some : 0 < n
+  pub short : Window n
+  pub long : Window m
   pub order : n < m
-  pub narrow : m ≤ longestWindow
   pub full : m ≤ length s
   pub room : length s ≤ length now
   pub before : Writing (m - 1) (doubleLine n m (line s)) now now

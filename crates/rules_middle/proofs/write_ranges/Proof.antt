@@ -2,10 +2,11 @@
 use mathlib.Core.Path.{sym}
 use native.Mathlib.Omega.{arith}
 use borrow.Author.Needs.{needs}
+use denote.Ref.{now}
 use Rattle.extremes.specs.Extreme.{larger, smaller, extreme}
 use Rattle.extremes.proofs.Extreme.{causal-extreme}
-use Rattle.exact_ticks.proofs.Priced.{means-room}
-use Rattle.exact_ticks.proofs.Stages.{part-long}
+use Rattle.exact_ticks.proofs.Bounds.{means-room}
+use Rattle.cells.proofs.Parts.{part-long}
 use Rattle.rules_middle.proofs.Middle.{both-through}
 use Rattle.rules_middle.proofs.write_ranges.Statement.{statement}
 use Rattle.rules_middle.proofs.write_ranges.Tie as tie
@@ -14,15 +15,15 @@ write-ranges-requires : tie.Need-write-ranges-requires
 write-ranges-requires c κs =
     let means = c .before .before .before .before in
     let pre = means .before .before .before .before .before .pre in
-    means-room pre (means .write-means-of-prices .ensures) (omega arith) (omega arith)
+    means-room (now (means .before .before .before .before .before .args .series)) (pre .window) (pre .short) (pre .values) (means .write-means-of-prices .ensures) (omega arith) (omega arith)
 
 returns : tie.Need-returns
 returns c =
     let ranges = c .before .before in
     let means = ranges .before .before .before .before .before .write-means-of-prices .ensures in
     let pre = ranges .before .before .before .before .before .before .before .before .before .before .pre in
-    let high = causal-extreme larger _ (pre .some) in
-    let low = causal-extreme smaller _ (pre .some) in
+    let high = causal-extreme larger _ (pre .window .some) in
+    let low = causal-extreme smaller _ (pre .window .some) in
     (means, both-through means (omega arith) (extreme larger _) (extreme smaller _) high low (ranges .write-ranges .ensures))
 
 pub write-ranges-spec : {M : Type 1} → statement M

@@ -1,12 +1,13 @@
--- `write_single_of_ticks` meets its contract: the window sums in `out`, the means and the sums of those sums in two rows, the positions,
--- and the clearing. Assumes nothing.
+-- `write_single_of_ticks` meets its contract: the window sums in `out`, the means and the sums of those sums in two rows, and the positions.
+-- Assumes nothing.
 use mathlib.Core.Path.{sym}
 use native.Mathlib.Omega.{arith}
 use borrow.Author.Needs.{needs}
 use lib.ListN.{length-take, length-drop}
 use Rattle.cells.proofs.Rows.{lent-on}
+use Rattle.cells.proofs.Touched.{touched, touched-more}
 use Rattle.cells.proofs.Written.{stands, then-written}
-use Rattle.exact_ticks.proofs.Stages.{part-long, through}
+use Rattle.cells.proofs.Parts.{part-long, through}
 use Rattle.windows.specs.inner.Runs.{runs}
 use Rattle.windows.proofs.Runs.{causal-runs}
 use Rattle.rules_single.proofs.write_single_of_ticks.Statement.{statement}
@@ -22,7 +23,7 @@ write-sums-requires-2 c κs =
     let sums = c .before .before .before .before .before .before .before .before in
     let pre = sums .before .before .before .before .before .pre in
     let long = part-long (sums .write-sums .ensures) (omega arith) in
-    record { some = pre .0 .some; short = pre .0 .narrow; room = simp (length-take, length-drop) (omega arith) }
+    record { window = pre .0 .window; room = simp (length-take, length-drop) (omega arith) }
 
 write-tick-positions-requires : tie.Need-write-tick-positions-requires
 write-tick-positions-requires c κs =
@@ -30,21 +31,20 @@ write-tick-positions-requires c κs =
     let means = totals .before .before .before .before .before in
     let sums = means .before .before .before .before in
     let pre = sums .before .before .before .before .before .pre in
-    let second = through (sums .write-sums .ensures) (omega arith) (runs _) (causal-runs _ (pre .0 .some)) (totals .write-sums2 .ensures) in
+    let second = through (sums .write-sums .ensures) (omega arith) (runs _) (causal-runs _ (pre .0 .window .some)) (totals .write-sums2 .ensures) in
     let rows = lent-on (means .write-means-of-ticks .ensures) second (omega arith) in
-    (record { some = pre .0 .some; narrow = pre .1 .0; ticks = pre .1 .1; room = omega (arith, rows .long); rows = stands rows }, omega arith)
+    (record { some = pre .0 .window .some; narrow = pre .1 .0; ticks = pre .1 .1; room = omega (arith, rows .long); rows = stands rows }, omega arith)
 
 returns : tie.Need-returns
 returns c =
-    let clear = c .before .before in
-    let cells = clear .before .before .before .before in
+    let cells = c .before .before in
     let totals = cells .before .before .before .before .before in
     let means = totals .before .before .before .before .before in
     let sums = means .before .before .before .before in
     let pre = sums .before .before .before .before .before .pre in
-    let second = through (sums .write-sums .ensures) (omega arith) (runs _) (causal-runs _ (pre .0 .some)) (totals .write-sums2 .ensures) in
+    let second = through (sums .write-sums .ensures) (omega arith) (runs _) (causal-runs _ (pre .0 .window .some)) (totals .write-sums2 .ensures) in
     let rows = lent-on (means .write-means-of-ticks .ensures) second (omega arith) in
-    (then-written (sums .write-sums .ensures) (cells .write-tick-positions .ensures) (omega arith), then-written rows (clear .clear .ensures) (omega arith))
+    (then-written (sums .write-sums .ensures) (cells .write-tick-positions .ensures) (omega arith), touched-more (touched rows) (omega arith))
 
 pub write-single-of-ticks-spec : {M : Type 1} → statement M
 write-single-of-ticks-spec =
@@ -60,8 +60,6 @@ write-single-of-ticks-spec =
     (λ c. search needs)  -- part-write-sums-end
     write-sums-requires-2
     write-tick-positions-requires
-    (λ c. search needs)  -- mul-clear
-    (λ c κs. search needs)  -- clear-requires
     (λ c. search needs)  -- same-length
     (λ c. search needs)  -- same-length-2
     returns

@@ -7,18 +7,17 @@ use Rattle.cells.specs.Line.{line}
 use Rattle.cells.specs.Written.{Writing}
 use Rattle.windows.specs.declared.Lanes.{Lanes}
 use Rattle.windows.specs.Window.{mean}
-use Rattle.limits.specs.Limits.{longestWindow}
+use Rattle.limits.specs.Limits.{Window}
 
 -- the eight lanes, stored from cell i on
 abbrev pub storeEight : List Float → ℕ → Lanes → List Float
 storeEight cells i r =
-    set (set (set (set (set (set (set (set cells i (r .a)) (i + 1) (r .b)) (i + 2) (r .c)) (i + 3) (r .d))
-    (i + 4) (r .e)) (i + 5) (r .f)) (i + 6) (r .g)) (i + 7) (r .h)
+    set (set (set (set (set (set (set (set cells i (r .lane0)) (i + 1) (r .lane1)) (i + 2) (r .lane2)) (i + 3) (r .lane3))
+    (i + 4) (r .lane4)) (i + 5) (r .lane5)) (i + 6) (r .lane6)) (i + 7) (r .lane7)
 
 -- the means before bar `from`, which is past the lead, stand in `now`, which has room for the rest
 pub record Begun (s : List Float) (n from : ℕ) (now : List Float) : Type 0 where
-  pub some : 0 < n
-  pub short : n ≤ longestWindow
+  pub window : Window n
   pub past-lead : min (n - 1) (length s) ≤ from
   pub inside : from ≤ length s
   pub room : length s ≤ length now

@@ -6,39 +6,37 @@ use Rattle.cells.specs.Line.{Line}
 use Rattle.windows.specs.declared.Lanes.{Lanes}
 use Rattle.windows.specs.Window.{over}
 use Rattle.windows.specs.declared.Sixteen.{Sixteen}
-use Rattle.limits.specs.Limits.{longestWindow}
+use Rattle.limits.specs.Limits.{Window}
 
 -- a whole window of n bars ends at each of `count` bars from i on
 pub record Windows (n i count bars : ℕ) : Type 0 where
-  pub some : 0 < n
-  pub short : n ≤ longestWindow
+  pub window : Window n
   pub full : n ≤ i + 1
   pub inside : i + count ≤ bars
 
 -- a window that is not empty, and a cell for each bar
 pub record WindowRoom (n bars cells : ℕ) : Type 0 where
-  pub some : 0 < n
-  pub short : n ≤ longestWindow
+  pub window : Window n
   pub room : bars ≤ cells
 
 -- the cells of a line at the eight bars from i on
 pub record Eight (line : Line) (i : ℕ) (r : Lanes) : Type 0 where
-  pub first : r .a ≡ line i
-  pub second : r .b ≡ line (i + 1)
-  pub third : r .c ≡ line (i + 2)
-  pub fourth : r .d ≡ line (i + 3)
-  pub fifth : r .e ≡ line (i + 4)
-  pub sixth : r .f ≡ line (i + 5)
-  pub seventh : r .g ≡ line (i + 6)
-  pub eighth : r .h ≡ line (i + 7)
+  pub lane0 : r .lane0 ≡ line i
+  pub lane1 : r .lane1 ≡ line (i + 1)
+  pub lane2 : r .lane2 ≡ line (i + 2)
+  pub lane3 : r .lane3 ≡ line (i + 3)
+  pub lane4 : r .lane4 ≡ line (i + 4)
+  pub lane5 : r .lane5 ≡ line (i + 5)
+  pub lane6 : r .lane6 ≡ line (i + 6)
+  pub lane7 : r .lane7 ≡ line (i + 7)
 
 -- each lane divided by the window's length
 abbrev pub eachOver : ℕ → Lanes → Lanes
-eachOver n r = record { a = over n (r .a); b = over n (r .b); c = over n (r .c); d = over n (r .d); e = over n (r .e); f = over n (r .f); g = over n (r .g); h = over n (r .h) }
+eachOver n r = record { lane0 = over n (r .lane0); lane1 = over n (r .lane1); lane2 = over n (r .lane2); lane3 = over n (r .lane3); lane4 = over n (r .lane4); lane5 = over n (r .lane5); lane6 = over n (r .lane6); lane7 = over n (r .lane7) }
 
 -- each lane with one more cell: the eight cells from a on
 abbrev pub eachPlus : Line → ℕ → Lanes → Lanes
-eachPlus f a r = record { a = add binary64 (r .a) (f a); b = add binary64 (r .b) (f (a + 1)); c = add binary64 (r .c) (f (a + 2)); d = add binary64 (r .d) (f (a + 3)); e = add binary64 (r .e) (f (a + 4)); f = add binary64 (r .f) (f (a + 5)); g = add binary64 (r .g) (f (a + 6)); h = add binary64 (r .h) (f (a + 7)) }
+eachPlus f a r = record { lane0 = add binary64 (r .lane0) (f a); lane1 = add binary64 (r .lane1) (f (a + 1)); lane2 = add binary64 (r .lane2) (f (a + 2)); lane3 = add binary64 (r .lane3) (f (a + 3)); lane4 = add binary64 (r .lane4) (f (a + 4)); lane5 = add binary64 (r .lane5) (f (a + 5)); lane6 = add binary64 (r .lane6) (f (a + 6)); lane7 = add binary64 (r .lane7) (f (a + 7)) }
 
 -- the cells of a line at the sixteen bars from i on
 pub record SixteenOf (line : Line) (i : ℕ) (r : Sixteen) : Type 0 where

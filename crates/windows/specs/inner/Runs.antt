@@ -6,7 +6,7 @@ use lib.Ieee.{Float}
 use Rattle.cells.specs.Line.{Line, line, plusZero, fromBar}
 use Rattle.cells.specs.Written.{Writing}
 use Rattle.windows.specs.Window.{addDifference, runningSum}
-use Rattle.limits.specs.Limits.{longestWindow}
+use Rattle.limits.specs.Limits.{Window}
 
 -- ---- running sums
 
@@ -16,8 +16,7 @@ runs n f = fromBar (n - 1) plusZero (λ i. runningSum addDifference n f (i + 1 -
 
 -- a window that is full at bar n - 1, and the cells before it
 pub record Opening (n : ℕ) (s now : List Float) : Type 0 where
-  pub some : 0 < n
-  pub narrow : n ≤ longestWindow
+  pub window : Window n
   pub full : n ≤ length s
   pub room : length s ≤ length now
   pub before : Writing (n - 1) (runs n (line s)) now now

@@ -6,13 +6,13 @@ use lib.ListN.{length}
 use Rattle.cells.specs.Line.{line}
 use Rattle.cells.specs.Written.{Writing}
 use Rattle.cells.proofs.Written.{one-more, ends}
 use Rattle.windows.specs.Window.{addDifference}
 use Rattle.windows.specs.inner.Sums.{Running}
 use Rattle.windows.proofs.Window.{first-running, next-running, same-bar}
 use Rattle.windows.specs.inner.Runs.{runs}
 use Rattle.windows.proofs.Runs.{run-at}
-use Rattle.rules_single.proofs.slide_sums.Statement.{statement}
-use Rattle.rules_single.proofs.slide_sums.Tie as tie
+use Rattle.windows.proofs.slide_sums.Statement.{statement}
+use Rattle.windows.proofs.slide_sums.Tie as tie
 
 abbrev Inv-loop : tie.InvT-loop
 Inv-loop series n sums₀ sum₀ i₀ sums sum i =

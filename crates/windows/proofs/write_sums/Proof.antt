@@ -2,9 +2,9 @@
 use borrow.Author.Needs.{needs}
 use lib.Ieee.{ofBits}
 use Rattle.cells.proofs.Leads.{up-to-bar, lead-then, lead-only}
 use Rattle.windows.specs.inner.Runs.{runs}
-use Rattle.rules_single.proofs.write_sums.Statement.{statement}
-use Rattle.rules_single.proofs.write_sums.Tie as tie
+use Rattle.windows.proofs.write_sums.Statement.{statement}
+use Rattle.windows.proofs.write_sums.Tie as tie
 
 pub write-sums-spec : {M : Type 1} → statement M
 write-sums-spec =

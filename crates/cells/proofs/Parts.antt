@@ -1,4 +1,4 @@
--- How the stages of a rule fit together: what they ask of each other, and a cell from what the stages before it wrote. Assumes nothing.
+-- A stage that reads the first part of a slice, which holds a line. Assumes nothing.
 use mathlib.Core.Path.{_≡_, _∙_}
 use mathlib.Core.List.{List}
 use Prim.Native.Nat.{ℕ, _<_, _≤_}
@@ -6,10 +6,9 @@ use native.Mathlib.Omega.{arith}
 use lib.ListN.{length, take, length-take}
 use lib.Seq.{getD-take}
 use lib.Ieee.{Float, nan}
 use Rattle.cells.specs.Line.{Line, line, Causal}
 use Rattle.cells.specs.Written.{Writing}
 use Rattle.cells.proofs.Written.{read-back, ends, writing-same}
-use Rattle.extremes.specs.inner.Best.{Numbers}
 
 -- ---- a stage that reads the first part of a slice, which holds the line g
 
@@ -23,6 +22,3 @@ module _ {k : ℕ} {g : Line} {old mid : List Float} (w : Writing k g old mid) (
   -- a causal operator on that part is the operator on g
   pub through : (F : Line → Line) {a b : List Float} → Causal F → Writing (length (take k mid)) (F (line (take k mid))) a b → Writing k (F g) a b
   through F p v = writing-same (ends v part-long) (λ i l. p (line (take k mid)) g i (λ j m. part-is j (omega arith)))
-
-  pub part-numbers : Numbers g k → Numbers (line (take k mid)) (length (take k mid))
-  part-numbers p = record { at = λ i l. let long = part-long in let m : i < k = omega arith in rw (part-is i m) (p .at i m) }

@@ -1,2 +1,0 @@
--- The position rules: what each of them answers and writes.
-pub mod inner
