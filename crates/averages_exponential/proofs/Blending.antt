@@ -9,7 +9,7 @@ use Rattle.cells.specs.Line.{Line, line}
 use Rattle.cells.proofs.Line.{from-bar}
 use Rattle.cells.specs.inner.Leads.{Led}
 use Rattle.cells.proofs.Leads.{lead-stands}
-use Rattle.cells.specs.Recur.{recur}
+use Rattle.cells.specs.Recur.{recur, carried}
 use Rattle.cells.specs.Written.{Writing}
 use Rattle.cells.proofs.Written.{step, then-written}
 use Rattle.averages_exponential.specs.Blend.{blend, smoothLine}
@@ -17,13 +17,13 @@ use Rattle.averages_exponential.specs.inner.Blending.{Blending}
 
 module _ {alpha : Float} {a : ℕ} {seed : Float} {f : Line} where
   pub seeded : Blending alpha a seed f (a + 1) seed
-  unfolding smoothLine recur
+  unfolding carried recur
   seeded =
       let none : a + 1 - 1 - a ≡ 0 = omega arith in
       record { is = rw (from-bar a nan _ (a + 1 - 1) (omega arith), none) }
 
   pub next-blended : {i : ℕ} {x y : Float} → Blending alpha a seed f i x → y ≡ blend alpha x (f i) → a < i → Blending alpha a seed f (i + 1) y
-  unfolding smoothLine recur
+  unfolding carried recur
   next-blended {i} r e h =
       let now : i + 1 - 1 ≡ i = omega arith in
       let one : i - a ≡ suc (i - 1 - a) = omega arith in
@@ -43,6 +43,6 @@ module _ {alpha : Float} {a : ℕ} {seed : Float} {f : Line} where
 -- the lead of a smoothed line, and the seed after it
 pub seed-written : (s : List Float) (alpha : Float) (first : ℕ) (seed : Float) {r : ℕ} {old now : List Float} → Led first (length s) nan r old now
     → (first < length s) × (length s ≤ length now) → Writing (first + 1) (smoothLine alpha first seed (line s)) old (set now first seed)
-unfolding smoothLine
+unfolding carried
 seed-written s alpha first seed w (p, h) =
     step first (first + 1) (then-written (w .lead) (lead-stands _ w) (omega arith)) (blended-cell {f = line s} first seeded) (omega (arith, w .lead .long))

@@ -9,10 +9,9 @@ use Rattle.calls.specs.declared.Answer.the-variants.{Cells, Refused}
 use Rattle.values.specs.Accepted.{accepted, finite}
 use Rattle.calls.specs.Answer.{slices, checked}
 use Rattle.cells.specs.Line.{line, fromBar}
-use Rattle.cells.specs.Recur.{recur}
+use Rattle.cells.specs.Recur.{recur, carried}
 use Rattle.cells.specs.Written.{written}
 use Rattle.windows.specs.Window.{sumFrom, windowSum, mean}
-use Rattle.averages_exponential.specs.Blend.{smoothLine}
 use Rattle.averages_exponential.specs.Ema.{emaLine}
 use Rattle.averages_exponential.specs.ExponentialSmoothing.{exponentialLine, exponentialAnswer}
 
@@ -25,13 +24,13 @@ long = fin false 1 (pos 1) ∷ fin false 1 (pos 2) ∷ fin false 3 (pos 1) ∷ f
 
 -- n 3 gives NaN, NaN, 4 and 7
 ema-case : written 4 (emaLine 3 (line long)) long ≡ nan ∷ nan ∷ fin false 1 (pos 2) ∷ fin false 7 (pos 0) ∷ []
-unfolding long smoothLine mean windowSum recur sumFrom fromBar add sub mul div ofInt round
+unfolding long carried mean windowSum recur sumFrom fromBar add sub mul div ofInt round
 ema-case = refl
 
 -- alpha 0.5 gives 1, 1.5 and 2.75; alpha 2 ^ 1023 gives 1, an infinity and NaN
 exponential-case : map (λ (e : ℤ). written 3 (exponentialLine (fin false 1 e) (line short)) short) (negsuc 0 ∷ pos 1023 ∷ [])
     ≡ (fin false 1 (pos 0) ∷ fin false 3 (negsuc 0) ∷ fin false 11 (negsuc 1) ∷ []) ∷ (fin false 1 (pos 0) ∷ inf false ∷ nan ∷ []) ∷ []
-unfolding short smoothLine recur fromBar add sub mul round
+unfolding short carried recur fromBar add sub mul round
 exponential-case = refl
 
 -- any finite alpha is taken, and no bars give the empty answer

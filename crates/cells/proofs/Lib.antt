@@ -1,8 +1,10 @@
+pub mod Carried
 pub mod Kept
 pub mod Leads
 pub mod Line
 pub mod Parts
 pub mod Recur
 pub mod Rows
+pub mod Search
 pub mod Touched
 pub mod Written

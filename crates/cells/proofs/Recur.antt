@@ -3,7 +3,8 @@ use mathlib.Core.Path.{_≡_}
 use Prim.Native.Nat.{ℕ, zero, suc, _+_, _<_}
 use native.Mathlib.Numerals.{add-one}
 use native.Mathlib.Omega.{arith}
-use Rattle.cells.specs.Recur.{Recurring, recur}
+use Rattle.cells.specs.Recur.{recur}
+use Rattle.cells.specs.inner.Recurring.{Recurring}
 
 module _ {A : Type 0} where
   module _ {a : A} {step : ℕ → A → A} where

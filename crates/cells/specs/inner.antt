@@ -1,5 +1,6 @@
 -- What the crate's own functions ask of each other.
 pub mod Kept
 pub mod Leads
+pub mod Recurring
 pub mod Rows
 pub mod Touched

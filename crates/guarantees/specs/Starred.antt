@@ -13,10 +13,9 @@ use Rattle.calls.specs.declared.Answer.the-variants.{Cells}
 use Rattle.values.specs.Accepted.{accepted, tick}
 use Rattle.calls.specs.Answer.{slices, checked, windowed, answered, countOf}
 use Rattle.cells.specs.Line.{line, fromBar}
-use Rattle.cells.specs.Recur.{recur}
+use Rattle.cells.specs.Recur.{recur, carried}
 use Rattle.windows.specs.Window.{sumFrom, windowSum, mean, runningSum}
 use Rattle.averages.specs.Sma.{smaLine}
-use Rattle.averages_exponential.specs.Blend.{smoothLine}
 use Rattle.averages_exponential.specs.Ema.{emaLine}
 use Rattle.averages_ticks.specs.TickMean.{toTick, tickMeanLine}
 use Rattle.rules_single.specs.Single.{singleLine}
@@ -93,5 +92,5 @@ found c =
     record { function = c .function; series = c .series; answer = a; cells = cellsOf (c .function) s (countOf a) }
 
 pub starred : map found table ≡ table
-unfolding smaLine smoothLine total toTick tickMeanLine singleLine runningMean doubleLine doubleAnswer mean windowSum sumFrom runningSum recur fromBar slices checked windowed answered accepted tick signOf add sub mul div ofInt toSigned whole lt eq le toBits
+unfolding smaLine carried total toTick tickMeanLine singleLine runningMean doubleLine doubleAnswer mean windowSum sumFrom runningSum recur fromBar slices checked windowed answered accepted tick signOf add sub mul div ofInt toSigned whole lt eq le toBits
 starred = refl

@@ -13,8 +13,8 @@ use Rattle.calls.specs.inner.Fits.{windowFits, Fits}
 use Rattle.calls.proofs.Room.{fits-parts, fits-answered}
 use Rattle.cells.specs.Line.{line}
 use Rattle.windows.proofs.Window.{mean-of, count-is-float}
-use Rattle.averages_exponential.specs.Blend.{smoothLine}
 use Rattle.averages_exponential.proofs.ema.Statement.{statement}
+use Rattle.cells.specs.Recur.{carried}
 use Rattle.averages_exponential.proofs.ema.Tie as tie
 
 -- the window is whole, and the lengths are in order
@@ -42,7 +42,7 @@ returns c =
     rw (fits-answered accepted (now (a .series)) (a .n) (length (now (a .out))) (told (at-sum .before)), ← seed) (at-smooth .answer-smooth .ensures)
 
 returns-2 : tie.Need-returns-2
-unfolding smoothLine
+unfolding carried
 returns-2 c = c .before .before .answer-lead .ensures _
 
 pub ema-spec : {M : Type 1} → statement M

@@ -1,0 +1,33 @@
+-- Lines that carry their last cell have no look-ahead, where their seed has none. Assumes nothing.
+use mathlib.Core.Path.{_≡_, refl}
+use mathlib.Core.Bool.{Bool, true, false, cond}
+use Prim.Native.Nat.{ℕ, _+_, _-_, _≤_}
+use native.Mathlib.Omega.{arith}
+use borrow.Author.Tests.{leb-true}
+use lib.Dec.{leb}
+use lib.Ieee.{Float}
+use Rattle.cells.specs.Line.{Line, fromBar, Same, Causal}
+use Rattle.cells.specs.Recur.{carried}
+use Rattle.cells.proofs.Recur.{recur-same}
+
+cond-when : {A : Type 0} (t : Bool) (x y d : A) → (t ≡ true → x ≡ y) → cond t x d ≡ cond t y d
+cond-when true x y d h = h refl
+cond-when false x y d h = refl
+
+-- two lines that begin at bar a, and agree at bar b if it is not before bar a
+pub from-same : {A : Type 0} (a : ℕ) (d : A) (f g : ℕ → A) (b : ℕ) → (a ≤ b → f b ≡ g b) → fromBar a d f b ≡ fromBar a d g b
+unfolding fromBar
+from-same a d f g b h = cond-when (leb a b) (f b) (g b) d (λ e. h (leb-true a b e))
+
+-- the cell of bar b needs the seed only from bar a on
+pub carried-same : (d : Float) (step : Float → Float → Float) (a : ℕ) (x y : Float) (f g : Line) (b : ℕ)
+    → (a ≤ b → x ≡ y) → Same f g b → carried d step a x f b ≡ carried d step a y g b
+unfolding carried
+carried-same d step a x y f g b h s =
+    from-same a d _ _ b (λ l. recur-same x y _ _ (b - a) (h l) (λ j z m. rw (s (a + 1 + j) (omega arith))))
+
+-- where the seed needs nothing after bar a, the line has no look-ahead
+pub causal-carried : (d : Float) (step : Float → Float → Float) (a : ℕ) (seed : Line → Float)
+    → ((f g : Line) → Same f g a → seed f ≡ seed g) → Causal (λ f. carried d step a (seed f) f)
+causal-carried d step a seed h f g b s =
+    carried-same d step a (seed f) (seed g) f g b (λ l. h f g (λ j m. s j (omega arith))) s

@@ -1,0 +1,1 @@
+// Changes from bar to bar: see specs/.
