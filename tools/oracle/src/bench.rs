@@ -1,4 +1,5 @@
-//! Times per bar of the library and of pure.rs, in one run: outputs ready beforehand on our side, vectors on the source's.
+//! Times per bar of the library and of pure.rs, in one run: outputs ready beforehand on our side, vectors on the
+//! source's.
 
 use crate::call::{Call, Value};
 use crate::catalogue::{self, Domain, Function, Role};
@@ -62,7 +63,15 @@ impl Row {
     }
 
     fn print(&self) {
-        println!("{:<24}{:>8}{:>10}{:>12.3}{:>12.3}{:>10.2}", self.name, self.bars, self.window, self.ours, self.source, self.ratio());
+        println!(
+            "{:<24}{:>8}{:>10}{:>12.3}{:>12.3}{:>10.2}",
+            self.name,
+            self.bars,
+            self.window,
+            self.ours,
+            self.source,
+            self.ratio()
+        );
     }
 }
 
@@ -86,7 +95,11 @@ pub fn run(prices: Prices) {
 
 /// The windows that a function is timed with: none for one without windows.
 fn windows(function: &Function, bars: usize) -> Vec<Option<usize>> {
-    if function.roles.contains(&Role::Window) { WINDOWS.iter().filter(|n| **n <= bars).map(|n| Some(*n)).collect() } else { vec![None] }
+    if function.roles.contains(&Role::Window) {
+        WINDOWS.iter().filter(|n| **n <= bars).map(|n| Some(*n)).collect()
+    } else {
+        vec![None]
+    }
 }
 
 /// Both sides on a walk of prices, by turns, and the best time of each.

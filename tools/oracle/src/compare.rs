@@ -48,7 +48,8 @@ impl Trial {
     fn difference(&mut self, call: &Call, salt: u64, expected: &Expected) -> Option<String> {
         self.out.fill(call.out, salt);
         self.work.fill(call.work, !salt);
-        let answer = (self.function.library.expect("only exported functions are compared"))(call, &mut self.out, &mut self.work);
+        let answer =
+            (self.function.library.expect("only exported functions are compared"))(call, &mut self.out, &mut self.work);
         if answer != expected.answer {
             return Some(format!("the answer is {answer:?}, expected {:?}", expected.answer));
         }
@@ -58,7 +59,8 @@ impl Trial {
     }
 
     fn print(&self) {
-        let refused = (1..=10).filter(|r| self.tally.by_refusal[*r] > 0).map(|r| format!(" {r}:{}", self.tally.by_refusal[r]));
+        let refused =
+            (1..=10).filter(|r| self.tally.by_refusal[*r] > 0).map(|r| format!(" {r}:{}", self.tally.by_refusal[r]));
         println!(
             "{}: {} calls, {} answered with {} cells, refused{}, {} differ",
             self.function.name,
@@ -85,7 +87,8 @@ pub fn notices(seed: u64, calls: usize, names: &[&str]) -> bool {
         let mut trial = Trial::new(function);
         let mut rng = Rng::new(seed);
         let mut wrong = |call: &Call| trial.difference(call, seed, &source::expected(function, call)).is_some();
-        (0..calls).any(|_| wrong(&generate::random(&mut rng, function))) || generate::edges(&mut rng, function).iter().any(wrong)
+        (0..calls).any(|_| wrong(&generate::random(&mut rng, function)))
+            || generate::edges(&mut rng, function).iter().any(wrong)
     })
 }
 

@@ -95,7 +95,8 @@ fn window_sums(ticks: &[i64], n: usize) -> Vec<i128> {
     (n..=ticks.len()).map(|end| before[end] - before[end - n]).collect()
 }
 
-/// Ticks around a level: from all alike in size to a wide range, with room to shift each by twice the spread and a window.
+/// Ticks around a level: from all alike in size to a wide range, with room to shift each by twice the spread and a
+/// window.
 fn ticks(rng: &mut Rng, len: usize) -> Vec<i64> {
     let spread = rng.pick(&[1, 3, 40, 1_000, 1 << 20, 1 << 22]);
     let highest = TICK_LIMIT - 3 * spread - WINDOW_LIMIT as i64;
@@ -162,11 +163,13 @@ fn double(rng: &mut Rng, function: &Function, fact: &mut Fact) {
     }
 }
 
-/// Shifts the ticks so that at the last bar m times the short sum and n times the long one differ by at most their common divisor.
+/// Shifts the ticks so that at the last bar m times the short sum and n times the long one differ by at most their
+/// common divisor.
 fn nearly_equal_means(rng: &mut Rng, ticks: &mut [i64], n: usize, m: usize) {
     let (n, m, end) = (n as i64, m as i64, ticks.len());
     let (recent, earlier) = (end - n as usize, end - m as usize);
-    let difference = |ticks: &[i64]| (m - n) * ticks[recent..].iter().sum::<i64>() - n * ticks[earlier..recent].iter().sum::<i64>();
+    let difference =
+        |ticks: &[i64]| (m - n) * ticks[recent..].iter().sum::<i64>() - n * ticks[earlier..recent].iter().sum::<i64>();
     let divisor = common_divisor(m, n);
     let want = divisor * rng.between(-1, 1);
     let present = difference(ticks);
@@ -195,7 +198,10 @@ fn one_average(rng: &mut Rng, function: &Function, fact: &mut Fact) {
     for bar in 2 * n - 2..ticks.len() {
         let doubly: i128 = sums[bar + 2 - 2 * n..bar + 2 - n].iter().sum();
         let difference = (n * n) as i128 * ticks[bar] as i128 - doubly;
-        assert!(bar + 1 < ticks.len() || n == 1 || difference == want as i128, "the last bar is not as near as it was made");
+        assert!(
+            bar + 1 < ticks.len() || n == 1 || difference == want as i128,
+            "the last bar is not as near as it was made"
+        );
         if difference != 0 && doubly != 0 {
             let sign = difference.signum() as f64;
             fact.check(cells[bar] == sign, || at(bar, &[n], cells[bar], &ticks));
@@ -203,7 +209,8 @@ fn one_average(rng: &mut Rng, function: &Function, fact: &mut Fact) {
     }
 }
 
-/// Changes the last ticks so that n*n times the last one less D is `want`; a window of 1 is left, where both are the price.
+/// Changes the last ticks so that n*n times the last one less D is `want`; a window of 1 is left, where both are the
+/// price.
 fn nearly_averaged(ticks: &mut [i64], n: usize, want: i64) {
     let last = ticks.len() - 1;
     let weight = |back: usize| (back + 1).min(2 * n - 1 - back) as i64;
@@ -241,7 +248,8 @@ fn middle(rng: &mut Rng, function: &Function, fact: &mut Fact) {
     }
 }
 
-/// Changes the last tick so that twice the last sum is at most 1 from the highest plus the lowest sum before it, where that tick is in range.
+/// Changes the last tick so that twice the last sum is at most 1 from the highest plus the lowest sum before it, where
+/// that tick is in range.
 fn nearly_in_the_middle(rng: &mut Rng, ticks: &mut [i64], n: usize) {
     let last = ticks.len() - 1;
     let sums = window_sums(ticks, n);

@@ -32,10 +32,12 @@ pub const DAMAGED: &[f64] = &[
 
 /// Lengths, then windows, that are tried together with every series kind.
 const LONG: &[usize] = &[SERIES_LIMIT - 1, SERIES_LIMIT, SERIES_LIMIT + 1, SERIES_LIMIT + 4_000];
-const ODD_COUNTS: &[usize] = &[0, WINDOW_LIMIT - 1, WINDOW_LIMIT, WINDOW_LIMIT + 1, 1 << 31, 1 << 32, 1 << 63, usize::MAX];
+const ODD_COUNTS: &[usize] =
+    &[0, WINDOW_LIMIT - 1, WINDOW_LIMIT, WINDOW_LIMIT + 1, 1 << 31, 1 << 32, 1 << 63, usize::MAX];
 const ODD_REALS: &[f64] =
     &[0.0, -0.0, 1.0, -1.0, 2.0, 1e300, -1e300, f64::MAX, f64::MIN, 5e-324, f64::INFINITY, f64::NEG_INFINITY, f64::NAN];
-const ODD_PERIODS: &[f64] = &[0.0, -0.0, 511.0, 512.0, 513.0, -1.0, 0.5, 511.5, 1e300, 5e-324, f64::INFINITY, f64::NEG_INFINITY, f64::NAN];
+const ODD_PERIODS: &[f64] =
+    &[0.0, -0.0, 511.0, 512.0, 513.0, -1.0, 0.5, 511.5, 1e300, 5e-324, f64::INFINITY, f64::NEG_INFINITY, f64::NAN];
 
 /// How the values of a series are made.
 #[derive(Clone, Copy, PartialEq)]
@@ -248,7 +250,8 @@ pub fn edges(rng: &mut Rng, function: &Function) -> Vec<Call> {
     calls
 }
 
-/// The edges that a short series has: each window, each odd value in one place, each room, one series of another length.
+/// The edges that a short series has: each window, each odd value in one place, each room, one series of another
+/// length.
 pub fn short_edges(rng: &mut Rng, function: &Function) -> Vec<Call> {
     const LEN: usize = 7;
     let mut calls = Vec::new();
@@ -266,9 +269,13 @@ pub fn short_edges(rng: &mut Rng, function: &Function) -> Vec<Call> {
         calls.push(call);
     }
     let full = plain(rng, function, LEN, modest(function));
-    for (out, work) in
-        [(0, full.work), (LEN - 1, full.work), (LEN + 2, full.work), (LEN, full.work.saturating_sub(1)), (LEN, full.work + 3)]
-    {
+    for (out, work) in [
+        (0, full.work),
+        (LEN - 1, full.work),
+        (LEN + 2, full.work),
+        (LEN, full.work.saturating_sub(1)),
+        (LEN, full.work + 3),
+    ] {
         calls.push(Call { out, work: if function.work { work } else { 0 }, ..full.clone() });
     }
     for place in 1..function.series {

@@ -38,10 +38,12 @@ impl Lent {
     pub fn differs(&self, kind: Kind, first: impl ExactSizeIterator<Item = u64>) -> Option<String> {
         let end = GUARD + first.len();
         let changed = |(place, word): (usize, &u64)| {
-            (*word != filling(self.salt, place)).then(|| format!("cell {} was to stay as it was", place as isize - GUARD as isize))
+            (*word != filling(self.salt, place))
+                .then(|| format!("cell {} was to stay as it was", place as isize - GUARD as isize))
         };
         let wrong = |(cell, (want, got)): (usize, (u64, &u64))| {
-            (!kind.same(want, *got)).then(|| format!("cell {cell} is {}, expected {}", kind.show(*got), kind.show(want)))
+            (!kind.same(want, *got))
+                .then(|| format!("cell {cell} is {}, expected {}", kind.show(*got), kind.show(want)))
         };
         let whole = self.words.iter().enumerate();
         (first.zip(&self.words[GUARD..]).enumerate().find_map(wrong))

@@ -46,7 +46,9 @@ fn main() -> ExitCode {
         ["bench", word] if Prices::named(word).is_some() => told(|| bench::run(Prices::named(word).unwrap())),
         ["record"] => told(|| record::print()),
         ["sheet"] => sheet::run(stdin().lock(), BufWriter::new(stdout().lock())).is_ok(),
-        ["sheet-compare", program, seed, damaged] => sheet_compare::compare(program, number(seed), number(damaged) as usize),
+        ["sheet-compare", program, seed, damaged] => {
+            sheet_compare::compare(program, number(seed), number(damaged) as usize)
+        }
         ["sheet-bench", program, file] => told(|| sheet_compare::bench(program, file)),
         ["smoother", "list"] => told(|| smoother::print_list()),
         ["smoother", "tables"] => told(|| smoother::print_tables()),

@@ -18,7 +18,8 @@ const FILL: f64 = -987_654_321.125;
 
 /// Prints the number of records, then each record, a line for each of its parts.
 pub fn print() {
-    let records: Vec<Vec<Vec<u64>>> = catalogue::exported().flat_map(|f| sample(f).into_iter().map(|call| record(f, &call))).collect();
+    let records: Vec<Vec<Vec<u64>>> =
+        catalogue::exported().flat_map(|f| sample(f).into_iter().map(|call| record(f, &call))).collect();
     print_words(&[records.len() as u64]);
     records.iter().flatten().for_each(|part| print_words(part));
 }
@@ -42,7 +43,12 @@ fn starred(function: &Function) -> Option<Call> {
         _ => return None,
     };
     let parameters = windows.iter().map(|n| Value::Count(*n)).collect();
-    Some(Call { series: vec![series.to_vec()], parameters, out: series.len(), work: 8 * series.len() * function.work as usize })
+    Some(Call {
+        series: vec![series.to_vec()],
+        parameters,
+        out: series.len(),
+        work: 8 * series.len() * function.work as usize,
+    })
 }
 
 /// The starred case, each edge, and a few series of every kind.

@@ -52,8 +52,8 @@ pub fn line(price: &[f64], period: f64) -> Vec<f64> {
     let cells = by_table(price, period);
     if platform_agrees() {
         let source = pure::ultimate_smoother(price, period);
-        let same =
-            cells.len() == source.len() && cells.iter().zip(&source).all(|(a, b)| a.to_bits() == b.to_bits() || a.is_nan() && b.is_nan());
+        let same = cells.len() == source.len()
+            && cells.iter().zip(&source).all(|(a, b)| a.to_bits() == b.to_bits() || a.is_nan() && b.is_nan());
         assert!(same, "period {period}: the step on the recorded values differs from pure.rs");
     }
     cells
@@ -68,7 +68,9 @@ fn by_table(price: &[f64], period: f64) -> Vec<f64> {
     let c1 = (1.0 + c2 - c3) / 4.0;
     let mut us = price.to_vec();
     for i in 4..price.len() {
-        us[i] = (1.0 - c1) * price[i] + (2.0 * c1 - c2) * price[i - 1] - (c1 + c3) * price[i - 2] + c2 * us[i - 1] + c3 * us[i - 2];
+        us[i] = (1.0 - c1) * price[i] + (2.0 * c1 - c2) * price[i - 1] - (c1 + c3) * price[i - 2]
+            + c2 * us[i - 1]
+            + c3 * us[i - 2];
     }
     us
 }
@@ -81,7 +83,8 @@ pub fn print_list() {
     }
 }
 
-/// Prints the recorded values as Rattle source: two constant tables, each number in the fewest digits that give its bits.
+/// Prints the recorded values as Rattle source: two constant tables, each number in the fewest digits that give its
+/// bits.
 pub fn print_tables() {
     println!("// The coefficients a1 and b1 of periods 1 to {LONGEST}, recorded by tools/smoother_table.");
     print_table("A1", "a1", |pair| pair.a1);
@@ -109,7 +112,14 @@ pub fn check() -> bool {
 
 /// Platform, compiler and the C library whose exp and cos were run.
 pub fn platform() -> String {
-    format!("{}-{}, {}, {}, {}", std::env::consts::ARCH, std::env::consts::OS, env!("ORACLE_RUSTC"), env!("ORACLE_LIBM"), fused())
+    format!(
+        "{}-{}, {}, {}, {}",
+        std::env::consts::ARCH,
+        std::env::consts::OS,
+        env!("ORACLE_RUSTC"),
+        env!("ORACLE_LIBM"),
+        fused()
+    )
 }
 
 /// Whether the processor has FMA: glibc's exp has another form without it, which differs at period 230.

@@ -31,7 +31,8 @@ pub fn answer(function: &Function, call: &Call) -> Answer {
     if reals(call).any(|x| !x.is_finite()) {
         return Answer::refused(6);
     }
-    if windows.iter().any(|n| *n > LONGEST_WINDOW) || !values(function, call, Role::Period).all(|p| is_period(p.real())) {
+    if windows.iter().any(|n| *n > LONGEST_WINDOW) || !values(function, call, Role::Period).all(|p| is_period(p.real()))
+    {
         return Answer::refused(7);
     }
     if bars == 0 || windows.contains(&0) {
