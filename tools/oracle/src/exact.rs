@@ -1,6 +1,6 @@
 //! Demand 3 of document 01 on whole ticks: what the library's cells must be by whole-number arithmetic alone.
 
-use crate::call::{Call, Value};
+use crate::call::{Call, Kind, Value};
 use crate::catalogue::{self, Function};
 use crate::generate;
 use crate::library::Lent;
@@ -64,25 +64,20 @@ pub fn run(seeds: &[u64], series: usize) -> bool {
     good & no_look_ahead(seeds, series)
 }
 
-/// The cells that the library gives for a call, or none where it is refused or answers with fewer than its bars.
-fn cells(function: &Function, call: &Call) -> Option<Vec<u64>> {
-    let (mut out, mut work) = (Lent::new(), Lent::new());
-    out.fill(call.bars(), 1);
-    work.fill(call.work, 2);
-    let answer = (function.library.unwrap())(call, &mut out, &mut work);
-    (answer.refusal == 0 && answer.count == call.bars() as u64).then(|| out.cells().to_vec())
+/// The cells of each output that the library gives for a call, or none where it does not answer with all its bars.
+fn cells(function: &Function, call: &Call) -> Option<Vec<Vec<u64>>> {
+    let mut outputs: Vec<Lent> = call.outputs.iter().map(|len| Lent::filled(function.kind, *len, 1)).collect();
+    let mut work = Lent::filled(Kind::F64, call.work, 2);
+    let answer = (function.library.unwrap())(call, &mut outputs, &mut work);
+    (answer.refusal == 0 && answer.count == call.bars() as u64).then(|| outputs.iter().map(Lent::words).collect())
 }
 
 fn of_ticks(function: &Function, ticks: &[i64], windows: &[usize]) -> Vec<f64> {
     assert!(ticks.iter().all(|x| x.abs() <= TICK_LIMIT), "ticks beyond what is promised");
-    let call = Call {
-        series: vec![ticks.iter().map(|x| *x as f64).collect()],
-        parameters: windows.iter().map(|n| Value::Count(*n)).collect(),
-        out: ticks.len(),
-        work: if function.work { 8 * ticks.len() } else { 0 },
-    };
+    let series = ticks.iter().map(|x| *x as f64).collect();
+    let call = function.call(vec![series], windows.iter().map(|n| Value::Count(*n)).collect());
     let cells = cells(function, &call).expect("whole ticks and windows in range are answered");
-    cells.into_iter().map(f64::from_bits).collect()
+    cells[0].iter().map(|word| f64::from_bits(*word)).collect()
 }
 
 /// The sum of the last n at each bar from n-1 on, at place bar - (n-1).
@@ -262,17 +257,23 @@ fn nearly_in_the_middle(rng: &mut Rng, ticks: &mut [i64], n: usize) {
     }
 }
 
-/// Two calls with equal bars up to a bar b have the same cells up to b, though their later bars differ.
-fn no_look_ahead(seeds: &[u64], series: usize) -> bool {
-    let mut fact = Fact::new("no look-ahead");
-    for function in catalogue::exported() {
+/// The functions of which document 01 says that they look ahead, or may start elsewhere when bars are added.
+const LOOK_AHEAD: &[&str] = &["jurik_volty", "single_ema_positions"];
+
+/// Two calls with equal bars up to a bar b have the same cells up to b in every output, though their later bars
+/// differ.
+fn no_look_ahead(seeds: &[u64], pairs: usize) -> bool {
+    let mut good = true;
+    for function in catalogue::exported().filter(|function| !LOOK_AHEAD.contains(&function.name)) {
+        let mut fact = Fact::new(function.name);
         for seed in seeds {
             let mut rng = Rng::new(!seed);
-            (0..series).for_each(|_| earlier_cells(&mut rng, function, &mut fact));
+            (0..pairs).for_each(|_| earlier_cells(&mut rng, function, &mut fact));
         }
+        println!("{}: no look-ahead in {} pairs of calls, {} wrong", fact.name, fact.checked, fact.wrong);
+        good &= fact.wrong == 0;
     }
-    fact.print();
-    fact.wrong == 0
+    good
 }
 
 fn earlier_cells(rng: &mut Rng, function: &Function, fact: &mut Fact) {
@@ -286,8 +287,11 @@ fn earlier_cells(rng: &mut Rng, function: &Function, fact: &mut Fact) {
     for (to, from) in other.series.iter_mut().zip(&whole.series) {
         to[..shared].copy_from_slice(&from[..shared]);
     }
+    // Document 01 speaks of Holt-Winters from the season's last bar on.
+    let first = if function.name == "holt_winters" { usize::from(whole.parameters[0]).saturating_sub(1) } else { 0 };
     if let (Some(a), Some(b)) = (cells(function, &whole), cells(function, &other)) {
-        let same = (0..shared).find(|bar| !function.kind.same(a[*bar], b[*bar]));
-        fact.check(same.is_none(), || format!("{} at bar {same:?} of {shared} shared", function.name));
+        let differs = |bar: &usize| a.iter().zip(&b).any(|(a, b)| !function.kind.same(a[*bar], b[*bar]));
+        let wrong = (first..shared).find(differs);
+        fact.check(wrong.is_none(), || format!("bar {wrong:?} of {shared} shared, {:?}", whole.parameters));
     }
 }

@@ -41,28 +41,16 @@ fn recorded() -> &'static [Pair] {
 }
 
 /// Whether pure.rs's formulas give the recorded values on this machine.
-fn platform_agrees() -> bool {
+pub fn agrees() -> bool {
     static AGREES: OnceLock<bool> = OnceLock::new();
     *AGREES.get_or_init(|| fresh() == recorded())
 }
 
-/// The cells of `ultimate_smoother` for a period that is whole from 0 to 512, from the recorded values;
-/// where the platform agrees with them, pure.rs itself must give the same.
-pub fn line(price: &[f64], period: f64) -> Vec<f64> {
-    let cells = by_table(price, period);
-    if platform_agrees() {
-        let source = pure::ultimate_smoother(price, period);
-        let same = cells.len() == source.len()
-            && cells.iter().zip(&source).all(|(a, b)| a.to_bits() == b.to_bits() || a.is_nan() && b.is_nan());
-        assert!(same, "period {period}: the step on the recorded values differs from pure.rs");
-    }
-    cells
-}
-
-fn by_table(price: &[f64], period: f64) -> Vec<f64> {
-    let (a1, b1) = match period as usize {
+/// The cells of `ultimate_smoother` for a whole period from 0 to 512, from the recorded values.
+pub fn by_table(price: &[f64], period: usize) -> Vec<f64> {
+    let (a1, b1) = match period {
         0 => (f64::NAN, f64::NAN),
-        whole => (f64::from_bits(recorded()[whole - 1].a1), f64::from_bits(recorded()[whole - 1].b1)),
+        _ => (f64::from_bits(recorded()[period - 1].a1), f64::from_bits(recorded()[period - 1].b1)),
     };
     let (c2, c3) = (b1, -a1 * a1);
     let c1 = (1.0 + c2 - c3) / 4.0;
