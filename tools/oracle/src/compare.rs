@@ -2,7 +2,7 @@
 
 use crate::call::{Call, Expected, Kind};
 use crate::catalogue::{self, Function};
-use crate::edges::edges;
+use crate::edges::{edges, extreme};
 use crate::generate;
 use crate::library::Lent;
 use crate::rng::Rng;
@@ -107,11 +107,13 @@ pub fn notices(seed: u64, calls: usize, names: &[&str]) -> bool {
     catalogue::exported().filter(wanted).any(in_random) || catalogue::exported().filter(wanted).any(in_edges)
 }
 
-/// Every exported function with each seed: its edges, then random calls up to `calls` in all. True if none differs.
+/// Every exported function: its largest call, then with each seed its edges and random calls up to `calls` in all. True
+/// if none differs.
 pub fn run(seeds: &[u64], calls: usize) -> bool {
     let (mut total, mut functions, mut differ) = (0, 0, 0);
     for function in catalogue::exported() {
         let mut trial = Trial::new(function);
+        trial.run(&extreme(&mut Rng::new(seeds[0]), function), seeds[0]);
         for seed in seeds {
             let mut rng = Rng::new(seed.wrapping_add(catalogue::number(function) << 56));
             let edges = edges(&mut rng, function);

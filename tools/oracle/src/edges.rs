@@ -233,6 +233,12 @@ fn long(rng: &mut Rng, function: &Function, calls: &mut Vec<Call>) {
     }
 }
 
+/// The longest series with the longest window. pure.rs sorts every window of `rolling_rank` anew, so fewer bars there.
+pub fn extreme(rng: &mut Rng, function: &Function) -> Call {
+    let len = if function.name == "rolling_rank" { 3 * WINDOW_LIMIT } else { SERIES_LIMIT };
+    plain(rng, function, len, with_windows(function, WINDOW_LIMIT))
+}
+
 /// Modest parameters but for the windows: the last is n, with smaller ones before it.
 pub fn with_windows(function: &Function, n: usize) -> Vec<Value> {
     let mut parameters = modest(function);

@@ -36,9 +36,9 @@ pub const LEVELS: &[f64] = &[0.0, 20.0, 25.0, 30.0, 50.0, 70.0, 75.0, 80.0, 100.
 fn length(rng: &mut Rng) -> usize {
     match rng.below(1000) {
         0..30 => rng.below(3),
-        30..760 => 3 + rng.below(28),
-        760..960 => 30 + rng.below(70),
-        960..998 => 100 + rng.below(300),
+        30..680 => 3 + rng.below(30),
+        680..940 => 30 + rng.below(90),
+        940..997 => 100 + rng.below(300),
         _ => 400 + rng.below(2_000),
     }
 }
@@ -105,7 +105,7 @@ fn parameter(rng: &mut Rng, role: Role, len: usize) -> Value {
 fn parameters(rng: &mut Rng, function: &Function, len: usize) -> Vec<Value> {
     let mut values: Vec<Value> = function.roles.iter().map(|role| parameter(rng, *role, len)).collect();
     if function.rising && !rng.one_in(8) {
-        values.sort_by_key(|value| usize::from(*value));
+        rise(&mut values);
     }
     if function.roles.contains(&Role::Level) && !rng.one_in(3) {
         let (upper, lower) = (rng.between(50, 80) as f64, rng.between(20, 50) as f64);
@@ -113,6 +113,15 @@ fn parameters(rng: &mut Rng, function: &Function, len: usize) -> Vec<Value> {
         values.splice(1.., [upper, lower, exit].map(Value::Real));
     }
     values
+}
+
+/// Sorts windows, and moves each that is not above the one before it to just above.
+fn rise(windows: &mut [Value]) {
+    windows.sort_by_key(|window| usize::from(*window));
+    for place in 1..windows.len() {
+        let least = usize::from(windows[place - 1]).saturating_add(1);
+        windows[place] = Value::Count(usize::from(windows[place]).max(least));
+    }
 }
 
 /// A call with enough room and nothing damaged.
