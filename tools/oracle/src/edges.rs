@@ -2,9 +2,7 @@
 
 use crate::call::{Call, Value};
 use crate::catalogue::{Function, Role};
-use crate::generate::{
-    LEVELS, ODD_PERIODS, ODD_REALS, ODD_WHOLE_PERIODS, ODD_WINDOWS, PERIOD_LIMIT, WINDOW_LIMIT, plain,
-};
+use crate::generate::{ODD_PERIODS, ODD_REALS, ODD_WHOLE_PERIODS, ODD_WINDOWS, PERIOD_LIMIT, WINDOW_LIMIT, plain};
 use crate::rng::Rng;
 use crate::series::{DAMAGED, SERIES_LIMIT, damage};
 
@@ -50,8 +48,7 @@ pub fn edge_values(role: Role, len: usize) -> Vec<Value> {
         Role::Window => counts(&[&[1, 2, len / 2, len / 2 + 1, len.div_ceil(2) + 1], &around, ODD_WINDOWS]),
         Role::WholePeriod => counts(&[&[1, 2, 3, 4, 5], &around, ODD_WHOLE_PERIODS]),
         Role::Period => reals(ODD_PERIODS),
-        Role::Weight | Role::Multiple => reals(ODD_REALS),
-        Role::Level => reals(&[LEVELS, ODD_REALS].concat()),
+        Role::Weight | Role::Multiple | Role::Level => reals(ODD_REALS),
     }
 }
 

@@ -30,7 +30,7 @@ pub const ODD_REALS: &[f64] = &[
 pub const ODD_PERIODS: &[f64] =
     &[0.0, -0.0, 511.0, 512.0, 513.0, -1.0, 0.5, 511.5, 1e300, 5e-324, f64::INFINITY, f64::NEG_INFINITY, f64::NAN];
 /// Levels that an index of small ticks often has, too.
-pub const LEVELS: &[f64] = &[0.0, 20.0, 25.0, 30.0, 50.0, 70.0, 75.0, 80.0, 100.0];
+const LEVELS: &[f64] = &[0.0, 20.0, 25.0, 30.0, 50.0, 70.0, 75.0, 80.0, 100.0];
 
 /// A length: mostly short.
 fn length(rng: &mut Rng) -> usize {
