@@ -15,6 +15,7 @@ pub fn edges(rng: &mut Rng, function: &Function) -> Vec<Call> {
     all_levels(rng, function, &mut calls);
     every_room(rng, function, &mut calls);
     unequal(rng, function, &mut calls);
+    wide_windows(rng, function, &mut calls);
     pairs_of_faults(rng, function, &mut calls);
     long(rng, function, &mut calls);
     calls
@@ -213,6 +214,15 @@ fn pairs_of_faults(rng: &mut Rng, function: &Function, calls: &mut Vec<Call>) {
             first.put(&mut call);
             second.put(&mut call);
             calls.push(call);
+        }
+    }
+}
+
+/// Windows of some hundred bars, from where a rank just below the middle rounds to -0.0.
+fn wide_windows(rng: &mut Rng, function: &Function, calls: &mut Vec<Call>) {
+    for n in [63, 64, 65, 202, 204, 255, 256, 302, 402] {
+        for _ in 0..3 {
+            calls.push(plain(rng, function, 3 * n + 8, with_windows(function, n)));
         }
     }
 }

@@ -72,13 +72,14 @@ const SHAPES: &[Shape] = &[
 ];
 const OF_TICKS: usize = 11;
 
-/// A series of `len` values that a function of this domain accepts; some begin with zeros.
+/// A series of `len` values that a function of this domain accepts; some begin with zeros. Ticks may be whole, or tenths,
+/// hundredths and thirds, which have the same ties but round.
 pub fn series(rng: &mut Rng, domain: Domain, len: usize) -> Vec<f64> {
-    let shape = match domain {
-        Domain::Accepted => rng.pick(SHAPES),
-        Domain::WholeTicks => rng.pick(&SHAPES[..OF_TICKS]),
+    let (shape, tick) = match domain {
+        Domain::Accepted => (rng.pick(SHAPES), rng.pick(&[1.0, 1.0, 1.0, 1.0, 0.1, 0.01, 1.0 / 3.0])),
+        Domain::WholeTicks => (rng.pick(&SHAPES[..OF_TICKS]), 1.0),
     };
-    let mut values = of_shape(rng, shape, len);
+    let mut values = of_shape(rng, shape, tick, len);
     if rng.one_in(12) {
         let zeros = rng.below(len + 1);
         values[..zeros].fill(0.0);
@@ -86,7 +87,7 @@ pub fn series(rng: &mut Rng, domain: Domain, len: usize) -> Vec<f64> {
     values
 }
 
-fn of_shape(rng: &mut Rng, shape: Shape, len: usize) -> Vec<f64> {
+fn of_shape(rng: &mut Rng, shape: Shape, tick: f64, len: usize) -> Vec<f64> {
     let start = rng.between(-TICK_LIMIT + SERIES_LIMIT as i64 * 2, TICK_LIMIT - SERIES_LIMIT as i64 * 2);
     let few = [rng.between(-9, 9), rng.between(-9, 9), rng.between(-9, 9)];
     let base = (rng.unit() - 0.5) * 2.0 * rng.pick(&[1.0, 100.0, 1e6, VALUE_LIMIT / 2.0]);
@@ -117,7 +118,7 @@ fn of_shape(rng: &mut Rng, shape: Shape, len: usize) -> Vec<f64> {
             Shape::Large => return VALUE_LIMIT * (1.0 - 2.0 * rng.unit()),
             Shape::MixedSizes => return of_any_size(rng.word()),
         };
-        ticks as f64
+        ticks as f64 * tick
     };
     (0..len).map(value).map(within_limits).collect()
 }
