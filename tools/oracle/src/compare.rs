@@ -113,9 +113,10 @@ pub fn run(seeds: &[u64], calls: usize) -> bool {
     let (mut total, mut functions, mut differ) = (0, 0, 0);
     for function in catalogue::exported() {
         let mut trial = Trial::new(function);
-        trial.run(&extreme(&mut Rng::new(seeds[0]), function), seeds[0]);
+        let seeded = |seed: u64| Rng::new(seed.wrapping_add(catalogue::number(function) << 56));
+        trial.run(&extreme(&mut seeded(seeds[0]), function), seeds[0]);
         for seed in seeds {
-            let mut rng = Rng::new(seed.wrapping_add(catalogue::number(function) << 56));
+            let mut rng = seeded(*seed);
             let edges = edges(&mut rng, function);
             for call in &edges {
                 trial.run(call, rng.word());

@@ -4,7 +4,7 @@ use crate::call::{Call, Value};
 use crate::catalogue::{Function, Role};
 use crate::generate::{ODD_PERIODS, ODD_REALS, ODD_WHOLE_PERIODS, ODD_WINDOWS, PERIOD_LIMIT, WINDOW_LIMIT, plain};
 use crate::rng::Rng;
-use crate::series::{DAMAGED, SERIES_LIMIT, damage};
+use crate::series::{DAMAGED, SERIES_LIMIT, damage, wide};
 
 pub fn edges(rng: &mut Rng, function: &Function) -> Vec<Call> {
     let mut calls = Vec::new();
@@ -243,7 +243,8 @@ fn long(rng: &mut Rng, function: &Function, calls: &mut Vec<Call>) {
 /// The longest series with the longest window. pure.rs sorts every window of `rolling_rank` anew, so fewer bars there.
 pub fn extreme(rng: &mut Rng, function: &Function) -> Call {
     let len = if function.name == "rolling_rank" { 3 * WINDOW_LIMIT } else { SERIES_LIMIT };
-    plain(rng, function, len, with_windows(function, WINDOW_LIMIT))
+    let series = (0..function.series).map(|_| wide(rng, function.domain, len)).collect();
+    function.call(series, with_windows(function, WINDOW_LIMIT))
 }
 
 /// Modest parameters but for the windows: the last is n, with smaller ones before it.

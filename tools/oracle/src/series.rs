@@ -87,6 +87,12 @@ pub fn series(rng: &mut Rng, domain: Domain, len: usize) -> Vec<f64> {
     values
 }
 
+/// Ticks or hundredths without any order.
+pub fn wide(rng: &mut Rng, domain: Domain, len: usize) -> Vec<f64> {
+    let tick = if domain == Domain::Accepted { rng.pick(&[1.0, 0.01]) } else { 1.0 };
+    of_shape(rng, Shape::WideTicks, tick, len)
+}
+
 fn of_shape(rng: &mut Rng, shape: Shape, tick: f64, len: usize) -> Vec<f64> {
     let start = rng.between(-TICK_LIMIT + SERIES_LIMIT as i64 * 2, TICK_LIMIT - SERIES_LIMIT as i64 * 2);
     let few = [rng.between(-9, 9), rng.between(-9, 9), rng.between(-9, 9)];
