@@ -292,6 +292,8 @@ fn earlier_cells(rng: &mut Rng, function: &Function, fact: &mut Fact) {
     if let (Some(a), Some(b)) = (cells(function, &whole), cells(function, &other)) {
         let differs = |bar: &usize| a.iter().zip(&b).any(|(a, b)| !function.kind.same(a[*bar], b[*bar]));
         let wrong = (first..shared).find(differs);
-        fact.check(wrong.is_none(), || format!("bar {wrong:?} of {shared} shared, {:?}", whole.parameters));
+        if first < shared {
+            fact.check(wrong.is_none(), || format!("bar {wrong:?} of {shared} shared, {:?}", whole.parameters));
+        }
     }
 }

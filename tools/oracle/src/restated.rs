@@ -1,5 +1,5 @@
-//! The functions of pure.rs that smooth, said again around the smoother of the recorded coefficients. Where exp and
-//! cos give those coefficients on this machine, pure.rs itself must give the same cells in every call.
+//! The functions of pure.rs that smooth, restated around the smoother of the recorded coefficients. In every call for
+//! whose periods exp and cos give those coefficients on this machine, pure.rs itself must give the same cells.
 
 use crate::call::{Kind, Lines};
 use crate::rng::Rng;
@@ -10,7 +10,8 @@ pub type Words = Vec<Vec<u64>>;
 
 /// The smoother's own cells, for a period that is whole from 0 to 512.
 pub fn ultimate_smoother(price: &[f64], period: f64) -> Words {
-    tied("ultimate_smoother", by_table(price, period as usize), || pure::ultimate_smoother(price, period))
+    let whole = period as usize;
+    tied("ultimate_smoother", [whole, whole], by_table(price, whole), || pure::ultimate_smoother(price, period))
 }
 
 /// The strength of two exponential averages, of gains and of losses, smoothed.
@@ -29,7 +30,7 @@ pub fn rsx_ss2(close: &[f64], period: usize, smooth_period: usize) -> Words {
         loss = alpha * down + (1.0 - alpha) * loss;
         strength[i] = if loss == 0.0 { 100.0 } else { 100.0 - (100.0 / (1.0 + gain / loss)) };
     }
-    tied("rsx_ss2", by_table(&strength, smooth_period), given)
+    tied("rsx_ss2", [smooth_period, smooth_period], by_table(&strength, smooth_period), given)
 }
 
 /// The smoothed close, and above and below it a multiple of the smoothed average range.
@@ -50,7 +51,7 @@ pub fn ultimate_channel(high: &[f64], low: &[f64], close: &[f64], period: usize,
         };
     }
     let lines = around(by_table(close, period), multiplier, by_table(&average, period / 2));
-    tied("ultimate_channel", lines, given)
+    tied("ultimate_channel", [period, period / 2], lines, given)
 }
 
 /// The smoothed close, and above and below it a multiple of the smoothed deviation of the last closes.
@@ -64,7 +65,7 @@ pub fn ultimate_bands(close: &[f64], period: usize, std_multiplier: f64, smooth_
         deviations[i] = deviation(&close[i + 1 - period..=i]);
     }
     let lines = around(by_table(close, period), std_multiplier, by_table(&deviations, smooth_period));
-    tied("ultimate_bands", lines, given)
+    tied("ultimate_bands", [period, smooth_period], lines, given)
 }
 
 /// The root of the squares about the mean over one less than their number; 0 for one value.
@@ -81,19 +82,19 @@ fn around(middle: Vec<f64>, multiplier: f64, width: Vec<f64>) -> (Vec<f64>, Vec<
     (middle, upper, lower)
 }
 
-/// The cells said again; where the coefficients are this machine's, the source's must be the same.
-fn tied<T: Lines>(name: &str, again: T, source: impl FnOnce() -> T) -> Words {
-    let words = again.words();
-    if agrees() {
-        assert!(same(&words, &source().words()), "{name}: said again it differs from pure.rs");
+/// The restated cells; where the coefficients of these periods are this machine's, the source's must be the same.
+fn tied<T: Lines>(name: &str, periods: [usize; 2], restated: T, source: impl FnOnce() -> T) -> Words {
+    let words = restated.words();
+    if periods.into_iter().all(agrees) {
+        assert!(same(&words, &source().words()), "{name} at periods {periods:?} differs from pure.rs");
     }
     words
 }
 
-fn same(again: &Words, source: &Words) -> bool {
+fn same(restated: &Words, source: &Words) -> bool {
     let same_line =
         |(a, b): (&Vec<u64>, &Vec<u64>)| a.len() == b.len() && a.iter().zip(b).all(|(a, b)| Kind::F64.same(*a, *b));
-    again.len() == source.len() && again.iter().zip(source).all(same_line)
+    restated.len() == source.len() && restated.iter().zip(source).all(same_line)
 }
 
 /// Runs each of them at every period, tied to pure.rs where the coefficients are this machine's.
@@ -113,9 +114,6 @@ pub fn check() {
             calls += 5;
         }
     }
-    if agrees() {
-        println!("smoothing functions: pure.rs gives the cells said again, in {calls} calls");
-    } else {
-        println!("smoothing functions: exp and cos differ here from the recorded table, so pure.rs is not asked");
-    }
+    let left_out = (1..=LONGEST).filter(|period| !agrees(*period)).count();
+    println!("restated functions: pure.rs gives the same cells in {calls} calls, {left_out} periods left out");
 }

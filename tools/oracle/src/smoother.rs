@@ -23,8 +23,9 @@ fn formulas(period: f64) -> Pair {
     Pair { a1: a1.to_bits(), b1: b1.to_bits() }
 }
 
-fn fresh() -> Vec<Pair> {
-    (1..=LONGEST).map(|period| formulas(period as f64)).collect()
+fn fresh() -> &'static [Pair] {
+    static LIST: OnceLock<Vec<Pair>> = OnceLock::new();
+    LIST.get_or_init(|| (1..=LONGEST).map(|period| formulas(period as f64)).collect())
 }
 
 fn recorded() -> &'static [Pair] {
@@ -40,10 +41,9 @@ fn recorded() -> &'static [Pair] {
     })
 }
 
-/// Whether pure.rs's formulas give the recorded values on this machine.
-pub fn agrees() -> bool {
-    static AGREES: OnceLock<bool> = OnceLock::new();
-    *AGREES.get_or_init(|| fresh() == recorded())
+/// Whether pure.rs's formulas give the recorded values of a period on this machine. Period 0 has none.
+pub fn agrees(period: usize) -> bool {
+    period == 0 || fresh()[period - 1] == recorded()[period - 1]
 }
 
 /// The cells of `ultimate_smoother` for a whole period from 0 to 512, from the recorded values.
@@ -90,7 +90,7 @@ fn print_table(name: &str, what: &str, part: fn(&Pair) -> u64) {
 /// Compares the recorded list with a fresh run; false if they differ on what it was recorded on.
 pub fn check() -> bool {
     let (here, there) = (platform(), RECORDED.lines().next().unwrap_or(""));
-    let differing = fresh().iter().zip(recorded()).filter(|(a, b)| a != b).count();
+    let differing = (1..=LONGEST).filter(|period| !agrees(*period)).count();
     println!("smoother table: {differing} of {LONGEST} periods differ from a fresh run on {here}");
     if here != there {
         println!("smoother table: it was recorded on {there}, so a difference would be the platform's");
