@@ -72,8 +72,8 @@ const SHAPES: &[Shape] = &[
 ];
 const OF_TICKS: usize = 11;
 
-/// A series of `len` values that a function of this domain accepts; some begin with zeros. Ticks may be whole, or tenths,
-/// hundredths and thirds, which have the same ties but round.
+/// A series of `len` values that a function of this domain accepts; some begin with zeros. Ticks may be whole, or
+/// tenths, hundredths and thirds, which have the same ties but round.
 pub fn series(rng: &mut Rng, domain: Domain, len: usize) -> Vec<f64> {
     let (shape, tick) = match domain {
         Domain::Accepted => (rng.pick(SHAPES), rng.pick(&[1.0, 1.0, 1.0, 1.0, 0.1, 0.01, 1.0 / 3.0])),
