@@ -1,13 +1,15 @@
-//! Times per bar of the library and of pure.rs, in one run: outputs ready beforehand on our side, vectors on the source's.
+//! Times per bar of the library and of pure.rs, in one run: outputs ready beforehand on our side, vectors on the
+//! source's.
 
-use crate::call::{Call, Value};
-use crate::catalogue::{self, Domain, Function, Role};
+use crate::call::{Kind, Value};
+use crate::catalogue::{self, Domain, Function};
 use crate::clock::best_of_two;
 use crate::library::Lent;
 use crate::rng::Rng;
 
 const LENGTHS: &[usize] = &[512, 65_536];
 const WINDOWS: &[usize] = &[2, 5, 20, 60, 250, 1_000, 4_096];
+const PERIODS: &[usize] = &[3, 5, 20, 60, 250];
 
 /// What the series of a table are made of, each from the same walk of whole numbers.
 #[derive(Clone, Copy, PartialEq, Eq)]
@@ -62,7 +64,15 @@ impl Row {
     }
 
     fn print(&self) {
-        println!("{:<24}{:>8}{:>10}{:>12.3}{:>12.3}{:>10.2}", self.name, self.bars, self.window, self.ours, self.source, self.ratio());
+        println!(
+            "{:<24}{:>8}{:>10}{:>12.3}{:>12.3}{:>10.2}",
+            self.name,
+            self.bars,
+            self.window,
+            self.ours,
+            self.source,
+            self.ratio()
+        );
     }
 }
 
@@ -72,8 +82,8 @@ pub fn run(prices: Prices) {
     let mut rows: Vec<Row> = Vec::new();
     for function in catalogue::exported().filter(|function| prices.suit(function)) {
         for bars in LENGTHS {
-            for window in windows(function, *bars) {
-                let row = measure(function, *bars, window, prices);
+            for timing in timings(function.name, *bars) {
+                let row = measure(function, *bars, timing, prices);
                 row.print();
                 rows.push(row);
             }
@@ -84,48 +94,76 @@ pub fn run(prices: Prices) {
     }
 }
 
-/// The windows that a function is timed with: none for one without windows.
-fn windows(function: &Function, bars: usize) -> Vec<Option<usize>> {
-    if function.roles.contains(&Role::Window) { WINDOWS.iter().filter(|n| **n <= bars).map(|n| Some(*n)).collect() } else { vec![None] }
+/// The window that a row names, where it has one, and all parameters.
+struct Timing {
+    window: Option<usize>,
+    parameters: Vec<Value>,
+}
+
+impl Timing {
+    /// One row for each of these windows that the series is long enough for.
+    fn each(windows: &[usize], bars: usize, parameters: impl Fn(usize) -> Vec<Value>) -> Vec<Timing> {
+        let fitting = windows.iter().filter(|n| **n <= bars);
+        fitting.map(|n| Timing { window: Some(*n), parameters: parameters(*n) }).collect()
+    }
+
+    /// One row.
+    fn only(parameters: &[Value]) -> Vec<Timing> {
+        vec![Timing { window: None, parameters: parameters.to_vec() }]
+    }
+}
+
+/// What a function is timed with.
+fn timings(name: &str, bars: usize) -> Vec<Timing> {
+    use Value::{Count, Real};
+    let windows = |parameters: fn(usize) -> Vec<Value>| Timing::each(WINDOWS, bars, parameters);
+    match name {
+        "true_range" => Timing::only(&[]),
+        "exponential_smoothing" => Timing::only(&[Real(0.1)]),
+        "ultimate_smoother" => Timing::only(&[Real(20.0)]),
+        "rsx_ss2" => Timing::only(&[Count(14), Count(10)]),
+        "jurik_volty" => Timing::only(&[Count(20), Real(1.0)]),
+        "ultimate_bands" => Timing::each(PERIODS, bars, |n| vec![Count(n), Real(2.0), Count(10)]),
+        "ultimate_channel" => Timing::each(PERIODS, bars, |n| vec![Count(n), Real(2.0)]),
+        "double_sma_positions" => windows(|n| vec![Count(n / 2), Count(n)]),
+        "mms_positions" => windows(|n| vec![Count(n), Count(n)]),
+        "triple_sma_positions" => Timing::each(&WINDOWS[1..], bars, |n| vec![Count(n / 4), Count(n / 2), Count(n)]),
+        "ultimate_oscillator" => windows(|n| vec![Count((n / 4).max(1)), Count(n / 2), Count(n)]),
+        "boll_positions" | "boll_reverse_positions" => windows(|n| vec![Count(n), Real(1.5)]),
+        "rsi_reverse_positions" => windows(|n| vec![Count(n), Real(70.0), Real(30.0), Real(50.0)]),
+        "holt_winters" => windows(|n| vec![Count(n), Real(0.2), Real(0.1), Real(0.1)]),
+        _ => windows(|n| vec![Count(n)]),
+    }
 }
 
 /// Both sides on a walk of prices, by turns, and the best time of each.
-fn measure(function: &'static Function, bars: usize, window: Option<usize>, prices: Prices) -> Row {
-    let call = Call {
-        series: (0..function.series).map(|place| walk(place as u64, bars, prices)).collect(),
-        parameters: parameters(function, window),
-        out: bars,
-        work: if function.work { 8 * bars } else { 0 },
-    };
+fn measure(function: &'static Function, bars: usize, timing: Timing, prices: Prices) -> Row {
+    let call = function.call(series(function, bars, prices), timing.parameters);
     let library = function.library.unwrap();
-    let source = function.timed.unwrap_or(function.reckon);
-    let (mut out, mut work) = (Lent::new(), Lent::new());
-    out.fill(call.out, 1);
-    work.fill(call.work, 2);
-    let mut ours = || assert_eq!(library(&call, &mut out, &mut work).count, bars as u64);
-    let mut theirs = || source(&call);
+    let mut outputs: Vec<Lent> = call.outputs.iter().map(|len| Lent::filled(function.kind, *len, 1)).collect();
+    let mut work = Lent::filled(Kind::F64, call.work, 2);
+    let mut ours = || assert_eq!(library(&call, &mut outputs, &mut work).count, bars as u64);
+    let mut theirs = || (function.timed)(&call);
     let (ours, source) = best_of_two(&mut ours, &mut theirs);
-    let window = window.map_or("-".to_string(), |n| n.to_string());
+    let window = timing.window.map_or("-".to_string(), |n| n.to_string());
     Row { name: function.name, bars, window, ours: ours / bars as f64, source: source / bars as f64 }
 }
 
-/// The window last, half of it before; a factor of 0.1 and a period of 20.
-fn parameters(function: &Function, window: Option<usize>) -> Vec<Value> {
-    let windows = function.roles.iter().filter(|role| **role == Role::Window).count();
-    let value = |(place, role): (usize, &Role)| match role {
-        Role::Window => Value::Count(window.unwrap() >> (windows - 1 - place)),
-        Role::Real => Value::Real(0.1),
-        Role::Period => Value::Real(20.0),
-    };
-    function.roles.iter().enumerate().map(value).collect()
-}
-
-fn walk(seed: u64, bars: usize, prices: Prices) -> Vec<f64> {
-    let mut rng = Rng::new(seed);
+/// One walk of prices, or the high, the low and the close of bars around it; for the true range the close before.
+fn series(function: &Function, bars: usize, prices: Prices) -> Vec<Vec<f64>> {
+    let mut rng = Rng::new(0);
     let mut price = START;
-    let step = |_| {
+    let mut step = || {
         price += rng.between(-40, 40);
-        prices.of(price)
+        price
     };
-    (0..bars).map(step).collect()
+    let close: Vec<i64> = (0..bars).map(|_| step()).collect();
+    let line = |walk: &[i64]| walk.iter().map(|price| prices.of(*price)).collect::<Vec<f64>>();
+    if function.series == 1 {
+        return vec![line(&close)];
+    }
+    let mut beside = |sign: i64| close.iter().map(|price| price + sign * rng.between(0, 30)).collect::<Vec<i64>>();
+    let (high, low) = (beside(1), beside(-1));
+    let before = [&close[..1], &close[..bars - 1]].concat();
+    vec![line(&high), line(&low), line(if function.name == "true_range" { &before } else { &close })]
 }

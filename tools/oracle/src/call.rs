@@ -8,20 +8,6 @@ pub enum Value {
 }
 
 impl Value {
-    pub fn count(self) -> usize {
-        match self {
-            Value::Count(n) => n,
-            Value::Real(x) => panic!("{x} is not an integer parameter"),
-        }
-    }
-
-    pub fn real(self) -> f64 {
-        match self {
-            Value::Real(x) => x,
-            Value::Count(n) => panic!("{n} is not an f64 parameter"),
-        }
-    }
-
     /// The parameter as one word of a record.
     pub fn word(self) -> u64 {
         match self {
@@ -31,12 +17,30 @@ impl Value {
     }
 }
 
-/// What the caller lends: series, parameters, and the lengths of the output and of the work slice.
+impl From<Value> for usize {
+    fn from(value: Value) -> usize {
+        match value {
+            Value::Count(n) => n,
+            Value::Real(x) => panic!("{x} is not an integer parameter"),
+        }
+    }
+}
+
+impl From<Value> for f64 {
+    fn from(value: Value) -> f64 {
+        match value {
+            Value::Real(x) => x,
+            Value::Count(n) => panic!("{n} is not an f64 parameter"),
+        }
+    }
+}
+
+/// What the caller lends: series, parameters, and the lengths of the outputs and of the work slice.
 #[derive(Clone, Debug)]
 pub struct Call {
     pub series: Vec<Vec<f64>>,
     pub parameters: Vec<Value>,
-    pub out: usize,
+    pub outputs: Vec<usize>,
     pub work: usize,
 }
 
@@ -65,10 +69,10 @@ impl Answer {
     }
 }
 
-/// What a call must leave: its answer, the output's first cells, and how many work cells hold +0.0.
+/// What a call must leave: its answer, the first cells of each output, and how many work cells hold +0.0.
 pub struct Expected {
     pub answer: Answer,
-    pub cells: Vec<u64>,
+    pub cells: Vec<Vec<u64>>,
     pub cleared: usize,
 }
 
@@ -82,6 +86,8 @@ pub trait Cell: Copy {
 pub enum Kind {
     F64,
     I64,
+    I32,
+    U64,
 }
 
 impl Cell for f64 {
@@ -98,8 +104,49 @@ impl Cell for i64 {
     }
 }
 
-pub fn words<T: Cell>(cells: Vec<T>) -> Vec<u64> {
-    cells.into_iter().map(T::word).collect()
+impl Cell for i32 {
+    const KIND: Kind = Kind::I32;
+    fn word(self) -> u64 {
+        self as i64 as u64
+    }
+}
+
+impl Cell for u64 {
+    const KIND: Kind = Kind::U64;
+    fn word(self) -> u64 {
+        self
+    }
+}
+
+/// pure.rs's rank that may be missing: 0 for none.
+impl Cell for Option<usize> {
+    const KIND: Kind = Kind::U64;
+    fn word(self) -> u64 {
+        self.map_or(0, |rank| rank as u64)
+    }
+}
+
+/// What a function of the source gives: the cells of one output or of three, or their words.
+pub trait Lines {
+    fn words(self) -> Vec<Vec<u64>>;
+}
+
+impl<T: Cell> Lines for Vec<T> {
+    fn words(self) -> Vec<Vec<u64>> {
+        vec![self.into_iter().map(T::word).collect()]
+    }
+}
+
+impl<T: Cell> Lines for (Vec<T>, Vec<T>, Vec<T>) {
+    fn words(self) -> Vec<Vec<u64>> {
+        [self.0, self.1, self.2].into_iter().flat_map(Lines::words).collect()
+    }
+}
+
+impl Lines for Vec<Vec<u64>> {
+    fn words(self) -> Vec<Vec<u64>> {
+        self
+    }
 }
 
 impl Kind {
@@ -108,11 +155,17 @@ impl Kind {
         a == b || self == Kind::F64 && f64::from_bits(a).is_nan() && f64::from_bits(b).is_nan()
     }
 
-    /// A cell for a reader: its value and its bits.
+    /// The word of a cell with this value, which is cut to a whole number where the cells are.
+    pub fn word(self, value: f64) -> u64 {
+        if self == Kind::F64 { value.to_bits() } else { value as i64 as u64 }
+    }
+
+    /// A cell for a reader: its value, and the bits of an f64.
     pub fn show(self, word: u64) -> String {
         match self {
             Kind::F64 => format!("{:e} ({word:016x})", f64::from_bits(word)),
-            Kind::I64 => format!("{}", word as i64),
+            Kind::I64 | Kind::I32 => format!("{}", word as i64),
+            Kind::U64 => format!("{word}"),
         }
     }
 }

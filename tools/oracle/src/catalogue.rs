@@ -1,33 +1,46 @@
 //! One entry for each function of the library: everything else here goes by this list.
 //!
 //! An entry gives the C name and the source's name, the series, the parameters with their roles in
-//! document 01's table, the type of a cell, `[work]` where there is a work slice, and how the
-//! expected cells are reckoned. A function counts as exported once include/tegbalowu.h declares it.
+//! document 01's table, the outputs, the type of their cells, `[work]` where there is a work slice,
+//! and how the expected cells are reckoned; `timed` where a benchmark runs something else. A function
+//! counts as exported once include/tegbalowu.h declares it.
 
 use std::hint::black_box;
 
-use crate::call::{Answer, Call, Cell, Kind, words};
+use crate::call::{Answer, Call, Cell, Kind, Lines, Value};
 use crate::library::Lent;
-use crate::{smoother, tick_mean};
+use crate::{restated, tick_mean, wilder_rsi};
 
-/// What a parameter is in the table.
+/// What a parameter is in the table; those that are f64 are refusal 6 where they are not finite.
 #[derive(Clone, Copy, Debug, PartialEq, Eq)]
 pub enum Role {
-    /// An integer window: refusal 7 above 4,096, the empty answer at 0.
+    /// An integer window: refusal 7 above 4,096.
     Window,
-    /// An f64 parameter: refusal 6 where it is not finite.
-    Real,
-    /// A smoother period as f64: refusal 6, and 7 where it is not whole from 0 to 512.
+    /// An integer smoother period: refusal 7 above 512.
+    WholePeriod,
+    /// A smoother period as f64: refusal 7 where it is not whole from 0 to 512.
     Period,
+    /// The weight of a new value.
+    Weight,
+    /// What a deviation, a range or a line is multiplied by.
+    Multiple,
+    /// A level of an index from 0 to 100.
+    Level,
 }
 
-// The roles as the types that C passes; a role is unused until a function that has it is exported.
-#[allow(dead_code)]
+// The roles as the types that C passes.
 type Window = usize;
-#[allow(dead_code)]
-type Real = f64;
-#[allow(dead_code)]
+type WholePeriod = usize;
 type Period = f64;
+type Weight = f64;
+type Multiple = f64;
+type Level = f64;
+
+impl Role {
+    pub fn is_whole(self) -> bool {
+        matches!(self, Role::Window | Role::WholePeriod)
+    }
+}
 
 /// Which values refusal 5 lets through.
 #[derive(Clone, Copy, Debug, PartialEq, Eq)]
@@ -40,21 +53,34 @@ pub struct Function {
     pub name: &'static str,
     pub series: usize,
     pub roles: &'static [Role],
+    pub outputs: usize,
     pub kind: Kind,
     pub work: bool,
     pub domain: Domain,
     /// Refusal 9 where the windows do not rise strictly.
     pub rising: bool,
     /// The expected cells of a call that is answered.
-    pub source: fn(&Call) -> Vec<u64>,
-    /// The same reckoning, or where `timed` is given that, with nothing kept: what a benchmark runs.
-    pub reckon: fn(&Call),
-    pub timed: Option<fn(&Call)>,
+    pub source: fn(&Call) -> Vec<Vec<u64>>,
+    /// What a benchmark runs: the same reckoning, or pure.rs itself, with nothing kept.
+    pub timed: fn(&Call),
     pub library: Option<Exported>,
 }
 
-/// A C function called on the memory lent for its output and its work slice.
-pub type Exported = fn(&Call, &mut Lent, &mut Lent) -> Answer;
+impl Function {
+    /// The work cells that a call of this many bars asks for.
+    pub fn work_for(&self, bars: usize) -> usize {
+        if self.work { 8 * bars } else { 0 }
+    }
+
+    /// A call with just as much room as it asks for.
+    pub fn call(&self, series: Vec<Vec<f64>>, parameters: Vec<Value>) -> Call {
+        let bars = series[0].len();
+        Call { series, parameters, outputs: vec![bars; self.outputs], work: self.work_for(bars) }
+    }
+}
+
+/// A C function called on the memory lent for its outputs and its work slice.
+pub type Exported = fn(&Call, &mut [Lent], &mut Lent) -> Answer;
 
 pub fn exported() -> impl Iterator<Item = &'static Function> {
     FUNCTIONS.iter().filter(|f| f.library.is_some())
@@ -69,25 +95,23 @@ pub fn named(name: &str) -> Option<&'static Function> {
     FUNCTIONS.iter().find(|f| f.name == name)
 }
 
-macro_rules! value {
-    ($value:expr, Window) => {
-        $value.count()
-    };
-    ($value:expr, Real) => {
-        $value.real()
-    };
-    ($value:expr, Period) => {
-        $value.real()
-    };
-}
-
 /// Names the series and the parameters of a call.
 macro_rules! take {
     ($call:ident, [$($series:ident),+], [$($parameter:ident: $role:ident),*]) => {
         let mut _given = $call.series.iter();
         $(let $series: &[f64] = _given.next().unwrap();)+
         let mut _values = $call.parameters.iter();
-        $(let $parameter = value!(_values.next().unwrap(), $role);)*
+        $(let $parameter: $role = (*_values.next().unwrap()).into();)*
+    };
+}
+
+/// The last of one or two expressions.
+macro_rules! last {
+    ($only:expr) => {
+        $only
+    };
+    ($first:expr, $second:expr) => {
+        $second
     };
 }
 
@@ -95,9 +119,10 @@ macro_rules! functions {
     ($($symbol:ident $name:literal {
         series: [$($series:ident),+],
         parameters: [$($parameter:ident: $role:ident),*],
+        outputs: [$($output:ident),+],
         cells: $cell:ty,
         work: [$($work:ident)?],
-        source: $source:expr
+        source: $source:expr $(; timed: $timed:expr)?
         $(, $field:ident: $value:expr)* $(,)?
     })*) => {
         unsafe extern "C" {
@@ -105,26 +130,33 @@ macro_rules! functions {
             fn $symbol(
                 $($series: *const f64, _: usize,)+
                 $($parameter: $role,)*
-                out: *mut $cell, _: usize,
+                $($output: *mut $cell, _: usize,)+
                 $($work: *mut f64, _: usize,)?
             ) -> Answer;)*
         }
 
         static FUNCTIONS: &[Function] = &[$({
-            fn cells(call: &Call) -> Vec<$cell> {
+            fn lines(call: &Call) -> impl Lines {
                 take!(call, [$($series),+], [$($parameter: $role),*]);
                 $source
             }
 
-            #[cfg(exported = $name)]
-            const LIBRARY: Option<Exported> = Some(|call, out, _work| {
+            fn timed(call: &Call) {
                 take!(call, [$($series),+], [$($parameter: $role),*]);
+                drop(black_box(last!($source $(, $timed)?)));
+            }
+
+            #[cfg(exported = $name)]
+            const LIBRARY: Option<Exported> = Some(|call, outputs, _work| {
+                take!(call, [$($series),+], [$($parameter: $role),*]);
+                let mut lent = outputs.iter_mut();
+                $(let $output = lent.next().unwrap();)+
                 // Each pointer is to as many cells as the length after it says, and none overlap.
                 unsafe {
                     $symbol(
                         $($series.as_ptr(), $series.len(),)+
                         $($parameter,)*
-                        out.pointer().cast(), out.len(),
+                        $($output.pointer().cast(), $output.len(),)+
                         $({ let $work = _work.pointer(); $work.cast() }, _work.len(),)?
                     )
                 }
@@ -137,10 +169,11 @@ macro_rules! functions {
                 name: $name,
                 series: [$(stringify!($series)),+].len(),
                 roles: &[$(Role::$role),*],
+                outputs: [$(stringify!($output)),+].len(),
                 kind: <$cell as Cell>::KIND,
                 work: !WORK.is_empty(),
-                source: |call| words(cells(call)),
-                reckon: |call| drop(black_box(cells(call))),
+                source: |call| lines(call).words(),
+                timed,
                 library: LIBRARY,
                 $($field: $value,)*
                 ..PLAIN
@@ -154,54 +187,124 @@ const PLAIN: Function = Function {
     name: "",
     series: 1,
     roles: &[],
+    outputs: 1,
     kind: Kind::F64,
     work: false,
     domain: Domain::Accepted,
     rising: false,
     source: |_| Vec::new(),
-    reckon: |_| (),
-    timed: None,
+    timed: |_| (),
     library: None,
 };
 
 functions! {
     tegbalowu_sma "sma" {
-        series: [series], parameters: [n: Window], cells: f64, work: [],
+        series: [series], parameters: [n: Window], outputs: [out], cells: f64, work: [],
         source: pure::sma(series, n),
     }
     tegbalowu_ema "ema" {
-        series: [series], parameters: [period: Window], cells: f64, work: [],
+        series: [series], parameters: [period: Window], outputs: [out], cells: f64, work: [],
         source: pure::ema(series, period),
     }
     tegbalowu_exponential_smoothing "exponential_smoothing" {
-        series: [series], parameters: [alpha: Real], cells: f64, work: [],
+        series: [series], parameters: [alpha: Weight], outputs: [out], cells: f64, work: [],
         source: pure::exponential_smoothing(series, alpha),
     }
     tegbalowu_tick_mean "tick_mean" {
-        series: [series], parameters: [n: Window], cells: i64, work: [],
+        series: [series], parameters: [n: Window], outputs: [out], cells: i64, work: [],
         source: tick_mean::line(series, n),
         domain: Domain::WholeTicks,
     }
     tegbalowu_single_sma_positions "single_sma_positions" {
-        series: [series], parameters: [n: Window], cells: f64, work: [work],
+        series: [series], parameters: [n: Window], outputs: [out], cells: f64, work: [work],
         source: pure::single_sma_positions(series, n),
     }
     tegbalowu_double_sma_positions "double_sma_positions" {
-        series: [series], parameters: [n: Window, m: Window], cells: f64, work: [],
+        series: [series], parameters: [n: Window, m: Window], outputs: [out], cells: f64, work: [],
         source: pure::double_sma_positions(series, n, m),
         rising: true,
     }
     tegbalowu_mid_positions "mid_positions" {
-        series: [series], parameters: [n: Window], cells: f64, work: [work],
+        series: [series], parameters: [n: Window], outputs: [out], cells: f64, work: [work],
         source: pure::mid_positions(series, n),
     }
     tegbalowu_ultimate_smoother "ultimate_smoother" {
-        series: [price], parameters: [period: Period], cells: f64, work: [],
-        source: smoother::line(price, period),
-        timed: Some(|call| drop(black_box(pure::ultimate_smoother(&call.series[0], call.parameters[0].real())))),
+        series: [price], parameters: [period: Period], outputs: [out], cells: f64, work: [],
+        source: restated::ultimate_smoother(price, period); timed: pure::ultimate_smoother(price, period),
     }
     tegbalowu_true_range "true_range" {
-        series: [high, low, close_prev], parameters: [], cells: f64, work: [],
+        series: [high, low, close_prev], parameters: [], outputs: [out], cells: f64, work: [],
         source: pure::true_range(high, low, close_prev),
+    }
+    tegbalowu_single_ema_positions "single_ema_positions" {
+        series: [series], parameters: [n: Window], outputs: [out], cells: f64, work: [work],
+        source: pure::single_ema_positions(series, n),
+    }
+    tegbalowu_triple_sma_positions "triple_sma_positions" {
+        series: [series], parameters: [m1: Window, m2: Window, m3: Window],
+        outputs: [out], cells: i32, work: [work],
+        source: pure::triple_sma_positions(series, m1, m2, m3),
+        rising: true,
+    }
+    tegbalowu_mms_positions "mms_positions" {
+        series: [series], parameters: [timeperiod: Window, window: Window], outputs: [out], cells: f64, work: [work],
+        source: pure::mms_positions(series, timeperiod, window),
+    }
+    tegbalowu_rank_positions "rank_positions" {
+        series: [series], parameters: [n: Window], outputs: [out], cells: f64, work: [work],
+        source: pure::rank_positions(series, n),
+    }
+    tegbalowu_rolling_rank "rolling_rank" {
+        series: [series], parameters: [window: Window], outputs: [out], cells: u64, work: [work],
+        source: pure::rolling_rank(series, window),
+    }
+    tegbalowu_boll_positions "boll_positions" {
+        series: [series], parameters: [n: Window, k: Multiple], outputs: [out], cells: i32, work: [work],
+        source: pure::boll_positions(series, n, k),
+    }
+    tegbalowu_boll_reverse_positions "boll_reverse_positions" {
+        series: [series], parameters: [n: Window, k: Multiple], outputs: [out], cells: i32, work: [work],
+        source: pure::boll_reverse_positions(series, n, k),
+    }
+    tegbalowu_rsi_reverse_positions "rsi_reverse_positions" {
+        series: [series], parameters: [n: Window, rsi_upper: Level, rsi_lower: Level, rsi_exit: Level],
+        outputs: [out], cells: i32, work: [work],
+        source: pure::rsi_reverse_positions(series, n, rsi_upper, rsi_lower, rsi_exit),
+    }
+    tegbalowu_ultimate_bands "ultimate_bands" {
+        series: [close], parameters: [period: WholePeriod, std_multiplier: Multiple, smooth_period: WholePeriod],
+        outputs: [middle, upper, lower], cells: f64, work: [work],
+        source: restated::ultimate_bands(close, period, std_multiplier, smooth_period);
+        timed: pure::ultimate_bands(close, period, std_multiplier, smooth_period),
+    }
+    tegbalowu_wilder_rsi "wilder_rsi" {
+        series: [series], parameters: [n: Window], outputs: [out], cells: f64, work: [work],
+        source: wilder_rsi::line(series, n),
+    }
+    tegbalowu_rsx_ss2 "rsx_ss2" {
+        series: [close], parameters: [period: Window, smooth_period: WholePeriod],
+        outputs: [out], cells: f64, work: [work],
+        source: restated::rsx_ss2(close, period, smooth_period);
+        timed: pure::rsx_ss2(close, period, smooth_period),
+    }
+    tegbalowu_jurik_volty "jurik_volty" {
+        series: [close], parameters: [period: Window, power: Multiple], outputs: [out], cells: f64, work: [work],
+        source: pure::jurik_volty(close, period, power),
+    }
+    tegbalowu_ultimate_channel "ultimate_channel" {
+        series: [high, low, close], parameters: [period: WholePeriod, multiplier: Multiple],
+        outputs: [middle, upper, lower], cells: f64, work: [work],
+        source: restated::ultimate_channel(high, low, close, period, multiplier);
+        timed: pure::ultimate_channel(high, low, close, period, multiplier),
+    }
+    tegbalowu_ultimate_oscillator "ultimate_oscillator" {
+        series: [high, low, close], parameters: [short_period: Window, med_period: Window, long_period: Window],
+        outputs: [out], cells: f64, work: [work],
+        source: pure::ultimate_oscillator(high, low, close, short_period, med_period, long_period),
+    }
+    tegbalowu_holt_winters "holt_winters" {
+        series: [series], parameters: [season_length: Window, alpha: Weight, beta: Weight, gamma: Weight],
+        outputs: [out], cells: f64, work: [work],
+        source: pure::holt_winters(series, season_length, alpha, beta, gamma),
     }
 }

@@ -49,18 +49,21 @@ fn time(run: &mut dyn FnMut(), runs: u32) -> Duration {
     now() - start
 }
 
-/// A measurement lasts at least this long, and all those of one thing at most that long where one run does not.
+/// A measurement lasts at least this long; those of two things together at most that long, where the fewest do.
 const SHORTEST: Duration = Duration::from_micros(400);
 const LONGEST: Duration = Duration::from_millis(600);
 const FEWEST: usize = 3;
 const MOST: usize = 40;
+/// After this long a single measurement is enough.
+const TOO_LONG: Duration = Duration::from_secs(5);
 
 /// The best nanoseconds of one run of each of two things, measured by turns.
 pub fn best_of_two(first: &mut dyn FnMut(), second: &mut dyn FnMut()) -> (f64, f64) {
-    let (first_runs, second_runs) = (enough(first), enough(second));
-    let (mut best, mut spent) = ([Duration::MAX; 2], Duration::ZERO);
-    for turn in 0..MOST {
-        if turn >= FEWEST && spent > LONGEST {
+    let ((first_runs, first_time), (second_runs, second_time)) = (enough(first), enough(second));
+    let mut best = [first_time, second_time];
+    let mut spent = first_time + second_time;
+    for turn in 1..MOST {
+        if spent > TOO_LONG || turn >= FEWEST && spent > LONGEST {
             break;
         }
         let times = [time(first, first_runs), time(second, second_runs)];
@@ -71,11 +74,14 @@ pub fn best_of_two(first: &mut dyn FnMut(), second: &mut dyn FnMut()) -> (f64, f
     (each(best[0], first_runs), each(best[1], second_runs))
 }
 
-/// How many runs make a measurement.
-fn enough(run: &mut dyn FnMut()) -> u32 {
+/// How many runs make a measurement, and the time that they took.
+fn enough(run: &mut dyn FnMut()) -> (u32, Duration) {
     let mut runs = 1;
-    while time(run, runs) < SHORTEST {
+    loop {
+        let took = time(run, runs);
+        if took >= SHORTEST {
+            return (runs, took);
+        }
         runs *= 2;
     }
-    runs
 }

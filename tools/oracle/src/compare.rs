@@ -2,6 +2,7 @@
 
 use crate::call::{Call, Expected, Kind};
 use crate::catalogue::{self, Function};
+use crate::edges::{edges, extreme};
 use crate::generate;
 use crate::library::Lent;
 use crate::rng::Rng;
@@ -15,28 +16,31 @@ pub struct Tally {
     calls: usize,
     cells: u64,
     by_refusal: [usize; 11],
+    empty: usize,
     differ: usize,
 }
 
 /// One function and the memory that it is lent, used again for each call.
 pub struct Trial {
     function: &'static Function,
-    out: Lent,
+    outputs: Vec<Lent>,
     work: Lent,
     pub tally: Tally,
 }
 
 impl Trial {
     pub fn new(function: &'static Function) -> Trial {
-        Trial { function, out: Lent::new(), work: Lent::new(), tally: Tally::default() }
+        let outputs = (0..function.outputs).map(|_| Lent::new(function.kind)).collect();
+        Trial { function, outputs, work: Lent::new(Kind::F64), tally: Tally::default() }
     }
 
     /// Makes one call both ways and counts it; a difference is printed, the first few of them.
     pub fn run(&mut self, call: &Call, salt: u64) {
         let expected = source::expected(self.function, call);
         self.tally.calls += 1;
-        self.tally.cells += expected.answer.count;
+        self.tally.cells += expected.answer.count * self.function.outputs as u64;
         self.tally.by_refusal[expected.answer.refusal as usize] += 1;
+        self.tally.empty += (expected.answer.refusal == 0 && expected.answer.count == 0) as usize;
         if let Some(what) = self.difference(call, salt, &expected) {
             self.tally.differ += 1;
             if self.tally.differ <= SHOWN {
@@ -46,26 +50,33 @@ impl Trial {
     }
 
     fn difference(&mut self, call: &Call, salt: u64, expected: &Expected) -> Option<String> {
-        self.out.fill(call.out, salt);
+        for (place, (output, length)) in self.outputs.iter_mut().zip(&call.outputs).enumerate() {
+            output.fill(*length, salt.wrapping_add(place as u64));
+        }
         self.work.fill(call.work, !salt);
-        let answer = (self.function.library.expect("only exported functions are compared"))(call, &mut self.out, &mut self.work);
+        let library = self.function.library.expect("only exported functions are compared");
+        let answer = library(call, &mut self.outputs, &mut self.work);
         if answer != expected.answer {
             return Some(format!("the answer is {answer:?}, expected {:?}", expected.answer));
         }
-        let in_out = self.out.differs(self.function.kind, expected.cells.iter().copied());
-        let in_work = || self.work.differs(Kind::I64, (0..expected.cleared).map(|_| 0));
-        in_out.map(|what| format!("output {what}")).or_else(|| in_work().map(|what| format!("work {what}")))
+        let in_output = |(place, (output, cells)): (usize, (&Lent, &Vec<u64>))| {
+            output.differs(cells.iter().copied()).map(|what| format!("output {place}: {what}"))
+        };
+        let in_outputs = self.outputs.iter().zip(&expected.cells).enumerate().find_map(in_output);
+        let in_work = || self.work.differs((0..expected.cleared).map(|_| 0.0f64.to_bits()));
+        in_outputs.or_else(|| in_work().map(|what| format!("work {what}")))
     }
 
     fn print(&self) {
-        let refused = (1..=10).filter(|r| self.tally.by_refusal[*r] > 0).map(|r| format!(" {r}:{}", self.tally.by_refusal[r]));
+        let refused = (1..=10).filter(|r| self.tally.by_refusal[*r] > 0);
+        let refused: String = refused.map(|r| format!(" {r}:{}", self.tally.by_refusal[r])).collect();
         println!(
-            "{}: {} calls, {} answered with {} cells, refused{}, {} differ",
+            "{}: {} calls, {} answered with {} cells, {} of them empty, refused{refused}, {} differ",
             self.function.name,
             self.tally.calls,
             self.tally.by_refusal[0],
             self.tally.cells,
-            refused.collect::<String>(),
+            self.tally.empty,
             self.tally.differ
         );
     }
@@ -75,28 +86,38 @@ impl Trial {
 fn describe(call: &Call) -> String {
     let head = |s: &Vec<f64>| format!("{} bars {:?}", s.len(), &s[..s.len().min(24)]);
     let series: Vec<String> = call.series.iter().map(head).collect();
-    format!("{:?}, output {}, work {}, {}", call.parameters, call.out, call.work, series.join("; "))
+    format!("{:?}, outputs {:?}, work {}, {}", call.parameters, call.outputs, call.work, series.join("; "))
 }
 
-/// Whether a difference shows in the first calls of the functions named, of all where none is named.
+/// Whether one of these calls differs.
+fn differs(function: &'static Function, mut calls: impl Iterator<Item = Call>, salt: u64) -> bool {
+    let mut trial = Trial::new(function);
+    calls.any(|call| trial.difference(&call, salt, &source::expected(function, &call)).is_some())
+}
+
+/// Whether a difference shows in the functions named, of all where none is named: in random calls of each, or else in
+/// the edges of each.
 pub fn notices(seed: u64, calls: usize, names: &[&str]) -> bool {
-    let wanted = |name: &str| names.is_empty() || names.contains(&name);
-    catalogue::exported().filter(|f| wanted(f.name)).any(|function| {
-        let mut trial = Trial::new(function);
+    let wanted = |f: &&Function| names.is_empty() || names.contains(&f.name);
+    let in_random = |function| {
         let mut rng = Rng::new(seed);
-        let mut wrong = |call: &Call| trial.difference(call, seed, &source::expected(function, call)).is_some();
-        (0..calls).any(|_| wrong(&generate::random(&mut rng, function))) || generate::edges(&mut rng, function).iter().any(wrong)
-    })
+        differs(function, (0..calls).map(|_| generate::random(&mut rng, function)), seed)
+    };
+    let in_edges = |function| differs(function, edges(&mut Rng::new(seed), function).into_iter(), seed);
+    catalogue::exported().filter(wanted).any(in_random) || catalogue::exported().filter(wanted).any(in_edges)
 }
 
-/// Every exported function with each seed: its edges, then random calls up to `calls` in all. True if none differs.
+/// Every exported function: its largest call, then with each seed its edges and random calls up to `calls` in all. True
+/// if none differs.
 pub fn run(seeds: &[u64], calls: usize) -> bool {
     let (mut total, mut functions, mut differ) = (0, 0, 0);
     for function in catalogue::exported() {
         let mut trial = Trial::new(function);
+        let seeded = |seed: u64| Rng::new(seed.wrapping_add(catalogue::number(function) << 56));
+        trial.run(&extreme(&mut seeded(seeds[0]), function), seeds[0]);
         for seed in seeds {
-            let mut rng = Rng::new(seed.wrapping_add(catalogue::number(function) << 56));
-            let edges = generate::edges(&mut rng, function);
+            let mut rng = seeded(*seed);
+            let edges = edges(&mut rng, function);
             for call in &edges {
                 trial.run(call, rng.word());
             }

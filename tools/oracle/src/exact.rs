@@ -1,6 +1,6 @@
 //! Demand 3 of document 01 on whole ticks: what the library's cells must be by whole-number arithmetic alone.
 
-use crate::call::{Call, Value};
+use crate::call::{Call, Kind, Value};
 use crate::catalogue::{self, Function};
 use crate::generate;
 use crate::library::Lent;
@@ -64,25 +64,20 @@ pub fn run(seeds: &[u64], series: usize) -> bool {
     good & no_look_ahead(seeds, series)
 }
 
-/// The cells that the library gives for a call, or none where it is refused or answers with fewer than its bars.
-fn cells(function: &Function, call: &Call) -> Option<Vec<u64>> {
-    let (mut out, mut work) = (Lent::new(), Lent::new());
-    out.fill(call.bars(), 1);
-    work.fill(call.work, 2);
-    let answer = (function.library.unwrap())(call, &mut out, &mut work);
-    (answer.refusal == 0 && answer.count == call.bars() as u64).then(|| out.cells().to_vec())
+/// The cells of each output that the library gives for a call, or none where it does not answer with all its bars.
+fn cells(function: &Function, call: &Call) -> Option<Vec<Vec<u64>>> {
+    let mut outputs: Vec<Lent> = call.outputs.iter().map(|len| Lent::filled(function.kind, *len, 1)).collect();
+    let mut work = Lent::filled(Kind::F64, call.work, 2);
+    let answer = (function.library.unwrap())(call, &mut outputs, &mut work);
+    (answer.refusal == 0 && answer.count == call.bars() as u64).then(|| outputs.iter().map(Lent::words).collect())
 }
 
 fn of_ticks(function: &Function, ticks: &[i64], windows: &[usize]) -> Vec<f64> {
     assert!(ticks.iter().all(|x| x.abs() <= TICK_LIMIT), "ticks beyond what is promised");
-    let call = Call {
-        series: vec![ticks.iter().map(|x| *x as f64).collect()],
-        parameters: windows.iter().map(|n| Value::Count(*n)).collect(),
-        out: ticks.len(),
-        work: if function.work { 8 * ticks.len() } else { 0 },
-    };
+    let series = ticks.iter().map(|x| *x as f64).collect();
+    let call = function.call(vec![series], windows.iter().map(|n| Value::Count(*n)).collect());
     let cells = cells(function, &call).expect("whole ticks and windows in range are answered");
-    cells.into_iter().map(f64::from_bits).collect()
+    cells[0].iter().map(|word| f64::from_bits(*word)).collect()
 }
 
 /// The sum of the last n at each bar from n-1 on, at place bar - (n-1).
@@ -95,7 +90,8 @@ fn window_sums(ticks: &[i64], n: usize) -> Vec<i128> {
     (n..=ticks.len()).map(|end| before[end] - before[end - n]).collect()
 }
 
-/// Ticks around a level: from all alike in size to a wide range, with room to shift each by twice the spread and a window.
+/// Ticks around a level: from all alike in size to a wide range, with room to shift each by twice the spread and a
+/// window.
 fn ticks(rng: &mut Rng, len: usize) -> Vec<i64> {
     let spread = rng.pick(&[1, 3, 40, 1_000, 1 << 20, 1 << 22]);
     let highest = TICK_LIMIT - 3 * spread - WINDOW_LIMIT as i64;
@@ -162,11 +158,13 @@ fn double(rng: &mut Rng, function: &Function, fact: &mut Fact) {
     }
 }
 
-/// Shifts the ticks so that at the last bar m times the short sum and n times the long one differ by at most their common divisor.
+/// Shifts the ticks so that at the last bar m times the short sum and n times the long one differ by at most their
+/// common divisor.
 fn nearly_equal_means(rng: &mut Rng, ticks: &mut [i64], n: usize, m: usize) {
     let (n, m, end) = (n as i64, m as i64, ticks.len());
     let (recent, earlier) = (end - n as usize, end - m as usize);
-    let difference = |ticks: &[i64]| (m - n) * ticks[recent..].iter().sum::<i64>() - n * ticks[earlier..recent].iter().sum::<i64>();
+    let difference =
+        |ticks: &[i64]| (m - n) * ticks[recent..].iter().sum::<i64>() - n * ticks[earlier..recent].iter().sum::<i64>();
     let divisor = common_divisor(m, n);
     let want = divisor * rng.between(-1, 1);
     let present = difference(ticks);
@@ -195,7 +193,10 @@ fn one_average(rng: &mut Rng, function: &Function, fact: &mut Fact) {
     for bar in 2 * n - 2..ticks.len() {
         let doubly: i128 = sums[bar + 2 - 2 * n..bar + 2 - n].iter().sum();
         let difference = (n * n) as i128 * ticks[bar] as i128 - doubly;
-        assert!(bar + 1 < ticks.len() || n == 1 || difference == want as i128, "the last bar is not as near as it was made");
+        assert!(
+            bar + 1 < ticks.len() || n == 1 || difference == want as i128,
+            "the last bar is not as near as it was made"
+        );
         if difference != 0 && doubly != 0 {
             let sign = difference.signum() as f64;
             fact.check(cells[bar] == sign, || at(bar, &[n], cells[bar], &ticks));
@@ -203,7 +204,8 @@ fn one_average(rng: &mut Rng, function: &Function, fact: &mut Fact) {
     }
 }
 
-/// Changes the last ticks so that n*n times the last one less D is `want`; a window of 1 is left, where both are the price.
+/// Changes the last ticks so that n*n times the last one less D is `want`; a window of 1 is left, where both are the
+/// price.
 fn nearly_averaged(ticks: &mut [i64], n: usize, want: i64) {
     let last = ticks.len() - 1;
     let weight = |back: usize| (back + 1).min(2 * n - 1 - back) as i64;
@@ -241,7 +243,8 @@ fn middle(rng: &mut Rng, function: &Function, fact: &mut Fact) {
     }
 }
 
-/// Changes the last tick so that twice the last sum is at most 1 from the highest plus the lowest sum before it, where that tick is in range.
+/// Changes the last tick so that twice the last sum is at most 1 from the highest plus the lowest sum before it, where
+/// that tick is in range.
 fn nearly_in_the_middle(rng: &mut Rng, ticks: &mut [i64], n: usize) {
     let last = ticks.len() - 1;
     let sums = window_sums(ticks, n);
@@ -254,17 +257,23 @@ fn nearly_in_the_middle(rng: &mut Rng, ticks: &mut [i64], n: usize) {
     }
 }
 
-/// Two calls with equal bars up to a bar b have the same cells up to b, though their later bars differ.
-fn no_look_ahead(seeds: &[u64], series: usize) -> bool {
-    let mut fact = Fact::new("no look-ahead");
-    for function in catalogue::exported() {
+/// The functions of which document 01 says that they look ahead, or may start elsewhere when bars are added.
+const LOOK_AHEAD: &[&str] = &["jurik_volty", "single_ema_positions"];
+
+/// Two calls with equal bars up to a bar b have the same cells up to b in every output, though their later bars
+/// differ.
+fn no_look_ahead(seeds: &[u64], pairs: usize) -> bool {
+    let mut good = true;
+    for function in catalogue::exported().filter(|function| !LOOK_AHEAD.contains(&function.name)) {
+        let mut fact = Fact::new(function.name);
         for seed in seeds {
             let mut rng = Rng::new(!seed);
-            (0..series).for_each(|_| earlier_cells(&mut rng, function, &mut fact));
+            (0..pairs).for_each(|_| earlier_cells(&mut rng, function, &mut fact));
         }
+        println!("{}: no look-ahead in {} pairs of calls, {} wrong", fact.name, fact.checked, fact.wrong);
+        good &= fact.wrong == 0;
     }
-    fact.print();
-    fact.wrong == 0
+    good
 }
 
 fn earlier_cells(rng: &mut Rng, function: &Function, fact: &mut Fact) {
@@ -278,8 +287,13 @@ fn earlier_cells(rng: &mut Rng, function: &Function, fact: &mut Fact) {
     for (to, from) in other.series.iter_mut().zip(&whole.series) {
         to[..shared].copy_from_slice(&from[..shared]);
     }
+    // Document 01 speaks of Holt-Winters from the season's last bar on.
+    let first = if function.name == "holt_winters" { usize::from(whole.parameters[0]).saturating_sub(1) } else { 0 };
     if let (Some(a), Some(b)) = (cells(function, &whole), cells(function, &other)) {
-        let same = (0..shared).find(|bar| !function.kind.same(a[*bar], b[*bar]));
-        fact.check(same.is_none(), || format!("{} at bar {same:?} of {shared} shared", function.name));
+        let differs = |bar: &usize| a.iter().zip(&b).any(|(a, b)| !function.kind.same(a[*bar], b[*bar]));
+        let wrong = (first..shared).find(differs);
+        if first < shared {
+            fact.check(wrong.is_none(), || format!("bar {wrong:?} of {shared} shared, {:?}", whole.parameters));
+        }
     }
 }

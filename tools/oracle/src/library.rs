@@ -4,49 +4,96 @@ use crate::call::Kind;
 
 const GUARD: usize = 4;
 
+/// Cells of 64 bits, or of 32.
+enum Memory {
+    Wide(Vec<u64>),
+    Narrow(Vec<u32>),
+}
+
 /// The memory of one output or work slice; what it held before the call is known for each cell.
 pub struct Lent {
-    words: Vec<u64>,
+    kind: Kind,
+    memory: Memory,
+    len: usize,
     salt: u64,
 }
 
 impl Lent {
-    pub fn new() -> Lent {
-        Lent { words: Vec::new(), salt: 0 }
+    /// A slice of no cell yet, for cells of this kind.
+    pub fn new(kind: Kind) -> Lent {
+        let memory = if kind == Kind::I32 { Memory::Narrow(Vec::new()) } else { Memory::Wide(Vec::new()) };
+        Lent { kind, memory, len: 0, salt: 0 }
+    }
+
+    pub fn filled(kind: Kind, len: usize, salt: u64) -> Lent {
+        let mut lent = Lent::new(kind);
+        lent.fill(len, salt);
+        lent
     }
 
     /// Makes the slice `len` cells long and fills it, and its guards, with words of this salt.
     pub fn fill(&mut self, len: usize, salt: u64) {
         self.salt = salt;
-        self.words.clear();
-        self.words.extend((0..len + 2 * GUARD).map(|place| filling(salt, place)));
+        self.len = len;
+        let words = (0..len + 2 * GUARD).map(|place| filling(salt, place));
+        match &mut self.memory {
+            Memory::Wide(cells) => {
+                cells.clear();
+                cells.extend(words);
+            }
+            Memory::Narrow(cells) => {
+                cells.clear();
+                cells.extend(words.map(|word| word as u32));
+            }
+        }
     }
 
     pub fn len(&self) -> usize {
-        self.words.len() - 2 * GUARD
+        self.len
     }
 
-    pub fn pointer(&mut self) -> *mut u64 {
-        self.words[GUARD..].as_mut_ptr()
+    /// To the first cell that is no guard.
+    pub fn pointer(&mut self) -> *mut u8 {
+        match &mut self.memory {
+            Memory::Wide(cells) => cells[GUARD..].as_mut_ptr().cast(),
+            Memory::Narrow(cells) => cells[GUARD..].as_mut_ptr().cast(),
+        }
     }
 
-    pub fn cells(&self) -> &[u64] {
-        &self.words[GUARD..GUARD + self.len()]
+    /// The words of all cells but the guards.
+    pub fn words(&self) -> Vec<u64> {
+        (GUARD..GUARD + self.len).map(|place| self.word(place)).collect()
+    }
+
+    /// The word at a place, guards counted.
+    fn word(&self, place: usize) -> u64 {
+        match &self.memory {
+            Memory::Wide(cells) => cells[place],
+            Memory::Narrow(cells) => cells[place] as i32 as i64 as u64,
+        }
+    }
+
+    /// Whether a place holds what it was filled with.
+    fn untouched(&self, place: usize) -> bool {
+        let filled = filling(self.salt, place);
+        match &self.memory {
+            Memory::Wide(cells) => cells[place] == filled,
+            Memory::Narrow(cells) => cells[place] == filled as u32,
+        }
     }
 
     /// What is wrong if the first cells should be `first` and all else, guards too, as filled.
-    pub fn differs(&self, kind: Kind, first: impl ExactSizeIterator<Item = u64>) -> Option<String> {
+    pub fn differs(&self, first: impl ExactSizeIterator<Item = u64>) -> Option<String> {
         let end = GUARD + first.len();
-        let changed = |(place, word): (usize, &u64)| {
-            (*word != filling(self.salt, place)).then(|| format!("cell {} was to stay as it was", place as isize - GUARD as isize))
-        };
-        let wrong = |(cell, (want, got)): (usize, (u64, &u64))| {
-            (!kind.same(want, *got)).then(|| format!("cell {cell} is {}, expected {}", kind.show(*got), kind.show(want)))
-        };
-        let whole = self.words.iter().enumerate();
-        (first.zip(&self.words[GUARD..]).enumerate().find_map(wrong))
-            .or_else(|| whole.clone().take(GUARD).find_map(changed))
-            .or_else(|| whole.skip(end).find_map(changed))
+        for (cell, want) in first.enumerate() {
+            let got = self.word(GUARD + cell);
+            if !self.kind.same(want, got) {
+                return Some(format!("cell {cell} is {}, expected {}", self.kind.show(got), self.kind.show(want)));
+            }
+        }
+        let mut others = (0..GUARD).chain(end..self.len + 2 * GUARD);
+        let changed = others.find(|place| !self.untouched(*place));
+        changed.map(|place| format!("cell {} was to stay as it was", place as isize - GUARD as isize))
     }
 }
 

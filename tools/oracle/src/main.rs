@@ -5,11 +5,14 @@ mod call;
 mod catalogue;
 mod clock;
 mod compare;
+mod edges;
 mod exact;
 mod generate;
 mod library;
 mod record;
+mod restated;
 mod rng;
+mod series;
 mod sheet;
 mod sheet_compare;
 mod sheet_inputs;
@@ -17,6 +20,7 @@ mod smoother;
 mod source;
 mod table;
 mod tick_mean;
+mod wilder_rsi;
 
 use bench::Prices;
 use std::io::{BufWriter, stdin, stdout};
@@ -46,11 +50,13 @@ fn main() -> ExitCode {
         ["bench", word] if Prices::named(word).is_some() => told(|| bench::run(Prices::named(word).unwrap())),
         ["record"] => told(|| record::print()),
         ["sheet"] => sheet::run(stdin().lock(), BufWriter::new(stdout().lock())).is_ok(),
-        ["sheet-compare", program, seed, damaged] => sheet_compare::compare(program, number(seed), number(damaged) as usize),
+        ["sheet-compare", program, seed, damaged] => {
+            sheet_compare::compare(program, number(seed), number(damaged) as usize)
+        }
         ["sheet-bench", program, file] => told(|| sheet_compare::bench(program, file)),
         ["smoother", "list"] => told(|| smoother::print_list()),
         ["smoother", "tables"] => told(|| smoother::print_tables()),
-        ["smoother", "check"] => smoother::check(),
+        ["smoother", "check"] => smoother::check() && told(restated::check),
         ["platform"] => told(|| println!("{}", smoother::platform())),
         _ => {
             eprintln!("{USAGE}");

@@ -2,7 +2,7 @@
 
 use std::io::{BufRead, Read, Result, Write};
 
-use crate::call::{Call, Value};
+use crate::call::Value;
 use crate::catalogue::{self, Function};
 use crate::source;
 
@@ -37,16 +37,11 @@ pub fn run(mut input: impl BufRead, mut output: impl Write) -> Result<()> {
 fn answer(request: Request, output: &mut impl Write) -> Result<usize> {
     let function = rule(request.rule).expect("the rule was read");
     let windows = [request.n, request.m];
-    let bars = request.prices.len();
-    let call = Call {
-        series: vec![request.prices],
-        parameters: windows.iter().take(function.roles.len()).map(|n| Value::Count(*n)).collect(),
-        out: bars,
-        work: 8 * bars,
-    };
+    let parameters = windows.iter().take(function.roles.len()).map(|n| Value::Count(*n)).collect();
+    let call = function.call(vec![request.prices], parameters);
     let expected = source::expected(function, &call);
     print_head(output, request.desk, request.rule, expected.answer.refusal, expected.answer.count)?;
-    for cell in &expected.cells {
+    for cell in &expected.cells[0] {
         writeln!(output, "{:4}", f64::from_bits(*cell) as i64)?;
     }
     Ok((expected.answer.refusal != 0) as usize)

@@ -122,5 +122,10 @@ pub fn bench(program: &str, file: &str) {
         plain = plain.min(seconds(own, &["sheet"]));
     }
     let rate = |time: f64| text.len() as f64 / 1e6 / time;
-    println!("sheet: {:.1} MB/s; plain Rust over pure.rs: {:.1} MB/s; ratio {:.2}", rate(ours), rate(plain), plain / ours);
+    println!(
+        "sheet: {:.1} MB/s; plain Rust over pure.rs: {:.1} MB/s; ratio {:.2}",
+        rate(ours),
+        rate(plain),
+        plain / ours
+    );
 }

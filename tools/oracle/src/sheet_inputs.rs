@@ -58,7 +58,8 @@ pub fn large(rng: &mut Rng, bytes: usize) -> String {
 
 /// Inputs chosen for one edge each.
 pub fn edges(rng: &mut Rng) -> Vec<Vec<u8>> {
-    let mut texts: Vec<String> = vec![String::new(), "\n".into(), EXAMPLE.into(), format!("{EXAMPLE}\n"), EXAMPLE.repeat(3)];
+    let mut texts: Vec<String> =
+        vec![String::new(), "\n".into(), EXAMPLE.into(), format!("{EXAMPLE}\n"), EXAMPLE.repeat(3)];
     for (desk, rule, n, m, bars) in [
         (0, 1, 2, 0, 3),
         (0, 0, 0, 0, 0),

@@ -23,8 +23,9 @@ fn formulas(period: f64) -> Pair {
     Pair { a1: a1.to_bits(), b1: b1.to_bits() }
 }
 
-fn fresh() -> Vec<Pair> {
-    (1..=LONGEST).map(|period| formulas(period as f64)).collect()
+fn fresh() -> &'static [Pair] {
+    static LIST: OnceLock<Vec<Pair>> = OnceLock::new();
+    LIST.get_or_init(|| (1..=LONGEST).map(|period| formulas(period as f64)).collect())
 }
 
 fn recorded() -> &'static [Pair] {
@@ -40,35 +41,24 @@ fn recorded() -> &'static [Pair] {
     })
 }
 
-/// Whether pure.rs's formulas give the recorded values on this machine.
-fn platform_agrees() -> bool {
-    static AGREES: OnceLock<bool> = OnceLock::new();
-    *AGREES.get_or_init(|| fresh() == recorded())
+/// Whether pure.rs's formulas give the recorded values of a period on this machine. Period 0 has none.
+pub fn agrees(period: usize) -> bool {
+    period == 0 || fresh()[period - 1] == recorded()[period - 1]
 }
 
-/// The cells of `ultimate_smoother` for a period that is whole from 0 to 512, from the recorded values;
-/// where the platform agrees with them, pure.rs itself must give the same.
-pub fn line(price: &[f64], period: f64) -> Vec<f64> {
-    let cells = by_table(price, period);
-    if platform_agrees() {
-        let source = pure::ultimate_smoother(price, period);
-        let same =
-            cells.len() == source.len() && cells.iter().zip(&source).all(|(a, b)| a.to_bits() == b.to_bits() || a.is_nan() && b.is_nan());
-        assert!(same, "period {period}: the step on the recorded values differs from pure.rs");
-    }
-    cells
-}
-
-fn by_table(price: &[f64], period: f64) -> Vec<f64> {
-    let (a1, b1) = match period as usize {
+/// The cells of `ultimate_smoother` for a whole period from 0 to 512, from the recorded values.
+pub fn by_table(price: &[f64], period: usize) -> Vec<f64> {
+    let (a1, b1) = match period {
         0 => (f64::NAN, f64::NAN),
-        whole => (f64::from_bits(recorded()[whole - 1].a1), f64::from_bits(recorded()[whole - 1].b1)),
+        _ => (f64::from_bits(recorded()[period - 1].a1), f64::from_bits(recorded()[period - 1].b1)),
     };
     let (c2, c3) = (b1, -a1 * a1);
     let c1 = (1.0 + c2 - c3) / 4.0;
     let mut us = price.to_vec();
     for i in 4..price.len() {
-        us[i] = (1.0 - c1) * price[i] + (2.0 * c1 - c2) * price[i - 1] - (c1 + c3) * price[i - 2] + c2 * us[i - 1] + c3 * us[i - 2];
+        us[i] = (1.0 - c1) * price[i] + (2.0 * c1 - c2) * price[i - 1] - (c1 + c3) * price[i - 2]
+            + c2 * us[i - 1]
+            + c3 * us[i - 2];
     }
     us
 }
@@ -81,7 +71,8 @@ pub fn print_list() {
     }
 }
 
-/// Prints the recorded values as Rattle source: two constant tables, each number in the fewest digits that give its bits.
+/// Prints the recorded values as Rattle source: two constant tables, each number in the fewest digits that give its
+/// bits.
 pub fn print_tables() {
     println!("// The coefficients a1 and b1 of periods 1 to {LONGEST}, recorded by tools/smoother_table.");
     print_table("A1", "a1", |pair| pair.a1);
@@ -99,7 +90,7 @@ fn print_table(name: &str, what: &str, part: fn(&Pair) -> u64) {
 /// Compares the recorded list with a fresh run; false if they differ on what it was recorded on.
 pub fn check() -> bool {
     let (here, there) = (platform(), RECORDED.lines().next().unwrap_or(""));
-    let differing = fresh().iter().zip(recorded()).filter(|(a, b)| a != b).count();
+    let differing = (1..=LONGEST).filter(|period| !agrees(*period)).count();
     println!("smoother table: {differing} of {LONGEST} periods differ from a fresh run on {here}");
     if here != there {
         println!("smoother table: it was recorded on {there}, so a difference would be the platform's");
@@ -109,7 +100,14 @@ pub fn check() -> bool {
 
 /// Platform, compiler and the C library whose exp and cos were run.
 pub fn platform() -> String {
-    format!("{}-{}, {}, {}, {}", std::env::consts::ARCH, std::env::consts::OS, env!("ORACLE_RUSTC"), env!("ORACLE_LIBM"), fused())
+    format!(
+        "{}-{}, {}, {}, {}",
+        std::env::consts::ARCH,
+        std::env::consts::OS,
+        env!("ORACLE_RUSTC"),
+        env!("ORACLE_LIBM"),
+        fused()
+    )
 }
 
 /// Whether the processor has FMA: glibc's exp has another form without it, which differs at period 230.

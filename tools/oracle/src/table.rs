@@ -5,21 +5,21 @@ use crate::catalogue::{Domain, Function, Role};
 
 const LONGEST_SERIES: usize = 65_536;
 const LONGEST_WINDOW: usize = 4_096;
-const LONGEST_PERIOD: f64 = 512.0;
+const LONGEST_PERIOD: usize = 512;
 const LARGEST_VALUE: f64 = 1_073_741_824.0;
 const LARGEST_TICK: f64 = 16_777_216.0;
 
 /// The first refusal that applies, the empty answer between 7 and 8, or as many cells as bars.
 pub fn answer(function: &Function, call: &Call) -> Answer {
     let bars = call.bars();
-    let windows: Vec<usize> = values(function, call, Role::Window).map(Value::count).collect();
+    let whole: Vec<usize> = whole_parameters(call).collect();
     if call.series.iter().any(|s| s.len() > LONGEST_SERIES) {
         return Answer::refused(1);
     }
     if call.series.iter().any(|s| s.len() != bars) {
         return Answer::refused(2);
     }
-    if call.out < bars {
+    if call.outputs.iter().any(|length| *length < bars) {
         return Answer::refused(3);
     }
     if function.work && call.work < 8 * bars {
@@ -28,16 +28,19 @@ pub fn answer(function: &Function, call: &Call) -> Answer {
     if !call.series.iter().flatten().all(|x| accepted(function.domain, *x)) {
         return Answer::refused(5);
     }
-    if reals(call).any(|x| !x.is_finite()) {
+    if real_parameters(call).any(|x| !x.is_finite()) {
         return Answer::refused(6);
     }
-    if windows.iter().any(|n| *n > LONGEST_WINDOW) || !values(function, call, Role::Period).all(|p| is_period(p.real())) {
+    if function.roles.iter().zip(&call.parameters).any(|(role, value)| too_long(*role, *value)) {
         return Answer::refused(7);
     }
-    if bars == 0 || windows.contains(&0) {
+    if is_empty(function.name, bars, &whole) {
         return Answer::cells(0);
     }
-    if function.rising && !windows.is_sorted_by(|n, m| n < m) {
+    if has_too_few_bars(function.name, bars, &whole) {
+        return Answer::refused(8);
+    }
+    if function.rising && !whole.is_sorted_by(|n, m| n < m) {
         return Answer::refused(9);
     }
     Answer::cells(bars)
@@ -45,20 +48,25 @@ pub fn answer(function: &Function, call: &Call) -> Answer {
 
 /// How many work cells hold +0.0 after a call that was not refused.
 pub fn cleared(function: &Function, call: &Call, answer: Answer) -> usize {
-    if function.work && answer.refusal == 0 { 8 * call.bars() } else { 0 }
+    if answer.refusal == 0 { function.work_for(call.bars()) } else { 0 }
 }
 
-fn values<'a>(function: &'a Function, call: &'a Call, role: Role) -> impl Iterator<Item = Value> + 'a {
-    function.roles.iter().zip(&call.parameters).filter(move |(r, _)| **r == role).map(|(_, value)| *value)
+/// The integer parameters in order: windows and smoother periods.
+fn whole_parameters(call: &Call) -> impl Iterator<Item = usize> {
+    call.parameters.iter().filter_map(|value| match value {
+        Value::Count(n) => Some(*n),
+        Value::Real(_) => None,
+    })
 }
 
-fn reals(call: &Call) -> impl Iterator<Item = f64> {
+fn real_parameters(call: &Call) -> impl Iterator<Item = f64> {
     call.parameters.iter().filter_map(|value| match value {
         Value::Real(x) => Some(*x),
         Value::Count(_) => None,
     })
 }
 
+/// Refusal 5 is for the values that are not accepted.
 fn accepted(domain: Domain, x: f64) -> bool {
     let size = x.abs();
     let negative_zero = x == 0.0 && x.is_sign_negative();
@@ -68,7 +76,35 @@ fn accepted(domain: Domain, x: f64) -> bool {
     }
 }
 
-/// Whole from 0 to 512. -0.0 is the whole number 0, so it is period 0.
-fn is_period(period: f64) -> bool {
-    (0.0..=LONGEST_PERIOD).contains(&period) && period.fract() == 0.0
+/// Refusal 7. A period of -0.0 is the whole number 0.
+fn too_long(role: Role, value: Value) -> bool {
+    match role {
+        Role::Window => usize::from(value) > LONGEST_WINDOW,
+        Role::WholePeriod => usize::from(value) > LONGEST_PERIOD,
+        Role::Period => {
+            let period = f64::from(value);
+            !(0.0..=LONGEST_PERIOD as f64).contains(&period) || period.fract() != 0.0
+        }
+        Role::Weight | Role::Multiple | Role::Level => false,
+    }
+}
+
+/// The empty answer. A window of 0 is none for `rolling_rank`; the period of `ultimate_smoother` is not an integer.
+fn is_empty(name: &str, bars: usize, whole: &[usize]) -> bool {
+    let a_zero = name != "rolling_rank" && whole.contains(&0);
+    let a_part = match name {
+        "holt_winters" => whole[0] > bars,
+        "ultimate_bands" => bars < whole[0],
+        _ => false,
+    };
+    bars == 0 || a_zero || a_part
+}
+
+/// Refusal 8.
+fn has_too_few_bars(name: &str, bars: usize, whole: &[usize]) -> bool {
+    match name {
+        "triple_sma_positions" => whole[2] > bars,
+        "ultimate_channel" => whole[0] > bars + 1,
+        _ => false,
+    }
 }

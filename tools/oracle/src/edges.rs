@@ -1,0 +1,261 @@
+//! Calls at each edge that document 01 names, on values of the seed's making: the same edges with every seed.
+
+use crate::call::{Call, Value};
+use crate::catalogue::{Function, Role};
+use crate::generate::{ODD_PERIODS, ODD_REALS, ODD_WHOLE_PERIODS, ODD_WINDOWS, PERIOD_LIMIT, WINDOW_LIMIT, plain};
+use crate::rng::Rng;
+use crate::series::{DAMAGED, SERIES_LIMIT, damage, wide};
+
+pub fn edges(rng: &mut Rng, function: &Function) -> Vec<Call> {
+    let mut calls = Vec::new();
+    every_place_damaged(rng, function, &mut calls);
+    every_parameter(rng, function, &mut calls);
+    all_small_windows(rng, function, &mut calls);
+    every_period(rng, function, &mut calls);
+    all_levels(rng, function, &mut calls);
+    every_room(rng, function, &mut calls);
+    unequal(rng, function, &mut calls);
+    wide_windows(rng, function, &mut calls);
+    pairs_of_faults(rng, function, &mut calls);
+    long(rng, function, &mut calls);
+    calls
+}
+
+/// Small parameters that the function takes.
+pub fn modest(function: &Function) -> Vec<Value> {
+    let value = |(place, role): (usize, &Role)| match role {
+        Role::Window | Role::WholePeriod => Value::Count(2 + place),
+        Role::Period => Value::Real(20.0),
+        Role::Weight => Value::Real(0.25),
+        Role::Multiple => Value::Real(0.5),
+        Role::Level => Value::Real([70.0, 30.0, 50.0][place - 1]),
+    };
+    function.roles.iter().enumerate().map(value).collect()
+}
+
+/// Modest parameters but for one.
+fn with_parameter(function: &Function, place: usize, value: Value) -> Vec<Value> {
+    let mut parameters = modest(function);
+    parameters[place] = value;
+    parameters
+}
+
+/// The edges of one parameter for a series of this length.
+pub fn edge_values(role: Role, len: usize) -> Vec<Value> {
+    let around = [len.wrapping_sub(1), len, len + 1, len + 2];
+    let reals = |list: &[f64]| list.iter().map(|x| Value::Real(*x)).collect();
+    let counts = |lists: &[&[usize]]| lists.concat().into_iter().map(Value::Count).collect();
+    match role {
+        Role::Window => counts(&[&[1, 2, len / 2, len / 2 + 1, len.div_ceil(2) + 1], &around, ODD_WINDOWS]),
+        Role::WholePeriod => counts(&[&[1, 2, 3, 4, 5], &around, ODD_WHOLE_PERIODS]),
+        Role::Period => reals(ODD_PERIODS),
+        Role::Weight | Role::Multiple | Role::Level => reals(ODD_REALS),
+    }
+}
+
+fn every_place_damaged(rng: &mut Rng, function: &Function, calls: &mut Vec<Call>) {
+    for len in [1, 2, 3, 7, 8, 9, 33] {
+        for series in 0..function.series {
+            for place in 0..len {
+                for odd in DAMAGED {
+                    let mut call = plain(rng, function, len, modest(function));
+                    call.series[series][place] = *odd;
+                    calls.push(call);
+                }
+            }
+        }
+    }
+}
+
+/// Each parameter in turn at each of its edges, the others modest.
+fn every_parameter(rng: &mut Rng, function: &Function, calls: &mut Vec<Call>) {
+    for len in [0, 1, 2, 3, 4, 5, 8, 16, 17, 40] {
+        for (place, role) in function.roles.iter().enumerate() {
+            for value in edge_values(*role, len) {
+                calls.push(plain(rng, function, len, with_parameter(function, place, value)));
+            }
+        }
+    }
+    for len in [WINDOW_LIMIT - 1, WINDOW_LIMIT, WINDOW_LIMIT + 1] {
+        for n in [len - 1, len, len + 1] {
+            calls.push(plain(rng, function, len, with_windows(function, n)));
+        }
+    }
+}
+
+/// Every choice of small windows and whole periods, from 0 on.
+fn all_small_windows(rng: &mut Rng, function: &Function, calls: &mut Vec<Call>) {
+    let places: Vec<usize> = (0..function.roles.len()).filter(|place| function.roles[*place].is_whole()).collect();
+    let end: usize = [1, 13, 7, 5][places.len()];
+    for len in [1, 4, 9, 30] {
+        for choice in 0..end.pow(places.len() as u32) {
+            let mut parameters = modest(function);
+            for (digit, place) in places.iter().enumerate() {
+                parameters[*place] = Value::Count(choice / end.pow(digit as u32) % end);
+            }
+            calls.push(plain(rng, function, len, parameters));
+        }
+    }
+}
+
+/// Every smoother period, on a series that is longer.
+fn every_period(rng: &mut Rng, function: &Function, calls: &mut Vec<Call>) {
+    for (place, role) in function.roles.iter().enumerate() {
+        for period in 0..=PERIOD_LIMIT + 1 {
+            let value = match role {
+                Role::Period => Value::Real(period as f64),
+                Role::WholePeriod => Value::Count(period),
+                _ => continue,
+            };
+            calls.push(plain(rng, function, period.max(40) + 5, with_parameter(function, place, value)));
+        }
+    }
+}
+
+/// Every choice of three levels out of five, equal and reversed ones too.
+fn all_levels(rng: &mut Rng, function: &Function, calls: &mut Vec<Call>) {
+    let levels = [0.0, 30.0, 50.0, 70.0, 100.0];
+    for choice in 0..levels.len().pow(3) {
+        if function.roles.contains(&Role::Level) {
+            let [upper, lower, exit] =
+                [choice % 5, choice / 5 % 5, choice / 25].map(|place| Value::Real(levels[place]));
+            let n = Value::Count(1 + choice % 4);
+            calls.push(plain(rng, function, 24, vec![n, upper, lower, exit]));
+        }
+    }
+}
+
+/// Each output and the work of each length near the one asked, with and without another fault.
+fn every_room(rng: &mut Rng, function: &Function, calls: &mut Vec<Call>) {
+    let near = |need: usize| [0, need.saturating_sub(1), need, need + 1, need + 9];
+    for len in [0, 1, 2, 5, 8, 64] {
+        for (place, output) in (0..function.outputs).flat_map(|place| near(len).map(|output| (place, output))) {
+            for work in if function.work { near(8 * len).to_vec() } else { vec![0] } {
+                for damaged in [false, true] {
+                    let mut call = plain(rng, function, len, modest(function));
+                    if damaged {
+                        damage(rng, &mut call.series[0]);
+                    }
+                    call.outputs[place] = output;
+                    calls.push(Call { work, ..call });
+                }
+            }
+        }
+    }
+}
+
+/// Series of which one is shorter or longer than the others, also beyond the limit.
+fn unequal(rng: &mut Rng, function: &Function, calls: &mut Vec<Call>) {
+    for len in [0, 1, 5, SERIES_LIMIT] {
+        for place in 0..function.series {
+            for other in [0, 1, len + 1, len + 2, SERIES_LIMIT + 1] {
+                if function.series > 1 {
+                    let mut call = plain(rng, function, len, modest(function));
+                    call.series[place].resize(other, 1.0);
+                    calls.push(call);
+                }
+            }
+        }
+    }
+}
+
+/// One thing that is wrong with a call, or that makes its answer empty.
+#[derive(Clone, Copy)]
+enum Fault {
+    /// The series at a place has another length.
+    Length(usize, usize),
+    /// The output at a place is a cell too short.
+    Output(usize),
+    Work,
+    /// The series at a place has a NaN.
+    Value(usize),
+    /// The parameter at a place is another.
+    Parameter(usize, Value),
+}
+
+impl Fault {
+    fn put(self, call: &mut Call) {
+        match self {
+            Fault::Length(place, length) => call.series[place].resize(length, 1.0),
+            Fault::Output(place) => call.outputs[place] -= 1,
+            Fault::Work => call.work = call.work.saturating_sub(1),
+            Fault::Value(place) => call.series[place][0] = f64::NAN,
+            Fault::Parameter(place, value) => call.parameters[place] = value,
+        }
+    }
+}
+
+/// Each fault that a call of `len` bars can have.
+fn faults(function: &Function, len: usize) -> Vec<Fault> {
+    let mut faults = vec![Fault::Work];
+    for place in 0..function.series {
+        faults.extend([Fault::Length(place, SERIES_LIMIT + 1), Fault::Length(place, len - 1), Fault::Value(place)]);
+    }
+    faults.extend((0..function.outputs).map(Fault::Output));
+    for (place, role) in function.roles.iter().enumerate() {
+        let values: &[Value] = match role {
+            Role::Window => &[0, len + 2, WINDOW_LIMIT + 1].map(Value::Count),
+            Role::WholePeriod => &[0, len + 2, PERIOD_LIMIT + 1].map(Value::Count),
+            Role::Period => &[0.5, 513.0, f64::NAN].map(Value::Real),
+            Role::Weight | Role::Multiple | Role::Level => &[Value::Real(f64::INFINITY)],
+        };
+        faults.extend(values.iter().map(|value| Fault::Parameter(place, *value)));
+    }
+    faults
+}
+
+/// Every two faults at once, so that the first in the table must be the one that is given.
+fn pairs_of_faults(rng: &mut Rng, function: &Function, calls: &mut Vec<Call>) {
+    const LEN: usize = 7;
+    let faults = faults(function, LEN);
+    for (place, first) in faults.iter().enumerate() {
+        for second in &faults[place..] {
+            let mut call = plain(rng, function, LEN, modest(function));
+            first.put(&mut call);
+            second.put(&mut call);
+            calls.push(call);
+        }
+    }
+}
+
+/// Windows of some hundred bars, from where a rank just below the middle rounds to -0.0.
+fn wide_windows(rng: &mut Rng, function: &Function, calls: &mut Vec<Call>) {
+    for n in [63, 64, 65, 202, 204, 255, 256, 302, 402] {
+        for _ in 0..3 {
+            calls.push(plain(rng, function, 3 * n + 8, with_windows(function, n)));
+        }
+    }
+}
+
+/// The longest series, and one bar more, with short windows; the longest window where it just has a first cell.
+fn long(rng: &mut Rng, function: &Function, calls: &mut Vec<Call>) {
+    for len in [SERIES_LIMIT - 1, SERIES_LIMIT, SERIES_LIMIT + 1, SERIES_LIMIT + 4_000] {
+        for n in [0, 2, 20, WINDOW_LIMIT + 1] {
+            calls.push(plain(rng, function, len, with_windows(function, n)));
+        }
+    }
+    calls.push(plain(rng, function, SERIES_LIMIT, with_windows(function, 250)));
+    for len in [2 * WINDOW_LIMIT - 2, 2 * WINDOW_LIMIT - 1, 2 * WINDOW_LIMIT + 40] {
+        calls.push(plain(rng, function, len, with_windows(function, WINDOW_LIMIT)));
+    }
+}
+
+/// The longest series with the longest window. pure.rs sorts every window of `rolling_rank` anew, so fewer bars there.
+pub fn extreme(rng: &mut Rng, function: &Function) -> Call {
+    let len = if function.name == "rolling_rank" { 3 * WINDOW_LIMIT } else { SERIES_LIMIT };
+    let series = (0..function.series).map(|_| wide(rng, function.domain, len)).collect();
+    function.call(series, with_windows(function, WINDOW_LIMIT))
+}
+
+/// Modest parameters but for the windows: the last is n, with smaller ones before it.
+pub fn with_windows(function: &Function, n: usize) -> Vec<Value> {
+    let mut parameters = modest(function);
+    let mut window = n;
+    for (value, role) in parameters.iter_mut().zip(function.roles).rev() {
+        if *role == Role::Window {
+            *value = Value::Count(window);
+            window = window.div_ceil(2).saturating_sub(1).max(1);
+        }
+    }
+    parameters
+}

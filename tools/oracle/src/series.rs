@@ -1,0 +1,160 @@
+//! Series to try: values that are accepted, of many shapes, and values at and beyond the edges of refusal 5.
+
+use crate::catalogue::Domain;
+use crate::rng::Rng;
+
+pub const SERIES_LIMIT: usize = 65_536;
+const TICK_LIMIT: i64 = 16_777_216;
+const VALUE_LIMIT: f64 = 1_073_741_824.0;
+
+/// Values at and beyond the edges of refusal 5; the first few are accepted by some functions.
+pub const DAMAGED: &[f64] = &[
+    VALUE_LIMIT,
+    -VALUE_LIMIT,
+    16_777_216.0,
+    -16_777_216.0,
+    VALUE_LIMIT.next_up(),
+    -VALUE_LIMIT.next_up(),
+    16_777_217.0,
+    -16_777_217.0,
+    0.5,
+    -2.5,
+    5e-324,
+    -0.0,
+    f64::INFINITY,
+    f64::NEG_INFINITY,
+    f64::MAX,
+    f64::NAN,
+    f64::from_bits(0xfff0_0000_0000_0001),
+];
+
+/// How the values of a series are made.
+#[derive(Clone, Copy, PartialEq)]
+enum Shape {
+    SmallTicks,
+    WideTicks,
+    LargeTicks,
+    WalkOfTicks,
+    FewValues,
+    Flat,
+    FlatThenStep,
+    Rising,
+    Falling,
+    Alternating,
+    MostlyZero,
+    Cents,
+    SmallSteps,
+    Subnormal,
+    UnitsApart,
+    Large,
+    MixedSizes,
+}
+
+/// Those of whole ticks first.
+const SHAPES: &[Shape] = &[
+    Shape::SmallTicks,
+    Shape::WideTicks,
+    Shape::LargeTicks,
+    Shape::WalkOfTicks,
+    Shape::FewValues,
+    Shape::Flat,
+    Shape::FlatThenStep,
+    Shape::Rising,
+    Shape::Falling,
+    Shape::Alternating,
+    Shape::MostlyZero,
+    Shape::Cents,
+    Shape::SmallSteps,
+    Shape::Subnormal,
+    Shape::UnitsApart,
+    Shape::Large,
+    Shape::MixedSizes,
+];
+const OF_TICKS: usize = 11;
+
+/// A series of `len` values that a function of this domain accepts; some begin with zeros. Ticks may be whole, or
+/// tenths, hundredths and thirds, which have the same ties but round.
+pub fn series(rng: &mut Rng, domain: Domain, len: usize) -> Vec<f64> {
+    let (shape, tick) = match domain {
+        Domain::Accepted => (rng.pick(SHAPES), rng.pick(&[1.0, 1.0, 1.0, 1.0, 0.1, 0.01, 1.0 / 3.0])),
+        Domain::WholeTicks => (rng.pick(&SHAPES[..OF_TICKS]), 1.0),
+    };
+    let mut values = of_shape(rng, shape, tick, len);
+    if rng.one_in(12) {
+        let zeros = rng.below(len + 1);
+        values[..zeros].fill(0.0);
+    }
+    values
+}
+
+/// Ticks or hundredths without any order.
+pub fn wide(rng: &mut Rng, domain: Domain, len: usize) -> Vec<f64> {
+    let tick = if domain == Domain::Accepted { rng.pick(&[1.0, 0.01]) } else { 1.0 };
+    of_shape(rng, Shape::WideTicks, tick, len)
+}
+
+fn of_shape(rng: &mut Rng, shape: Shape, tick: f64, len: usize) -> Vec<f64> {
+    let start = rng.between(-TICK_LIMIT + SERIES_LIMIT as i64 * 2, TICK_LIMIT - SERIES_LIMIT as i64 * 2);
+    let few = [rng.between(-9, 9), rng.between(-9, 9), rng.between(-9, 9)];
+    let base = (rng.unit() - 0.5) * 2.0 * rng.pick(&[1.0, 100.0, 1e6, VALUE_LIMIT / 2.0]);
+    let step = rng.pick(&[1e-8, 0.5e-8, 1e-10, 0.25e-10]);
+    let middle = rng.pick(&[0.0, 0.0, 1.0, base]);
+    let turn = len - rng.below(len.clamp(1, 5));
+    let mut walk = start;
+    let value = |bar: usize| -> f64 {
+        let ticks = match shape {
+            Shape::SmallTicks => rng.between(-20, 20),
+            Shape::WideTicks => rng.between(-5_000, 5_000),
+            Shape::LargeTicks => rng.between(-TICK_LIMIT, TICK_LIMIT),
+            Shape::WalkOfTicks => {
+                walk = (walk + rng.between(-3, 3)).clamp(-TICK_LIMIT, TICK_LIMIT);
+                walk
+            }
+            Shape::FewValues => rng.pick(&few),
+            Shape::Flat => few[0],
+            Shape::FlatThenStep => few[(bar + 1 >= turn) as usize],
+            Shape::Rising => start + bar as i64,
+            Shape::Falling => start - bar as i64,
+            Shape::Alternating => [few[0], -few[0]][bar % 2],
+            Shape::MostlyZero => few[1] * rng.one_in(8) as i64,
+            Shape::Cents => return rng.between(-1_000_000, 1_000_000) as f64 / 100.0,
+            Shape::SmallSteps => return middle + step * rng.between(-4, 4) as f64,
+            Shape::Subnormal => return 5e-324 * rng.between(-40, 40) as f64,
+            Shape::UnitsApart => return f64::from_bits(base.to_bits() ^ rng.word() & 3),
+            Shape::Large => return VALUE_LIMIT * (1.0 - 2.0 * rng.unit()),
+            Shape::MixedSizes => return of_any_size(rng.word()),
+        };
+        ticks as f64 * tick
+    };
+    (0..len).map(value).map(within_limits).collect()
+}
+
+/// An accepted value of any size.
+fn of_any_size(word: u64) -> f64 {
+    let exponent = (word >> 53) % (1023 + 30);
+    f64::from_bits((word & 0x800f_ffff_ffff_ffff) | exponent << 52)
+}
+
+/// The nearest value that is accepted; adding +0.0 turns -0.0 into it.
+fn within_limits(x: f64) -> f64 {
+    x.clamp(-VALUE_LIMIT, VALUE_LIMIT) + 0.0
+}
+
+/// High, low and close of bars as a market has them: the close lies between the others, often on one of them.
+pub fn bars(rng: &mut Rng, domain: Domain, len: usize) -> Vec<Vec<f64>> {
+    let close = series(rng, domain, len);
+    let unit = rng.pick(&[0.0, 1e-8, 0.01, 1.0, 1.0, 40.0]);
+    let mut beside =
+        |unit: f64| -> Vec<f64> { close.iter().map(|x| within_limits(x + unit * rng.below(4) as f64)).collect() };
+    vec![beside(unit), beside(-unit), close]
+}
+
+/// Puts one to three odd values into a series.
+pub fn damage(rng: &mut Rng, series: &mut [f64]) {
+    for _ in 0..1 + rng.below(3) {
+        if !series.is_empty() {
+            let place = rng.below(series.len());
+            series[place] = rng.pick(DAMAGED);
+        }
+    }
+}
