@@ -1,2 +1,3 @@
 pub mod Call
+pub mod Cells
 pub mod Room

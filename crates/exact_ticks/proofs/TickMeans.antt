@@ -2,7 +2,7 @@
 use mathlib.Core.Path.{_≡_, sym}
 use mathlib.Core.Bool.{true}
 use mathlib.Core.List.{List}
-use Prim.Native.Nat.{ℕ}
+use Prim.Native.Nat.{ℕ, _<_}
 use lib.Dec.{T}
 use lib.ListN.{length}
 use lib.Ieee.{Float, binary64, toSigned, fits}
@@ -14,8 +14,9 @@ use Rattle.values.proofs.Ticks.{ticked}
 use Rattle.exact_ticks.proofs.Exact.{TickLine}
 
 -- a series of floats that are whole ticks, as a line of whole numbers
-pub tick-line : (s : List Float) → ((i : ℕ) → T (fits binary64 (line s i))) → all tick s ≡ true → TickLine (length s) (line s) (λ i. toSigned 63 (line s i))
+pub tick-line : (s : List Float) → ((i : ℕ) → i < length s → T (fits binary64 (line s i))) → all tick s ≡ true
+    → TickLine (length s) (line s) (λ i. toSigned 63 (line s i))
 tick-line s floats h = record {
-  is = λ i l. sym (float-back-signed binary64 63 (line s i) (floats i) (ticked (line s i) (all-at tick s i h l) .castable) .1);
+  is = λ i l. sym (float-back-signed binary64 63 (line s i) (floats i l) (ticked (line s i) (all-at tick s i h l) .castable) .1);
   small = λ i l. ticked (line s i) (all-at tick s i h l) .near;
 }

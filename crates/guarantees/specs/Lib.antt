@@ -1,4 +1,6 @@
 -- What a user gets, as theorems about the definitions that the contracts cite. Each statement stands under one sentence.
+pub mod FromC
+pub mod Leaves
 pub mod NoLookAhead
 pub mod OnTicks
 pub mod Positions

@@ -2,32 +2,38 @@
 -- product named below is one of whole numbers, never rounded; what is said from a bar on holds there and at every later bar below the
 -- count k of the call's answer. Assumes nothing.
 use mathlib.Core.Path.{_≡_, sym, _∙_}
-use mathlib.Core.Bool.{cond}
+use mathlib.Core.Bool.{cond, Bool, false, true, true≢false}
 use mathlib.Core.List.{List, [], _∷_}
 use Prim.Native.Nat.{ℕ, _+_, _-_, _*_, _<_, _≤_}
 use native.Mathlib.Omega.{arith}
 use lib.IntN.{ℤ, pos, natAbs, _+ℤ_, _*ℤ_}
 use lib.Signed.{ltZ}
 use lib.ListN.{length, getD}
-use lib.Ieee.{Float, nan, binary64, round}
+use lib.Ieee.{Float, nan, binary64, round, fits}
+use lib.Dec.{T}
 use Rattle.rounding.specs.Leaves.{plusOne, minusOne}
 use Rattle.rounding.specs.Whole.{isNegative}
 use Rattle.rounding.specs.Nearest.{NearestTo}
 use Rattle.rounding_laws.proofs.Quotient.{quotient, Whole, quotient-is, quotient-nearest, quotient-zero}
 use Rattle.calls.specs.declared.Answer.the-variants.{Cells}
 use Rattle.cells.specs.Line.{plusZero, line}
-use Rattle.cells.proofs.Written.{getD-written}
-use Rattle.rules_double.proofs.Open.{double-opened}
-use Rattle.rules_double.specs.Double.{doubleLine}
-use Rattle.exact_ticks.proofs.Exact.{window-whole}
+use Rattle.rules_double.proofs.Open.{double-opened, double-room, double-whole}
+use Rattle.rules_double.specs.Double.{DoubleCall}
+use Rattle.exact_ticks.proofs.Exact.{window-whole, TickLine}
 use Rattle.averages.proofs.Ticks.{sma-exact}
 use Rattle.windows.specs.Window.{windowTotal}
-use Rattle.guarantees.specs.Calls.{SmaCall, DoubleCall, SingleCall, MidCall}
-use Rattle.guarantees.specs.Series.{WholeTicks, price, whole-ticks, bar}
+use Rattle.guarantees.specs.Series.{WholeTicks, price}
 use Rattle.rules_double.proofs.Ticks.{double-exact}
 use Rattle.rules_single.proofs.Ticks.{single-exact}
 use Rattle.extremes.specs.Whole.{highest, lowest}
 use Rattle.rules_middle.proofs.Ticks.{middle-exact}
+use Rattle.averages.specs.Sma.{SmaCall}
+use Rattle.calls.proofs.Cells.{bar, cell-at}
+use Rattle.exact_ticks.proofs.TickMeans.{tick-line}
+use Rattle.rules_middle.specs.Middle.{MidCall}
+use Rattle.rules_single.specs.Single.{SingleCall}
+use Rattle.values.proofs.All.{all-at}
+use Rattle.values.specs.Accepted.{accepted}
 
 -- the sum of the last n prices at bar i: its window sum
 abbrev pub windowSumOf : ℕ → List Float → ℕ → ℤ
@@ -57,38 +63,54 @@ pub record IsMean (z : ℤ) (n : ℕ) (x : Float) : Type 0 where
 zero-mean : (z : ℤ) (n : ℕ) → Whole binary64 z n → z ≡ pos 0 → quotient binary64 z n ≡ plusZero
 zero-mean z n w e = rw e (quotient-zero (rw e at w))
 
+is-true : (t : Bool) → t ≡ true → T t
+is-true true e = tt
+is-true false e = absurd (true≢false (sym e))
+
+whole-ticks : {s : List Float} → WholeTicks s → TickLine (length s) (line s) (price s)
+whole-ticks {s} w = tick-line s (λ i h. is-true _ (all-at (fits binary64) s i (w .floats) h)) (w .ticks)
+
+-- ---- the statements
+
 module _ {s out₀ out₁ : List Float} (w : WholeTicks s) (n : ℕ) {k : ℕ} where
   -- sma, for every window to 4,096: from bar n - 1 each cell is the mean of the last n prices.
-  pub sma-on-ticks : SmaCall n s out₀ (Cells k) out₁ → (i : ℕ) → n ≤ i + 1 → i < k → IsMean (windowSumOf n s i) n (getD out₁ i nan)
+  pub sma-on-ticks : SmaCall s n out₀ (Cells k) out₁ → (i : ℕ) → n ≤ i + 1 → i < k → IsMean (windowSumOf n s i) n (getD out₁ i nan)
   sma-on-ticks c i b h =
-      let r = bar n s out₀ [] k i (sym (c .answer)) (c .cells) h in
+      let r = bar nan accepted s (n ∷ []) [] c i h in
+      let N = r .each .0 .some in
+      let M = r .each .0 .narrow in
       let t = whole-ticks w in
-      let v = window-whole t n (r .some) (r .narrow) (i + 1 - n) (omega (arith, r .inside)) in
-      rw (r .cell, sma-exact t n (r .some) (r .narrow) i b (r .inside))
+      let v = window-whole t n N (omega arith) (i + 1 - n) (omega (arith, r .inside)) in
+      rw (r .cell, sma-exact t n N (omega arith) i b (r .inside))
       (record { rounded = quotient-is v; nearest = quotient-nearest v; zero = λ e. zero-mean (windowSumOf n s i) n v e })
 
   -- Double, for every n < m to 4,096: from bar m - 1 the cell is +1 exactly when m times the last n prices' sum is at least n times the last m
   -- prices' sum, else -1.
-  pub double-on-ticks : (m : ℕ) → DoubleCall n m s out₀ (Cells k) out₁ → (i : ℕ) → m ≤ i + 1 → i < k
+  pub double-on-ticks : (m : ℕ) → DoubleCall s n m out₀ (Cells k) out₁ → (i : ℕ) → m ≤ i + 1 → i < k
       → getD out₁ i nan ≡ sideOf (windowSumOf n s i *ℤ pos m) (windowSumOf m s i *ℤ pos n)
   double-on-ticks m c i b h =
-      let o = double-opened s n m (length out₀) k (sym (c .answer)) (omega arith) in
-      rw (c .cells, getD-written k (doubleLine n m (line s)) out₀ i nan h (omega arith))
-      (double-exact (whole-ticks w) n m i (o .some) (o .order) (o .narrow) b (omega arith))
+      let e = sym (c .answer) in
+      let o = double-opened s n m (length out₀) k e (omega arith) in
+      let whole = double-whole s n m (length out₀) k e (omega arith) in
+      let room = double-room s n m (length out₀) k e .out-long in
+      let M = o .long .narrow in
+      rw (cell-at nan c (omega arith) i h)
+      (double-exact (whole-ticks w) n m i (o .short .some) (o .order) (omega arith) b (omega arith))
 
   module _ {work₀ work₁ : List Float} where
     -- One average, for windows to 1,022: from bar 2n - 2 the cell has the sign of n · n · price - D, where that difference and D are not 0.
-    pub single-on-ticks : SingleCall n s out₀ work₀ (Cells k) out₁ work₁ → n ≤ 1022 → (i : ℕ) → 2 * n ≤ i + 2 → i < k
+    pub single-on-ticks : SingleCall s n out₀ work₀ (Cells k) out₁ work₁ → n ≤ 1022 → (i : ℕ) → 2 * n ≤ i + 2 → i < k
         → ¬ (D n s i ≡ pos 0) → ¬ (price s i *ℤ pos (n * n) ≡ D n s i) → getD out₁ i nan ≡ sideOf (price s i *ℤ pos (n * n)) (D n s i)
     single-on-ticks c l i b h x y =
-        let r = bar n s out₀ (length work₀ ∷ []) k i (sym (c .answer)) (c .cells) h in
-        r .cell ∙ single-exact (whole-ticks w) n i (r .some) l b (r .inside) x y
+        let r = bar nan accepted s (n ∷ []) (length work₀ ∷ []) (c .call) i h in
+        r .cell ∙ single-exact (whole-ticks w) n i (r .each .0 .some) l b (r .inside) x y
 
     -- Middle, for every window to 4,096, with H and W the highest and the lowest of the last n window sums and S the present one: from bar
     -- 2n - 2 the cell has the sign of 2 · S - (H + W), where that difference, H and W are not 0.
-    pub mid-on-ticks : MidCall n s out₀ work₀ (Cells k) out₁ work₁ → (i : ℕ) → 2 * n ≤ i + 2 → i < k
+    pub mid-on-ticks : MidCall s n out₀ work₀ (Cells k) out₁ work₁ → (i : ℕ) → 2 * n ≤ i + 2 → i < k
         → ¬ (H n s i ≡ pos 0) → ¬ (W n s i ≡ pos 0) → ¬ (windowSumOf n s i *ℤ pos 2 ≡ H n s i +ℤ W n s i)
         → getD out₁ i nan ≡ sideOf (windowSumOf n s i *ℤ pos 2) (H n s i +ℤ W n s i)
     mid-on-ticks c i b h x y z =
-        let r = bar n s out₀ (length work₀ ∷ []) k i (sym (c .answer)) (c .cells) h in
-        r .cell ∙ middle-exact (whole-ticks w) n (r .some) (r .narrow) i b (r .inside) x y z
+        let r = bar nan accepted s (n ∷ []) (length work₀ ∷ []) (c .call) i h in
+        let M = r .each .0 .narrow in
+        r .cell ∙ middle-exact (whole-ticks w) n (r .each .0 .some) (omega arith) i b (r .inside) x y z

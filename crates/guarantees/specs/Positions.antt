@@ -11,16 +11,13 @@ use lib.Ieee.{Float, nan, binary64, add, sub, div, eq, isNan}
 use Rattle.rounding.specs.Leaves.{one, plusOne, minusOne, signOf, two}
 use Rattle.calls.specs.declared.Answer.the-variants.{Cells}
 use Rattle.values.specs.Accepted.{accepted}
-use Rattle.calls.specs.Answer.{checked}
 use Rattle.cells.specs.Line.{Line, plusZero, line}
-use Rattle.calls.proofs.Room.{Room, andThen-cells, checked-room, room}
-use Rattle.cells.proofs.Written.{getD-written}
 use Rattle.windows.specs.Window.{mean}
 use Rattle.extremes.specs.Extreme.{larger, smaller, extreme}
-use Rattle.rules_double.proofs.Open.{double-opened}
-use Rattle.rules_single.specs.Single.{singleLine}
-use Rattle.rules_double.specs.Double.{runningMean, doubleLine, doubleAnswer}
-use Rattle.rules_middle.specs.Middle.{midLine}
+use Rattle.rules_double.proofs.Open.{double-opened, double-room, double-whole}
+use Rattle.rules_single.specs.Single.{singleLine, SingleCall}
+use Rattle.rules_double.specs.Double.{runningMean, doubleLine, DoubleCall}
+use Rattle.rules_middle.specs.Middle.{midLine, MidCall}
 use Rattle.rounding_laws.proofs.Bounds.{AtMost, add-at-most, div-at-most, sub-at-most}
 use Rattle.exact_ticks.proofs.Bounds.{
   from-bar-holds,
@@ -31,10 +28,8 @@ use Rattle.exact_ticks.proofs.Bounds.{
   lowest-bounded,
 }
 use Rattle.rules_double.proofs.Bounds.{running-mean-bounded}
-use Rattle.guarantees.specs.Calls.{DoubleCall, SingleCall, MidCall}
 use Rattle.rules_middle.proofs.Ticks.{two-is}
-use Rattle.guarantees.specs.Series.{bar}
-use Rattle.limits.specs.Limits.{longestSeries, longestWindow}
+use Rattle.calls.proofs.Cells.{bar, cell-at}
 
 -- long, short or flat
 abbrev pub Position : Float → Type 0
@@ -62,14 +57,14 @@ flat-or true x p = inr (inr refl)
 flat-or false x p = p
 
 module _ (f : Line) (i : ℕ) (h : Bounded (2 ^ 30) f i) where
-  single-position : (n : ℕ) → 0 < n → n ≤ longestWindow → Position (singleLine n f i)
+  single-position : (n : ℕ) → 0 < n → n ≤ 2 ^ 12 → Position (singleLine n f i)
   unfolding singleLine
   single-position n N M =
       let average = mean-bounded n N M (mean n f) i (mean-bounded n N M f i h) i (le-refl i) in
       let gap : AtMost (2 ^ 31) (sub binary64 (f i) (mean n (mean n f) i)) = sub-at-most (h i (le-refl i)) average (omega arith) in
       from-bar-holds Position (2 * n - 2) _ i (inr (inr refl)) (λ k. flat-or (eq (mean n (mean n f) i) plusZero) _ (sign-position gap))
 
-  double-position : (n m : ℕ) → 0 < n → n < m → m ≤ longestWindow → i < longestSeries → Position (doubleLine n m f i)
+  double-position : (n m : ℕ) → 0 < n → n < m → m ≤ 2 ^ 12 → i < 2 ^ 16 → Position (doubleLine n m f i)
   unfolding doubleLine
   double-position n m N L M l =
       from-bar-holds Position (m - 1) _ i (inr (inr refl))
@@ -79,7 +74,7 @@ module _ (f : Line) (i : ℕ) (h : Bounded (2 ^ 30) f i) where
       let gap : AtMost (2 ^ 48) (sub binary64 (runningMean n f i) (runningMean m f i)) = sub-at-most short long (omega arith) in
       sign-position gap)
 
-  mid-position : (n : ℕ) → 0 < n → n ≤ longestWindow → Position (midLine n f i)
+  mid-position : (n : ℕ) → 0 < n → n ≤ 2 ^ 12 → Position (midLine n f i)
   unfolding midLine
   mid-position n N M =
       let average = mean n f i in
@@ -93,30 +88,29 @@ module _ (f : Line) (i : ℕ) (h : Bounded (2 ^ 30) f i) where
 
 -- ---- the statements
 
-double-room : (s : List Float) (n m out k : ℕ) → doubleAnswer s n m out ≡ Cells k → Room accepted s out []
-unfolding doubleAnswer
-double-room s n m out k e = checked-room accepted s out [] _ (andThen-cells (checked accepted (s ∷ []) (out ∷ []) []) _ k e .0)
-
 module _ (n : ℕ) (s : List Float) {out₀ out₁ : List Float} {k : ℕ} where
   -- Double: each of its cells is a position.
-  pub double-writes-positions : (m : ℕ) → DoubleCall n m s out₀ (Cells k) out₁ → (i : ℕ) → i < k → Position (getD out₁ i nan)
+  pub double-writes-positions : (m : ℕ) → DoubleCall s n m out₀ (Cells k) out₁ → (i : ℕ) → i < k → Position (getD out₁ i nan)
   double-writes-positions m c i h =
-      let o = double-opened s n m (length out₀) k (sym (c .answer)) (omega arith) in
-      let r = double-room s n m (length out₀) k (sym (c .answer)) in
-      rw (c .cells, getD-written k (doubleLine n m (line s)) out₀ i nan h (omega (arith, o .whole, o .room)))
-      (double-position (line s) i (prices-bounded s i (r .values) (omega (arith, o .whole))) n m (o .some) (o .order) (o .narrow) (omega (arith, o .whole, r .short)))
+      let e = sym (c .answer) in
+      let o = double-opened s n m (length out₀) k e (omega arith) in
+      let whole = double-whole s n m (length out₀) k e (omega arith) in
+      let r = double-room s n m (length out₀) k e in
+      let M = o .long .narrow in
+      rw (cell-at nan c (omega (arith, r .out-long)) i h)
+      (double-position (line s) i (prices-bounded s i (r .values) (omega arith)) n m (o .short .some) (o .order) (omega arith) (omega (arith, r .short)))
 
   module _ {work₀ work₁ : List Float} where
     -- One average: likewise.
-    pub single-writes-positions : SingleCall n s out₀ work₀ (Cells k) out₁ work₁ → (i : ℕ) → i < k → Position (getD out₁ i nan)
+    pub single-writes-positions : SingleCall s n out₀ work₀ (Cells k) out₁ work₁ → (i : ℕ) → i < k → Position (getD out₁ i nan)
     single-writes-positions c i h =
-        let b = bar n s out₀ (length work₀ ∷ []) k i (sym (c .answer)) (c .cells) h in
-        let r = room accepted s (n ∷ []) (length out₀) (length work₀ ∷ []) k (sym (c .answer)) in
-        rw (b .cell) (single-position (line s) i (prices-bounded s i (r .values) (b .inside)) n (b .some) (b .narrow))
+        let b = bar nan accepted s (n ∷ []) (length work₀ ∷ []) (c .call) i h in
+        let M = b .each .0 .narrow in
+        rw (b .cell) (single-position (line s) i (prices-bounded s i (b .values) (b .inside)) n (b .each .0 .some) (omega arith))
 
     -- Middle: likewise.
-    pub mid-writes-positions : MidCall n s out₀ work₀ (Cells k) out₁ work₁ → (i : ℕ) → i < k → Position (getD out₁ i nan)
+    pub mid-writes-positions : MidCall s n out₀ work₀ (Cells k) out₁ work₁ → (i : ℕ) → i < k → Position (getD out₁ i nan)
     mid-writes-positions c i h =
-        let b = bar n s out₀ (length work₀ ∷ []) k i (sym (c .answer)) (c .cells) h in
-        let r = room accepted s (n ∷ []) (length out₀) (length work₀ ∷ []) k (sym (c .answer)) in
-        rw (b .cell) (mid-position (line s) i (prices-bounded s i (r .values) (b .inside)) n (b .some) (b .narrow))
+        let b = bar nan accepted s (n ∷ []) (length work₀ ∷ []) (c .call) i h in
+        let M = b .each .0 .narrow in
+        rw (b .cell) (mid-position (line s) i (prices-bounded s i (b .values) (b .inside)) n (b .each .0 .some) (omega arith))

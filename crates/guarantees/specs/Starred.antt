@@ -2,7 +2,7 @@
 use mathlib.Core.Path.{_≡_, refl}
 use mathlib.Core.Bool.{false}
 use mathlib.Core.List.{List, [], _∷_, map}
-use Prim.Native.Nat.{ℕ, zero, suc, _*_}
+use Prim.Native.Nat.{ℕ, _*_}
 use lib.IntN.{ℤ, pos, negsuc}
 use lib.ListN.{length}
 use lib.Ieee.{Float, nan, fin, binary64, add, sub, mul, div, ofInt, toSigned, whole, lt, eq, le, toBits}
@@ -20,6 +20,7 @@ use Rattle.averages_exponential.specs.Ema.{emaLine}
 use Rattle.averages_ticks.specs.TickMean.{toTick, tickMeanLine}
 use Rattle.rules_single.specs.Single.{singleLine}
 use Rattle.rules_double.specs.Double.{runningMean, doubleLine, doubleAnswer}
+use Rattle.cells.specs.Shown.{firstCells, num}
 
 -- a cell of an output: an f64 or a whole number
 pub data Cell : Type 0 where
@@ -36,9 +37,6 @@ pub record Case : Type 0 where
   pub series : List ℕ
   pub answer : Answer
   pub cells : List Cell
-
-abbrev pub num : ℕ → Float
-num k = ofInt binary64 (pos k)
 
 abbrev pub minusOne : Float
 minusOne = ofInt binary64 (negsuc 0)
@@ -64,11 +62,6 @@ table =
     }
     ∷ record { function = tickMean 2; series = 2 ∷ 3 ∷ []; answer = Cells 2; cells = ticks (pos 0) ∷ ticks (pos 3) ∷ [] }
     ∷ []
-
--- the first k cells of a line
-abbrev pub firstCells : {A : Type 0} → ℕ → (ℕ → A) → List A
-firstCells zero f = []
-firstCells (suc k) f = f 0 ∷ firstCells k (λ i. f (suc i))
 
 -- what the definitions answer and write, where the slices are just long enough
 abbrev pub answerOf : Function → List Float → Answer

@@ -111,4 +111,4 @@ module _ {n : ℕ} {s now : List Float} (r : TickRows n s now) (floats : (i : �
   -- and so does the total where there is no tie
   pub by-total : tie (mul binary64 (line s i) (ofInt binary64 (pos (n * n)))) (line now (length s + i)) ≡ false
       → singleLine n (line s) i ≡ cond (lt (mul binary64 (line s i) (ofInt binary64 (pos (n * n)))) (line now (length s + i))) minusOne plusOne
-  by-total e = rw total-cell (no-tie (tick-line s floats (r .ticks)) n (r .some) (r .narrow) i p h (rw (← total-cell) e))
+  by-total e = rw total-cell (no-tie (tick-line s (λ j l. floats j) (r .ticks)) n (r .some) (r .narrow) i p h (rw (← total-cell) e))

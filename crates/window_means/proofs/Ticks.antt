@@ -37,7 +37,7 @@ run-mean s n i floats ticks window l = go (ltb i (n - 1)) (ltb→lt i (n - 1)) (
     go : (t : Bool) → (T t → i < n - 1) → (T (not t) → n - 1 ≤ i) → over n (runs n (line s) i) ≡ mean n (line s) i
     go true p q = rw (before-bar (n - 1) plusZero _ i (p tt), before-bar (n - 1) plusZero _ i (p tt)) (zero-over n window)
     go false p q =
-        let w = tick-line s floats ticks in
+        let w = tick-line s (λ j l. floats j) ticks in
         let h = q tt in
         let N = window .some in
         let M = window .narrow in
