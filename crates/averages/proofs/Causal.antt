@@ -12,4 +12,5 @@ use Rattle.averages.specs.Sma.{smaLine}
 -- no look-ahead
 pub causal-sma : (n : ℕ) → 0 < n → Causal (smaLine n)
 unfolding smaLine
-causal-sma n p = causal-from (n - 1) nan (λ f g b s l. ap (over n) (runningSum-same addDifference n f g b (b + 1 - n) p (omega arith) s))
+causal-sma n p = causal-from (n - 1) nan
+    (λ f g b s l. ap (over n) (runningSum-same addDifference n f g b (b + 1 - n) p (omega arith) s))

@@ -29,12 +29,14 @@ use Rattle.averages.specs.Sma.{smaLine}
 -- ---- sma
 
 -- the cell of bar i, from the running sum with that bar in it
-pub sma-cell : (n i : ℕ) (f : Line) {x : Float} → Running addDifference n f (i + 1) x → n ≤ i + 1 → over n x ≡ smaLine n f i
+pub sma-cell : (n i : ℕ) (f : Line) {x : Float} → Running addDifference n f (i + 1) x → n ≤ i + 1 → over n x
+    ≡ smaLine n f i
 unfolding smaLine
 sma-cell n i f r h = rw (r .is, from-bar (n - 1) nan _ i (omega arith))
 
 -- the lead of `sma`, and the first mean after it
-pub first-mean : (s : List Float) (n : ℕ) {r : ℕ} {sum : Float} {old now : List Float} → Led (n - 1) (length s) nan r old now
+pub first-mean : (s : List Float) (n : ℕ) {r : ℕ} {sum : Float} {old now : List Float}
+    → Led (n - 1) (length s) nan r old now
     → sum ≡ windowSum n (line s) (n - 1) → (0 < n) × (n ≤ length s) × (length s ≤ length now)
     → Writing n (smaLine n (line s)) old (set now (n - 1) (over n sum))
 unfolding smaLine
@@ -58,7 +60,8 @@ module _ (s : List Float) {t : Bool} (e : t ≡ all accepted s) where
 -- ---- a call with one window
 
 -- where there are cells to be written, there is room for them, and a window
-pub window-room : (ok : Float → Bool) (s : List Float) (n out : ℕ) {r : Answer} → r ≡ answered ok s (n ∷ []) out [] → 0 < countOf r
+pub window-room : (ok : Float → Bool) (s : List Float) (n out : ℕ) {r : Answer} → r ≡ answered ok s (n ∷ []) out []
+    → 0 < countOf r
     → WindowRoom n (length s) out
 window-room ok s n out e h = record {
   window = answered-windows ok s (n ∷ []) out [] e h .0;

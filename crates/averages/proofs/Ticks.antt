@@ -15,4 +15,8 @@ module _ {l : ℕ} {f : Line} {t : ℕ → ℤ} (w : TickLine l f t) (n : ℕ) (
   -- and so is sma's cell
   pub sma-exact : (i : ℕ) → n ≤ i + 1 → i < l → smaLine n f i ≡ quotient binary64 (total t (i + 1 - n) n) n
   unfolding smaLine
-  sma-exact i b h = rw (from-bar (n - 1) nan _ i (omega arith), running-exact w difference-slides n (i + 1 - n) N M (omega arith))
+  sma-exact i b h = rw (
+    from-bar (n - 1) nan _ i (omega arith),
+    running-exact w difference-slides n (i + 1 - n) N M
+        (omega arith),
+  )

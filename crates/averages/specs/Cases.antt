@@ -25,8 +25,8 @@ sma-case : map (λ n. written 3 (smaLine n (line short)) short) (2 ∷ 4 ∷ [])
 unfolding short smaLine runningSum recur sumFrom fromBar add sub div ofInt round
 sma-case = refl
 
--- all of three bars; no bars or a window of 0 give the empty answer; a window of 4,097, an output of two cells and a value that is no
--- tick are refused
+-- all of three bars; no bars or a window of 0 give the empty answer; a window of 4,097, an output of two cells and a
+-- value that is no tick are refused
 answers : answered accepted short (2 ∷ []) 3 []
     ∷ answered accepted [] (2 ∷ []) 3 []
     ∷ answered accepted short (0 ∷ []) 3 []

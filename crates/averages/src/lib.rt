@@ -23,7 +23,8 @@ pub struct Found {
     pub last: f64,
 }
 
-// The sum of the first n prices, and their bits. An addition waits for the one before it, and the bits are gathered meanwhile.
+// The sum of the first n prices, and their bits. An addition waits for the one before it, and the bits are gathered
+// meanwhile.
 pub fn sum_first(series: &[f64], n: usize) -> Found
     requires { ⌜ (0 < n) × (n ≤ length (now series)) ⌝ }
     ensures { λ r. ⌜ First (now (series .entry)) n r ⌝ }
@@ -42,10 +43,12 @@ pub fn sum_first(series: &[f64], n: usize) -> Found
     }
 }
 
-// Writes the running means from bar n on, two bars a turn: the new price less the old one is added to the sum in one step.
+// Writes the running means from bar n on, two bars a turn: the new price less the old one is added to the sum in one
+// step.
 fn slide_means(series: &[f64], n: usize, first: f64, out: &mut [f64])
     requires { ⌜ Sliding (now series) n first (now out) ⌝ }
-    ensures { λ _. ⌜ Writing (length (now (series .entry))) (smaLine n (line (now (series .entry)))) (now (out .entry)) (now (out .exit)) ⌝ }
+    ensures { λ _. ⌜ Writing (length (now (series .entry))) (smaLine n (line (now (series .entry))))
+        (now (out .entry)) (now (out .exit)) ⌝ }
 {
     let count = n as f64;
     let mut sum = first;
@@ -73,17 +76,20 @@ pub fn fill_nan(out: &mut [f64], first: usize, bars: usize) -> usize
 // Writes the cells of `sma` from the sum of the first n prices.
 fn write_means(series: &[f64], n: usize, sum: f64, out: &mut [f64])
     requires { ⌜ Summed (now series) n sum (length (now out)) ⌝ }
-    ensures { λ _. ⌜ Writing (length (now (series .entry))) (smaLine n (line (now (series .entry)))) (now (out .entry)) (now (out .exit)) ⌝ }
+    ensures { λ _. ⌜ Writing (length (now (series .entry))) (smaLine n (line (now (series .entry))))
+        (now (out .entry)) (now (out .exit)) ⌝ }
 {
     fill_nan(out, n - 1, series.len());
     out[n - 1] = sum / (n as f64);
     slide_means(series, n, sum, out);
 }
 
-// The answer of a call whose window does not fit: where cells are due, the bars end before the window does, and all are NaN.
+// The answer of a call whose window does not fit: where cells are due, the bars end before the window does, and all
+// are NaN.
 pub fn answer_lead(series: &[f64], n: usize, out: &mut [f64]) -> Answer
     requires { ⌜ windowFits (length (now series)) n (length (now out)) ≡ false ⌝ }
-    ensures { λ r. ⌜ ((f : Line) → Call (answered accepted (now (series .entry)) (n ∷ []) (length (now (out .entry))) []) (fromBar (n - 1) nan f)
+    ensures { λ r. ⌜ ((f : Line) → Call (answered accepted (now (series .entry)) (n ∷ []) (length (now (out .entry)))
+        []) (fromBar (n - 1) nan f)
         (now (out .entry)) r (now (out .exit))) ⌝ }
 {
     let due = checks::answer_window(series, n, out.len());

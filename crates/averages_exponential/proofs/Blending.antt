@@ -22,13 +22,24 @@ module _ {alpha : Float} {a : ℕ} {seed : Float} {f : Line} where
       let none : a + 1 - 1 - a ≡ 0 = omega arith in
       record { is = rw (from-bar a nan _ (a + 1 - 1) (omega arith), none) }
 
-  pub next-blended : {i : ℕ} {x y : Float} → Blending alpha a seed f i x → y ≡ blend alpha x (f i) → a < i → Blending alpha a seed f (i + 1) y
+  pub next-blended : {i : ℕ} {x y : Float} → Blending alpha a seed f i x → y ≡ blend alpha x (f i) → a < i
+      → Blending alpha a seed f (i + 1) y
   unfolding carried recur
   next-blended {i} r e h =
       let now : i + 1 - 1 ≡ i = omega arith in
       let one : i - a ≡ suc (i - 1 - a) = omega arith in
       let bar : a + 1 + (i - 1 - a) ≡ i = omega arith in
-      record { is = rw (e, r .is, now, from-bar a nan _ i (omega arith), from-bar a nan _ (i - 1) (omega arith), one, bar) }
+      record {
+        is = rw (
+          e,
+          r .is,
+          now,
+          from-bar a nan _ i (omega arith),
+          from-bar a nan _ (i - 1) (omega arith),
+          one,
+          bar,
+        );
+      }
 
   -- the bar, written in another way
   pub at-bar : {i j : ℕ} {x : Float} → Blending alpha a seed f i x → i ≡ j → Blending alpha a seed f j x
@@ -41,8 +52,11 @@ module _ {alpha : Float} {a : ℕ} {seed : Float} {f : Line} where
       rw (r .is, now)
 
 -- the lead of a smoothed line, and the seed after it
-pub seed-written : (s : List Float) (alpha : Float) (first : ℕ) (seed : Float) {r : ℕ} {old now : List Float} → Led first (length s) nan r old now
-    → (first < length s) × (length s ≤ length now) → Writing (first + 1) (smoothLine alpha first seed (line s)) old (set now first seed)
+pub seed-written : (s : List Float) (alpha : Float) (first : ℕ) (seed : Float) {r : ℕ} {old now : List Float}
+    → Led first (length s) nan r old now
+    → (first < length s) × (length s ≤ length now)
+    → Writing (first + 1) (smoothLine alpha first seed (line s)) old (set now first seed)
 unfolding carried
 seed-written s alpha first seed w (p, h) =
-    step first (first + 1) (then-written (w .lead) (lead-stands _ w) (omega arith)) (blended-cell {f = line s} first seeded) (omega (arith, w .lead .long))
+    step first (first + 1) (then-written (w .lead) (lead-stands _ w) (omega arith))
+    (blended-cell {f = line s} first seeded) (omega (arith, w .lead .long))

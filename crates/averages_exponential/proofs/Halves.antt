@@ -31,7 +31,8 @@ module _ {A : Type 0} where
 
 module _ {A : Type 0} {f : ℕ → A} {d : A} {old : List A} where
   -- the first place is begun, and the second is not
-  pub one-part : {k : ℕ} {now : List A} (lo b hi : ℕ) → Writing k f old now → (k ≡ lo) × (b ≡ hi) × (k ≤ b) × (k ≤ length old)
+  pub one-part : {k : ℕ} {now : List A} (lo b hi : ℕ) → Writing k f old now → (k ≡ lo) × (b ≡ hi) × (k ≤ b)
+      × (k ≤ length old)
       → Parts f d lo b hi old now
   one-part {k} lo b hi w (e, g, h, l) =
       record {
@@ -43,9 +44,16 @@ module _ {A : Type 0} {f : ℕ → A} {d : A} {old : List A} where
 
   -- a cell more at each
   pub both-parts : {lo b hi : ℕ} {now : List A} {x y : A} (i j : ℕ) → Parts f d lo b hi old now → x ≡ f lo → y ≡ f hi
-      → (lo + 1 ≡ i) × (hi + 1 ≡ j) × (lo < b) × (b ≤ hi) × (hi < length old) → Parts f d i b j old (set (set now lo x) hi y)
+      → (lo + 1 ≡ i) × (hi + 1 ≡ j) × (lo < b) × (b ≤ hi) × (hi < length old)
+      → Parts f d i b j old (set (set now lo x) hi y)
   both-parts {lo} {b} {hi} {now} {x} {y} i j w e g (u, v, p, q, r) =
-      record { low = low; high = high; rest = rest; long = length-set (set now lo x) hi y ∙ length-set now lo x ∙ w .long }
+      record {
+        low = low;
+        high = high;
+        rest = rest;
+        long = length-set (set now lo x) hi y ∙ length-set now lo x
+            ∙ w .long;
+      }
     where
       both : List A
       both = set (set now lo x) hi y
@@ -70,7 +78,8 @@ module _ {A : Type 0} {f : ℕ → A} {d : A} {old : List A} where
           go false z =
               let m : lo ≤ k = ltb-false _ _ z in
               let here : k ≡ lo = omega arith in
-              getD-set-other (set now lo x) hi k y d (λ (o : k ≡ hi). omega arith) ∙ rw here (getD-set-same now lo x d inner ∙ e)
+              getD-set-other (set now lo x) hi k y d (λ (o : k ≡ hi). omega arith)
+              ∙ rw here (getD-set-same now lo x d inner ∙ e)
 
       high : (k : ℕ) → b ≤ k → k < j → getD both k d ≡ f k
       high k l m = go (ltb k hi) refl
@@ -88,7 +97,8 @@ module _ {A : Type 0} {f : ℕ → A} {d : A} {old : List A} where
       rest k l = off k (λ (o : k ≡ hi). omega arith) (λ (o : k ≡ lo). omega arith) ∙ w .rest k (omega arith)
 
   -- the first place reaches the second
-  pub joined : {lo b hi : ℕ} {now : List A} → Parts f d lo b hi old now → (lo ≡ b) × (b ≤ hi) × (hi ≤ length old) → Writing hi f old now
+  pub joined : {lo b hi : ℕ} {now : List A} → Parts f d lo b hi old now → (lo ≡ b) × (b ≤ hi) × (hi ≤ length old)
+      → Writing hi f old now
   joined {lo} {b} {hi} {now} w (e, h, l) =
       record { is = same-list d now (written hi f old) (w .long ∙ sym (length-written hi f old)) each; long = w .long }
     where

@@ -28,13 +28,16 @@ unfolding long carried mean windowSum recur sumFrom fromBar add sub mul div ofIn
 ema-case = refl
 
 -- alpha 0.5 gives 1, 1.5 and 2.75; alpha 2 ^ 1023 gives 1, an infinity and NaN
-exponential-case : map (λ (e : ℤ). written 3 (exponentialLine (fin false 1 e) (line short)) short) (negsuc 0 ∷ pos 1023 ∷ [])
-    ≡ (fin false 1 (pos 0) ∷ fin false 3 (negsuc 0) ∷ fin false 11 (negsuc 1) ∷ []) ∷ (fin false 1 (pos 0) ∷ inf false ∷ nan ∷ []) ∷ []
+exponential-case : map (λ (e : ℤ). written 3 (exponentialLine (fin false 1 e) (line short)) short)
+    (negsuc 0 ∷ pos 1023 ∷ [])
+    ≡ (fin false 1 (pos 0) ∷ fin false 3 (negsuc 0) ∷ fin false 11 (negsuc 1) ∷ [])
+    ∷ (fin false 1 (pos 0) ∷ inf false ∷ nan ∷ []) ∷ []
 unfolding short carried recur fromBar add sub mul round
 exponential-case = refl
 
 -- any finite alpha is taken, and no bars give the empty answer
-exponential-answers : exponentialAnswer short (fin true 1 (pos 1023)) 3 ∷ exponentialAnswer [] (fin false 1 (pos 0)) 0 ∷ exponentialAnswer short nan 3 ∷ []
+exponential-answers : exponentialAnswer short (fin true 1 (pos 1023)) 3 ∷ exponentialAnswer [] (fin false 1 (pos 0)) 0
+    ∷ exponentialAnswer short nan 3 ∷ []
     ≡ Cells 3 ∷ Cells 0 ∷ Refused ParameterNotFinite ∷ []
 unfolding short exponentialAnswer slices checked accepted finite lt eq le toBits
 exponential-answers = refl

@@ -18,8 +18,10 @@ exponentialLine alpha f = smoothLine alpha 0 (f 0) f
 
 -- refusals 1 to 5, then 6 for alpha; no bars give the empty answer
 unfoldable pub exponentialAnswer : List Float → Float → ℕ → Answer
-exponentialAnswer s alpha output = andThen (checked accepted (s ∷ []) (output ∷ []) []) (unless (finite alpha) ParameterNotFinite (Cells (length s)))
+exponentialAnswer s alpha output = andThen (checked accepted (s ∷ []) (output ∷ []) [])
+    (unless (finite alpha) ParameterNotFinite (Cells (length s)))
 
 -- what a call of `exponential_smoothing` promises
 abbrev pub ExponentialSmoothingCall : List Float → Float → List Float → Answer → List Float → Type 0
-ExponentialSmoothingCall s alpha out₀ = Call (exponentialAnswer s alpha (length out₀)) (exponentialLine alpha (line s)) out₀
+ExponentialSmoothingCall s alpha out₀ = Call (exponentialAnswer s alpha (length out₀))
+    (exponentialLine alpha (line s)) out₀

@@ -23,7 +23,8 @@ fn blended(alpha: f64, last: f64, x: f64) -> f64
     alpha * x + (1.0 - alpha) * last
 }
 
-// The cell half way through the bars after the seed, and the bits of all prices. A cell waits for the one before it, and the bits are gathered meanwhile.
+// The cell half way through the bars after the seed, and the bits of all prices. A cell waits for the one before it,
+// and the bits are gathered meanwhile.
 fn blend_half(series: &[f64], alpha: f64, first: usize, seed: Found) -> Found
     requires { ⌜ Seeded (now series) first (seed .together) ⌝ }
     ensures { λ r. ⌜ HalfWay (now (series .entry)) alpha first (seed .last) r ⌝ }
@@ -43,9 +44,11 @@ fn blend_half(series: &[f64], alpha: f64, first: usize, seed: Found) -> Found
     Found { together, last }
 }
 
-// Writes the blended cells after bar `first`, where the seed stands: both halves side by side, the second from the cell half way on.
+// Writes the blended cells after bar `first`, where the seed stands: both halves side by side, the second from the
+// cell half way on.
 fn blend_halves(series: &[f64], alpha: f64, first: usize, seed: f64, middle: f64, out: &mut [f64])
-    requires { ⌜ Smoothing (now series) alpha first seed (first + 1) (now out) × Middle (now series) alpha first seed middle ⌝ }
+    requires { ⌜ Smoothing (now series) alpha first seed (first + 1) (now out)
+        × Middle (now series) alpha first seed middle ⌝ }
     ensures { λ _. ⌜ Smooth (now (series .entry)) alpha first seed (now (out .entry)) (now (out .exit)) ⌝ }
 {
     let half = (series.len() - first - 1) / 2;
@@ -76,10 +79,12 @@ fn write_smooth(series: &[f64], alpha: f64, first: usize, seed: f64, middle: f64
     blend_halves(series, alpha, first, seed, middle, out);
 }
 
-// The answer of a smoothed line whose lengths are in order: it writes nothing before the bits of all prices are at hand.
+// The answer of a smoothed line whose lengths are in order: it writes nothing before the bits of all prices are at
+// hand.
 fn answer_smooth(series: &[f64], alpha: f64, first: usize, seed: Found, out: &mut [f64]) -> Answer
     requires { ⌜ Seeded (now series) first (seed .together) × (length (now series) ≤ length (now out)) ⌝ }
-    ensures { λ r. ⌜ Call (unless (all accepted (now (series .entry))) ValueNotAccepted (Cells (length (now (series .entry)))))
+    ensures { λ r. ⌜ Call (unless (all accepted (now (series .entry))) ValueNotAccepted
+        (Cells (length (now (series .entry)))))
         (smoothLine alpha first (seed .last) (line (now (series .entry)))) (now (out .entry)) r (now (out .exit)) ⌝ }
 {
     let half = blend_half(series, alpha, first, seed);

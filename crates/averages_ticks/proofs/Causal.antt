@@ -12,4 +12,5 @@ use Rattle.averages_ticks.specs.TickMean.{tickMeanLine, toTick}
 pub causal-tick-mean : (n : ℕ) → Causal (tickMeanLine n)
 unfolding tickMeanLine
 causal-tick-mean n =
-    causal-from (n - 1) (pos 0) (λ f g b s l. ap (λ (z : ℤ). toTick z n) (total-same _ _ (b + 1 - n) n (λ j m. ap (toSigned 63) (s (b + 1 - n + j) (omega arith)))))
+    causal-from (n - 1) (pos 0) (λ f g b s l. ap (λ (z : ℤ). toTick z n)
+    (total-same _ _ (b + 1 - n) n (λ j m. ap (toSigned 63) (s (b + 1 - n + j) (omega arith)))))

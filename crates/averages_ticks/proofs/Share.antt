@@ -1,4 +1,5 @@
--- Division by a product: a number times 2^38 / (2 * n), rounded up, over 2^38, is its whole part by 2 * n, or one too many. Assumes nothing.
+-- Division by a product: a number times 2^38 / (2 * n), rounded up, over 2^38, is its whole part by 2 * n, or one too
+-- many. Assumes nothing.
 use mathlib.Core.Path.{_≡_}
 use Prim.Native.Nat.{ℕ, _+_, _-_, _*_, _/_, _%_, _^_, _<_, _≤_}
 use native.Mathlib.Nat.{mod-lt, div-add-mod', mul-le-mul-left, mul-le-mul-right, lt-of-mul-lt-mul-right}

@@ -1,4 +1,5 @@
--- Sums of whole ticks, as the loops of `tick_mean` make them: one tick in, one out, and an i64 holds them. Assumes nothing.
+-- Sums of whole ticks, as the loops of `tick_mean` make them: one tick in, one out, and an i64 holds them. Assumes
+-- nothing.
 use mathlib.Core.Path.{_≡_, refl, sym, _∙_}
 use mathlib.Core.Bool.{true}
 use mathlib.Core.List.{List, [], _∷_}
@@ -71,7 +72,8 @@ module _ {s : List Float} where
   module _ (t : Ticks s) where
     -- the sum is small
     pub sum-small : {a k : ℕ} {z : ℤ} → TickSum s a k z → natAbs z ≤ k * 2 ^ 24
-    sum-small {a} {k} r = let size = total-size (λ j. toSigned 63 (line s j)) a k (2 ^ 24) (λ j l. near-at s (a + j) (t .each)) in rw (r .is) size
+    sum-small {a} {k} r = let size = total-size (λ j. toSigned 63 (line s j)) a k (2 ^ 24)
+        (λ j l. near-at s (a + j) (t .each)) in rw (r .is) size
 
     -- so an i64 holds it
     pub hold : {a k : ℕ} {z : ℤ} → TickSum s a k z → k ≤ 2 ^ 12 → HeldSum s a k z
@@ -95,18 +97,21 @@ module _ {s : List Float} where
         rw (same-at a, ← e) (hold (tick-out all) (omega arith))
 
 -- the cells before bar n - 1
-pub lead-cells : {s : List Float} {first : ℕ} {z : ℤ} {old now : List ℤ} (n : ℕ) → Summed s first z old now → first ≤ n - 1
+pub lead-cells : {s : List Float} {first : ℕ} {z : ℤ} {old now : List ℤ} (n : ℕ) → Summed s first z old now
+    → first ≤ n - 1
     → Writing first (tickMeanLine n (line s)) old now
 unfolding tickMeanLine
 lead-cells n r h = writing-same (r .lead) (λ i l. sym (before-bar (n - 1) (pos 0) _ i (omega arith)))
 
 -- the cell of bar i, from the sum of its window
-pub tick-cell : {s : List Float} {z : ℤ} (n i : ℕ) → TickSum s (i + 1 - n) n z → n ≤ i + 1 → toTick z n ≡ tickMeanLine n (line s) i
+pub tick-cell : {s : List Float} {z : ℤ} (n i : ℕ) → TickSum s (i + 1 - n) n z → n ≤ i + 1 → toTick z n
+    ≡ tickMeanLine n (line s) i
 unfolding tickMeanLine
 tick-cell n i r h = rw (r .is, from-bar (n - 1) (pos 0) _ i (omega arith))
 
 -- a call of whole ticks that was answered, where there are cells to be written
-pub tick-room : (s : List Float) (n out : ℕ) {r : Answer} → r ≡ answered tick s (n ∷ []) out [] → 0 < countOf r → TickRoom s n out
+pub tick-room : (s : List Float) (n out : ℕ) {r : Answer} → r ≡ answered tick s (n ∷ []) out [] → 0 < countOf r
+    → TickRoom s n out
 tick-room s n out e h =
     let facts = answered-room tick s (n ∷ []) out [] e h in
     record {

@@ -65,10 +65,12 @@ fn sum_lead(series: &[f64], first: usize, out: &mut [i64]) -> i64
     sum
 }
 
-// Writes the cells from bar n - 1 on. `lead` is the sum of the ticks before it; a turn adds the new tick, and takes the oldest one away.
+// Writes the cells from bar n - 1 on. `lead` is the sum of the ticks before it; a turn adds the new tick, and takes
+// the oldest one away.
 fn slide_ticks(series: &[f64], n: usize, lead: i64, out: &mut [i64])
     requires { ⌜ TickSliding (now series) n lead (now out) ⌝ }
-    ensures { λ _. ⌜ Writing (length (now (series .entry))) (tickMeanLine n (line (now (series .entry)))) (now (out .entry)) (now (out .exit)) ⌝ }
+    ensures { λ _. ⌜ Writing (length (now (series .entry))) (tickMeanLine n (line (now (series .entry))))
+        (now (out .entry)) (now (out .exit)) ⌝ }
 {
     let share = share_of(n);
     let mut rest = lead;
@@ -84,7 +86,8 @@ fn slide_ticks(series: &[f64], n: usize, lead: i64, out: &mut [i64])
 // Writes the cells of `tick_mean`.
 fn write_tick_means(series: &[f64], n: usize, out: &mut [i64])
     requires { ⌜ TickRoom (now series) n (length (now out)) ⌝ }
-    ensures { λ _. ⌜ Writing (length (now (series .entry))) (tickMeanLine n (line (now (series .entry)))) (now (out .entry)) (now (out .exit)) ⌝ }
+    ensures { λ _. ⌜ Writing (length (now (series .entry))) (tickMeanLine n (line (now (series .entry))))
+        (now (out .entry)) (now (out .exit)) ⌝ }
 {
     if series.len() < n {
         sum_lead(series, series.len(), out);

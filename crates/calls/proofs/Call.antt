@@ -36,7 +36,8 @@ all-counted {r = Cells k} whole e h = whole k (sym e) h
 all-counted {r = Refused q} whole e h = let none : 0 < 0 = h in absurd (omega arith)
 
 -- all cells
-pub all-called : {A : Type 0} {due r : Answer} {l : ℕ} {f : ℕ → A} {out₀ out₁ : List A} → AllBars due l → r ≡ due → 0 < countOf r
+pub all-called : {A : Type 0} {due r : Answer} {l : ℕ} {f : ℕ → A} {out₀ out₁ : List A} → AllBars due l → r ≡ due
+    → 0 < countOf r
     → Writing l f out₀ out₁ → Call due f out₀ r out₁
 all-called whole e h w = record { answer = e; cells = rw (all-counted whole e h) (w .is) }
 

@@ -1,4 +1,5 @@
--- The table of refusals in the forms that the checks meet it, and what is known of a call that it let pass. Assumes nothing.
+-- The table of refusals in the forms that the checks meet it, and what is known of a call that it let pass. Assumes
+-- nothing.
 use mathlib.Core.Path.{_≡_, refl, sym, _∙_}
 use mathlib.Core.Bool.{Bool, true, false, _&&_, _||_, true≢false}
 use mathlib.Core.List.{List, [], _∷_}
@@ -70,7 +71,8 @@ unfolding slices
 slices-work series outputs work =
     let l = first series in
     rw (and-true (leb (8 * l) work))
-    (parted (all (λ k. leb k longestSeries) series) (all (λ k. eqb k l) series) (all (λ room. leb l room) outputs) l (unless (leb (8 * l) work) WorkTooShort (Cells l)))
+    (parted (all (λ k. leb k longestSeries) series) (all (λ k. eqb k l) series) (all (λ room. leb l room) outputs) l
+    (unless (leb (8 * l) work) WorkTooShort (Cells l)))
 
 pub checked-one : (ok : Float → Bool) (s : List Float) (outputs work : List ℕ)
     → checked ok (s ∷ []) outputs work
@@ -91,7 +93,8 @@ pub record Room (ok : Float → Bool) (s : List Float) (out : ℕ) (work : List 
   pub work-long : AtLeast (8 * length s) work
   pub values : all ok s ≡ true
 
-pub unless-cells : (t : Bool) (q : Refusal) (next : Answer) (k : ℕ) → unless t q next ≡ Cells k → (t ≡ true) × (next ≡ Cells k)
+pub unless-cells : (t : Bool) (q : Refusal) (next : Answer) (k : ℕ) → unless t q next ≡ Cells k → (t ≡ true)
+    × (next ≡ Cells k)
 unless-cells true q next k e = (refl, e)
 unless-cells false q next k e = let z : _≡_ {A = ℕ} 0 1 = cc in absurd (omega arith)
 
@@ -99,7 +102,8 @@ pub andThen-cells : (a next : Answer) (k : ℕ) → andThen a next ≡ Cells k �
 andThen-cells (Cells j) next k e = (refl, e)
 andThen-cells (Refused q) next k e = let z : _≡_ {A = ℕ} 0 1 = cc in absurd (omega arith)
 
-pub emptyIf-cells : (t : Bool) (next : Answer) (k : ℕ) → emptyIf t next ≡ Cells k → 0 < k → (t ≡ false) × (next ≡ Cells k)
+pub emptyIf-cells : (t : Bool) (next : Answer) (k : ℕ) → emptyIf t next ≡ Cells k → 0 < k → (t ≡ false)
+    × (next ≡ Cells k)
 emptyIf-cells false next k e h = (refl, e)
 emptyIf-cells true next k e h = let z : 0 ≡ k = cc in absurd (omega arith)
 
@@ -123,7 +127,8 @@ at-least k (room ∷ rooms) e =
     let parts = and-parts (leb k room) (all (λ room. leb k room) rooms) e in
     (leb-true k room (parts .0), at-least k rooms (parts .1))
 
-pub checked-room : (ok : Float → Bool) (s : List Float) (out : ℕ) (work : List ℕ) (k : ℕ) → checked ok (s ∷ []) (out ∷ []) work ≡ Cells k
+pub checked-room : (ok : Float → Bool) (s : List Float) (out : ℕ) (work : List ℕ) (k : ℕ)
+    → checked ok (s ∷ []) (out ∷ []) work ≡ Cells k
     → Room ok s out work
 checked-room ok s out work k e =
     let a = andThen-cells _ _ k (sym (checked-one ok s (out ∷ []) work) ∙ e) in
@@ -161,7 +166,8 @@ pub record Asked (l : ℕ) (numbers : List Float) (windows periods : List ℕ) (
   pub rest : next ≡ Cells k
 
 pub asked : (l : ℕ) (numbers : List Float) (windows periods : List ℕ) (next : Answer) (k : ℕ)
-    → limited numbers windows periods (unlessEmpty l windows periods next) ≡ Cells k → 0 < k → Asked l numbers windows periods next k
+    → limited numbers windows periods (unlessEmpty l windows periods next) ≡ Cells k → 0 < k
+    → Asked l numbers windows periods next k
 asked l numbers windows periods next k e h =
     let a = unless-cells (all finite numbers) _ _ k e in
     let b = unless-cells (all (λ n. leb n longestPeriod) periods) _ _ k (a .1) in
@@ -180,7 +186,8 @@ asked l numbers windows periods next k e h =
 
 -- ---- a call of one series with windows
 
-module _ (ok : Float → Bool) (s : List Float) (windows : List ℕ) (out : ℕ) (work : List ℕ) (k : ℕ) (e : answered ok s windows out work ≡ Cells k) where
+module _ (ok : Float → Bool) (s : List Float) (windows : List ℕ) (out : ℕ) (work : List ℕ) (k : ℕ)
+    (e : answered ok s windows out work ≡ Cells k) where
   -- it has room for its cells
   pub room : Room ok s out work
   unfolding answered
@@ -189,10 +196,12 @@ module _ (ok : Float → Bool) (s : List Float) (windows : List ℕ) (out : ℕ)
   -- and where there are cells to be written, windows
   pub opened : 0 < k → Asked (length s) [] windows [] (Cells (length s)) k
   unfolding answered windowed
-  opened h = asked (length s) [] windows [] (Cells (length s)) k (andThen-cells (checked ok (s ∷ []) (out ∷ []) work) _ k e .1) h
+  opened h = asked (length s) [] windows [] (Cells (length s)) k
+      (andThen-cells (checked ok (s ∷ []) (out ∷ []) work) _ k e .1) h
 
 -- it has a cell for each bar
-pub all-bars : (ok : Float → Bool) (s : List Float) (windows : List ℕ) (out : ℕ) (work : List ℕ) → AllBars (answered ok s windows out work) (length s)
+pub all-bars : (ok : Float → Bool) (s : List Float) (windows : List ℕ) (out : ℕ) (work : List ℕ)
+    → AllBars (answered ok s windows out work) (length s)
 all-bars ok s windows out work k e h = sym (same-count _ _ (opened ok s windows out work k e h .rest))
 
 -- what is known where an answer has cells
@@ -222,13 +231,16 @@ fits-parts bars n out e =
     }
 
 -- where it does not fit though all else is in order, the bars end before the window does
-pub none-fits : (bars n out : ℕ) → windowFits bars n out ≡ false → Window n → bars ≤ longestSeries → bars ≤ out → bars < n
+pub none-fits : (bars n out : ℕ) → windowFits bars n out ≡ false → Window n → bars ≤ longestSeries → bars ≤ out
+    → bars < n
 unfolding windowFits
 none-fits bars n out e w r s = go (leb n bars) refl
   where
     go : (t : Bool) → leb n bars ≡ t → bars < n
     go false f = leb-false _ _ f
-    go true f = absurd (true≢false (sym (rw (lt-ltb 0 n (w .some), le-leb n longestWindow (w .narrow), f, le-leb bars longestSeries r, le-leb bars out s)) ∙ e))
+    go true f = absurd (true≢false (sym (rw
+        (lt-ltb 0 n (w .some), le-leb n longestWindow (w .narrow), f, le-leb bars longestSeries r, le-leb bars out s))
+        ∙ e))
 
 -- a count that is answered twice
 pub counted-twice : (t : Bool) (q : Refusal) (k : ℕ) → andThen (unless t q (Cells k)) (Cells k) ≡ unless t q (Cells k)

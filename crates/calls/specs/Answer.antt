@@ -71,7 +71,8 @@ abbrev pub first : List ℕ → ℕ
 first [] = 0
 first (l ∷ rest) = l
 
--- Refusals 1 to 4, of lengths: those of the series, of the outputs, and of the work slice, where there is one. The count is L.
+-- Refusals 1 to 4, of lengths: those of the series, of the outputs, and of the work slice, where there is one. The
+-- count is L.
 unfoldable pub slices : List ℕ → List ℕ → List ℕ → Answer
 slices series outputs work =
     unless (all (λ l. leb l longestSeries) series) SeriesTooLong
@@ -92,7 +93,8 @@ abbrev pub anyZero : List ℕ → Bool
 anyZero [] = false
 anyZero (n ∷ ns) = eqb n 0 || anyZero ns
 
--- Refusals 6 and 7, of the parameters: f64 parameters that are finite, and windows and smoother periods that are not too long.
+-- Refusals 6 and 7, of the parameters: f64 parameters that are finite, and windows and smoother periods that are not
+-- too long.
 abbrev pub limited : List Float → List ℕ → List ℕ → Answer → Answer
 limited numbers windows periods next =
     unless (all finite numbers) ParameterNotFinite

@@ -1,4 +1,5 @@
-// The library as C functions: each calls the library's own and turns its answer into numbers. include/tegbalowu.h declares them.
+// The library as C functions: each calls the library's own and turns its answer into numbers. include/tegbalowu.h
+// declares them.
 use calls::Answer;
 ghost use Rattle.averages.specs.Sma.{SmaCall};
 ghost use Rattle.averages_exponential.specs.Ema.{EmaCall};
@@ -47,7 +48,8 @@ pub extern "C" fn tegbalowu_exponential_smoothing(
     alpha: f64,
     out: &mut [f64],
 ) -> CAnswer
-    ensures { λ r. ⌜ InNumbers (λ a. ExponentialSmoothingCall (now (series .entry)) alpha (now (out .entry)) a (now (out .exit))) r ⌝ }
+    ensures { λ r. ⌜ InNumbers (λ a. ExponentialSmoothingCall (now (series .entry)) alpha (now (out .entry)) a
+        (now (out .exit))) r ⌝ }
 {
     numbers(averages_exponential::exponential_smoothing(series, alpha, out))
 }
@@ -65,7 +67,8 @@ pub extern "C" fn tegbalowu_ultimate_smoother(
     period: f64,
     out: &mut [f64],
 ) -> CAnswer
-    ensures { λ r. ⌜ InNumbers (λ a. UltimateSmootherCall (now (price .entry)) period (now (out .entry)) a (now (out .exit))) r ⌝ }
+    ensures { λ r. ⌜ InNumbers (λ a. UltimateSmootherCall (now (price .entry)) period (now (out .entry)) a
+        (now (out .exit))) r ⌝ }
 {
     numbers(smoother::ultimate_smoother(price, period, out))
 }
@@ -77,7 +80,8 @@ pub extern "C" fn tegbalowu_true_range(
     close_prev: &[f64],
     out: &mut [f64],
 ) -> CAnswer
-    ensures { λ r. ⌜ InNumbers (λ a. TrueRangeCall (now (high .entry)) (now (low .entry)) (now («close_prev» .entry)) (now (out .entry)) a (now (out .exit))) r ⌝ }
+    ensures { λ r. ⌜ InNumbers (λ a. TrueRangeCall (now (high .entry)) (now (low .entry)) (now («close_prev» .entry))
+        (now (out .entry)) a (now (out .exit))) r ⌝ }
 {
     numbers(true_range::true_range(high, low, close_prev, out))
 }
@@ -89,7 +93,8 @@ pub extern "C" fn tegbalowu_single_sma_positions(
     out: &mut [f64],
     work: &mut [f64],
 ) -> CAnswer
-    ensures { λ r. ⌜ InNumbers (λ a. SingleCall (now (series .entry)) n (now (out .entry)) (now (work .entry)) a (now (out .exit)) (now (work .exit))) r ⌝ }
+    ensures { λ r. ⌜ InNumbers (λ a. SingleCall (now (series .entry)) n (now (out .entry)) (now (work .entry)) a
+        (now (out .exit)) (now (work .exit))) r ⌝ }
 {
     numbers(rules::single_sma_positions(series, n, out, work))
 }
@@ -113,7 +118,8 @@ pub extern "C" fn tegbalowu_mid_positions(
     out: &mut [f64],
     work: &mut [f64],
 ) -> CAnswer
-    ensures { λ r. ⌜ InNumbers (λ a. MidCall (now (series .entry)) n (now (out .entry)) (now (work .entry)) a (now (out .exit)) (now (work .exit))) r ⌝ }
+    ensures { λ r. ⌜ InNumbers (λ a. MidCall (now (series .entry)) n (now (out .entry)) (now (work .entry)) a
+        (now (out .exit)) (now (work .exit))) r ⌝ }
 {
     numbers(rules::mid_positions(series, n, out, work))
 }

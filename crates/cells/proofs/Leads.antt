@@ -13,7 +13,8 @@ use Rattle.cells.proofs.Line.{before-bar}
 
 module _ {A : Type 0} where
   -- those are the first cells of any line that begins at bar b
-  pub lead-stands : {b bars r : ℕ} {d : A} {old now : List A} (f : ℕ → A) → Led b bars d r old now → Writing r (fromBar b d f) now now
+  pub lead-stands : {b bars r : ℕ} {d : A} {old now : List A} (f : ℕ → A) → Led b bars d r old now
+      → Writing r (fromBar b d f) now now
   lead-stands {b} {d = d} f w = stands (writing-same (w .lead) (λ i l. sym (before-bar b d f i (omega arith))))
 
 module _ {A : Type 0} {b bars r : ℕ} {d : A} {old mid : List A} (w : Led b bars d r old mid) where
@@ -35,6 +36,7 @@ pub not-yet : {k : ℕ} {f : Line} {old now : List Float} (i : ℕ) → Writing 
 not-yet {k} {f} {old} i w h = rw (w .is) (getD-untouched k f old i nan h)
 
 -- a cell that the lead and the loop have not reached still holds what stood there
-pub still : {r k l : ℕ} {f g h : Line} {old mid now : List Float} (i : ℕ) → Writing l g old old → Writing r h old mid → Writing k f mid now
+pub still : {r k l : ℕ} {f g h : Line} {old mid now : List Float} (i : ℕ) → Writing l g old old → Writing r h old mid
+    → Writing k f mid now
     → (r ≤ i) × (k ≤ i) × (i < l) × (i < length old) → line now i ≡ g i
 still i stood lead w (a, b, c, d) = not-yet i w b ∙ not-yet i lead a ∙ read-back i nan stood (c, d)

@@ -1,5 +1,6 @@
--- Lines. A line has a cell for every bar, counted from 0: a series is one, and so is what a call computes of it.
--- An operator on lines is causal if no cell needs anything after its own bar; what is built of causal operators is causal. Assumes nothing.
+-- Lines. A line has a cell for every bar, counted from 0: a series is one, and so is what a call computes of it. An
+-- operator on lines is causal if no cell needs anything after its own bar; what is built of causal operators is
+-- causal. Assumes nothing.
 use mathlib.Core.Path.{_≡_, refl}
 use mathlib.Core.Bool.{Bool, true, false, cond}
 use Prim.Native.Nat.{ℕ, _<_, _≤_}
@@ -19,7 +20,8 @@ module _ {A : Type 0} where
   from-bar b d f i h = simp (le-leb b i h)
 
 -- equal bars up to bar b give equal cells up to bar b
-pub causal-same : {A B : Type 0} {F : (ℕ → A) → ℕ → B} → Causal F → (f g : ℕ → A) (b : ℕ) → Same f g b → Same (F f) (F g) b
+pub causal-same : {A B : Type 0} {F : (ℕ → A) → ℕ → B} → Causal F → (f g : ℕ → A) (b : ℕ) → Same f g b
+    → Same (F f) (F g) b
 causal-same p f g b s j l = p f g j (λ i m. s i (omega arith))
 
 -- the line as it is
@@ -27,7 +29,8 @@ pub causal-self : {A : Type 0} → Causal {A = A} (λ f. f)
 causal-self f g b s = s b (le-refl b)
 
 -- one operator after another
-pub causal-then : {A B C : Type 0} {F : (ℕ → A) → ℕ → B} {G : (ℕ → B) → ℕ → C} → Causal F → Causal G → Causal (λ f. G (F f))
+pub causal-then : {A B C : Type 0} {F : (ℕ → A) → ℕ → B} {G : (ℕ → B) → ℕ → C} → Causal F → Causal G
+    → Causal (λ f. G (F f))
 causal-then {F = F} p q f g b s = q (F f) (F g) b (causal-same p f g b s)
 
 -- two operators joined cell by cell

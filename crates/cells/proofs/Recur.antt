@@ -1,4 +1,5 @@
--- Recurrences: a value and what each step makes of it, as a running sum or a moving average that carries its last cell. Assumes nothing.
+-- Recurrences: a value and what each step makes of it, as a running sum or a moving average that carries its last
+-- cell. Assumes nothing.
 use mathlib.Core.Path.{_≡_}
 use Prim.Native.Nat.{ℕ, zero, suc, _+_, _<_}
 use native.Mathlib.Numerals.{add-one}
@@ -17,7 +18,8 @@ module _ {A : Type 0} where
     one-step p e = record { is = rw (e, p .is, add-one) }
 
   -- recurrences that agree in the start and in k steps
-  pub recur-same : (a b : A) (s t : ℕ → A → A) (k : ℕ) → a ≡ b → ((j : ℕ) (x : A) → j < k → s j x ≡ t j x) → recur a s k ≡ recur b t k
+  pub recur-same : (a b : A) (s t : ℕ → A → A) (k : ℕ) → a ≡ b → ((j : ℕ) (x : A) → j < k → s j x ≡ t j x)
+      → recur a s k ≡ recur b t k
   unfolding recur
   recur-same a b s t zero e h = e
   recur-same a b s t (suc k) e h = rw (recur-same a b s t k e (λ j x l. h j x (omega arith)), h k _ (omega arith))

@@ -1,4 +1,5 @@
--- Two lines in one slice, one after the other: how a `Writing` goes on in a part `&mut s[a..]` that was lent. Assumes nothing.
+-- Two lines in one slice, one after the other: how a `Writing` goes on in a part `&mut s[a..]` that was lent. Assumes
+-- nothing.
 use mathlib.Core.Path.{_≡_, refl, ap, _∙_}
 use mathlib.Core.List.{List, [], _∷_, _++_, append-nil}
 use Prim.Native.Nat.{ℕ, zero, suc, _+_, _-_, _<_, _≤_}
@@ -27,7 +28,8 @@ module _ {A : Type 0} where
   unfolding beside
   rows zero k g f old h = rw zero-add
   rows (suc a) k g f [] h = absurd (not-suc-le-zero h)
-  rows (suc a) k g f (x ∷ old) h = rw suc-add (ap (λ (t : List A). g 0 ∷ t) (rows a k (λ i. g (suc i)) f old (le-of-suc-le-suc h)))
+  rows (suc a) k g f (x ∷ old) h = rw suc-add
+      (ap (λ (t : List A). g 0 ∷ t) (rows a k (λ i. g (suc i)) f old (le-of-suc-le-suc h)))
 
   pub drop-written : (a : ℕ) (g : ℕ → A) (old : List A) → drop a (written a g old) ≡ drop a old
   drop-written zero g old = refl
@@ -41,7 +43,8 @@ module _ {A : Type 0} where
   lent-on {a} {k} {g} {f} {old} {mid} {part} v w h =
       let all : length (drop a mid) ≤ length mid - a = rw length-drop (omega arith) in
       let rest : drop (length mid - a) (drop a mid) ≡ [] = drop-of-length-le (drop a mid) all in
-      let part-is : part ≡ written k f (drop a old) = w .is ∙ rw (take-all (length mid - a) (drop a mid) all, v .is, drop-written a g old) in
+      let part-is : part ≡ written k f (drop a old) = w .is
+      ∙ rw (take-all (length mid - a) (drop a mid) all, v .is, drop-written a g old) in
       let whole : take a mid ++ (part ++ drop (length mid - a) (drop a mid)) ≡ written (a + k) (beside a g f) old =
       rw (rest, append-nil, part-is, v .is) (rows a k g f old (rw (← v .long) h)) in
       record { is = whole; long = ap length whole ∙ length-written (a + k) (beside a g f) old }

@@ -32,13 +32,17 @@ module _ {A : Type 0} where
   pub touched-more : {j k : ℕ} {old now : List A} → Touched j old now → j ≤ k → Touched k old now
   touched-more {j} {k} {old} {now} p h = record { rest = drop-more j k now old h (p .long) (p .rest); long = p .long }
 
-  over-rest : (k : ℕ) (f : ℕ → A) (s t : List A) → length s ≡ length t → drop k s ≡ drop k t → written k f s ≡ written k f t
+  over-rest : (k : ℕ) (f : ℕ → A) (s t : List A) → length s ≡ length t → drop k s ≡ drop k t → written k f s
+      ≡ written k f t
   over-rest zero f s t l e = e
   over-rest (suc k) f [] [] l e = refl
   over-rest (suc k) f [] (y ∷ t) l e = let z : 0 ≡ suc (length t) = l in absurd (omega arith)
   over-rest (suc k) f (x ∷ s) [] l e = let z : suc (length s) ≡ 0 = l in absurd (omega arith)
-  over-rest (suc k) f (x ∷ s) (y ∷ t) l e = ap (λ (u : List A). f 0 ∷ u) (over-rest k (λ i. f (suc i)) s t (let m : suc (length s) ≡ suc (length t) = l in omega arith) e)
+  over-rest (suc k) f (x ∷ s) (y ∷ t) l e = ap (λ (u : List A). f 0 ∷ u)
+      (over-rest k (λ i. f (suc i)) s t (let m : suc (length s) ≡ suc (length t) = l in omega arith) e)
 
   -- writing all of the cells that were used leaves nothing of that use
-  pub written-over-all : {k : ℕ} {f : ℕ → A} {old mid now : List A} → Touched k old mid → Writing k f mid now → Writing k f old now
-  written-over-all {k} {f} {old} {mid} p w = record { is = w .is ∙ over-rest k f mid old (p .long) (p .rest); long = w .long ∙ p .long }
+  pub written-over-all : {k : ℕ} {f : ℕ → A} {old mid now : List A} → Touched k old mid → Writing k f mid now
+      → Writing k f old now
+  written-over-all {k} {f} {old} {mid} p w =
+      record { is = w .is ∙ over-rest k f mid old (p .long) (p .rest); long = w .long ∙ p .long }

@@ -20,16 +20,20 @@ module _ {A : Type 0} where
   set-suc (suc k) f (x ∷ old) h = ap (λ (t : List A). f 0 ∷ t) (set-suc k (λ i. f (suc i)) old (le-of-suc-le-suc h))
 
   -- one more store, as a loop that counts up makes it
-  pub set-written : (k : ℕ) (f : ℕ → A) (old : List A) → k < length old → set (written k f old) k (f k) ≡ written (k + 1) f old
+  pub set-written : (k : ℕ) (f : ℕ → A) (old : List A) → k < length old → set (written k f old) k (f k)
+      ≡ written (k + 1) f old
   set-written k f old h = rw add-one (set-suc k f old h)
 
-  pub getD-written : (k : ℕ) (f : ℕ → A) (old : List A) (i : ℕ) (d : A) → i < k → i < length old → getD (written k f old) i d ≡ f i
+  pub getD-written : (k : ℕ) (f : ℕ → A) (old : List A) (i : ℕ) (d : A) → i < k → i < length old
+      → getD (written k f old) i d ≡ f i
   getD-written zero f old i d h l = absurd (not-suc-le-zero h)
   getD-written (suc k) f [] i d h l = absurd (not-suc-le-zero l)
   getD-written (suc k) f (x ∷ old) zero d h l = refl
-  getD-written (suc k) f (x ∷ old) (suc i) d h l = getD-written k (λ j. f (suc j)) old i d (le-of-suc-le-suc h) (le-of-suc-le-suc l)
+  getD-written (suc k) f (x ∷ old) (suc i) d h l = getD-written k (λ j. f (suc j)) old i d (le-of-suc-le-suc h)
+      (le-of-suc-le-suc l)
 
-  pub getD-untouched : (k : ℕ) (f : ℕ → A) (old : List A) (i : ℕ) (d : A) → k ≤ i → getD (written k f old) i d ≡ getD old i d
+  pub getD-untouched : (k : ℕ) (f : ℕ → A) (old : List A) (i : ℕ) (d : A) → k ≤ i → getD (written k f old) i d
+      ≡ getD old i d
   getD-untouched zero f old i d h = refl
   getD-untouched (suc k) f [] i d h = refl
   getD-untouched (suc k) f (x ∷ old) zero d h = absurd (not-suc-le-zero h)
@@ -44,12 +48,14 @@ module _ {A : Type 0} where
       ap (λ (t : List A). g 0 ∷ t) (written-over j k (λ i. f (suc i)) (λ i. g (suc i)) old (le-of-suc-le-suc h))
 
   -- lines that agree below k write the same
-  pub written-same : (k : ℕ) (f g : ℕ → A) (old : List A) → ((i : ℕ) → i < k → f i ≡ g i) → written k f old ≡ written k g old
+  pub written-same : (k : ℕ) (f g : ℕ → A) (old : List A) → ((i : ℕ) → i < k → f i ≡ g i) → written k f old
+      ≡ written k g old
   written-same zero f g old h = refl
   written-same (suc k) f g [] h = refl
   written-same (suc k) f g (x ∷ old) h =
       rw (h 0 (suc-le-suc zero-le))
-      (ap (λ (t : List A). g 0 ∷ t) (written-same k (λ i. f (suc i)) (λ i. g (suc i)) old (λ i l. h (suc i) (suc-le-suc l))))
+      (ap (λ (t : List A). g 0 ∷ t) (written-same k (λ i. f (suc i)) (λ i. g (suc i)) old
+      (λ i l. h (suc i) (suc-le-suc l))))
 
 module _ {A : Type 0} {f : ℕ → A} {old : List A} where
   -- nothing is written yet
@@ -58,10 +64,12 @@ module _ {A : Type 0} {f : ℕ → A} {old : List A} where
 
   pub step : {k : ℕ} {now : List A} {x : A} (i k′ : ℕ) → Writing k f old now → x ≡ f i
       → (k ≡ i) × (i + 1 ≡ k′) × (i < length old) → Writing k′ f old (set now i x)
-  step {now = now} {x} i k′ w e (p, q, h) = record { is = rw (w .is, e, p, ← q) (set-written i f old h); long = length-set now i x ∙ w .long }
+  step {now = now} {x} i k′ w e (p, q, h) =
+      record { is = rw (w .is, e, p, ← q) (set-written i f old h); long = length-set now i x ∙ w .long }
 
   -- one more store, of the cell that f asks
-  pub one-more : {k : ℕ} {now : List A} {x : A} → Writing k f old now → x ≡ f k → k < length old → Writing (k + 1) f old (set now k x)
+  pub one-more : {k : ℕ} {now : List A} {x : A} → Writing k f old now → x ≡ f k → k < length old
+      → Writing (k + 1) f old (set now k x)
   one-more {k} w e h = step k (k + 1) w e (omega arith)
 
   -- four more, side by side
@@ -75,7 +83,8 @@ module _ {A : Type 0} {f : ℕ → A} {old : List A} where
       (omega arith)
 
   -- a cell that is written, read again
-  pub read-back : {k : ℕ} {now : List A} (i : ℕ) (d : A) → Writing k f old now → (i < k) × (i < length old) → getD now i d ≡ f i
+  pub read-back : {k : ℕ} {now : List A} (i : ℕ) (d : A) → Writing k f old now → (i < k) × (i < length old)
+      → getD now i d ≡ f i
   read-back {k} i d w (h, l) = rw (w .is) (getD-written k f old i d h l)
 
   -- the loop is over, and its count is n
@@ -94,4 +103,5 @@ writing-same {k = k} {f} {g} {old} w h = record { is = w .is ∙ written-same k 
 -- a writing of as many cells or more, on top of another
 pub then-written : {A : Type 0} {j k : ℕ} {f g : ℕ → A} {old mid now : List A}
     → Writing j f old mid → Writing k g mid now → j ≤ k → Writing k g old now
-then-written {j = j} {k} {f} {g} {old} v w h = record { is = w .is ∙ rw (v .is) (written-over j k f g old h); long = w .long ∙ v .long }
+then-written {j = j} {k} {f} {g} {old} v w h =
+    record { is = w .is ∙ rw (v .is) (written-over j k f g old h); long = w .long ∙ v .long }

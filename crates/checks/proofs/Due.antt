@@ -61,19 +61,22 @@ module _ {due : Answer} {l : ℕ} {work₀ work₁ : List Float} where
 
 -- ---- a call of one output
 
-module _ {A : Type 0} {due r : Answer} {l : ℕ} {f : ℕ → A} {out₀ : List A} {work₀ work₁ : List Float} (e : r ≡ due) where
-  -- all cells are written, and the work slice is cleared
-  pub written-call : {j : ℕ} {out₁ : List A} {mid now : List Float} → AllBars due l → CellsDue r l true work₀ work₁ → Writing l f out₀ out₁ × Touched j work₁ mid
-      → j ≤ 8 * l → Writing (8 * l) (λ i. plusZero) mid now → WorkCall due f out₀ l work₀ r out₁ now
-  written-call whole d (o, t) h w = record { call = all-called whole e (some-due d) o; work = cleared d t h w }
+module _ {A : Type 0} {due r : Answer} {l : ℕ} {f : ℕ → A} {out₀ : List A} {work₀ work₁ : List Float} (e : r ≡ due)
+  where
+    -- all cells are written, and the work slice is cleared
+    pub written-call : {j : ℕ} {out₁ : List A} {mid now : List Float} → AllBars due l → CellsDue r l true work₀ work₁
+        → Writing l f out₀ out₁ × Touched j work₁ mid
+        → j ≤ 8 * l → Writing (8 * l) (λ i. plusZero) mid now → WorkCall due f out₀ l work₀ r out₁ now
+    written-call whole d (o, t) h w = record { call = all-called whole e (some-due d) o; work = cleared d t h w }
 
-  -- no cells
-  pub empty-call : CellsDue r l false work₀ work₁ → WorkCall due f out₀ l work₀ r out₀ work₁
-  empty-call d = record { call = none-called e (none-due d .0); work = none-due d .1 }
+    -- no cells
+    pub empty-call : CellsDue r l false work₀ work₁ → WorkCall due f out₀ l work₀ r out₀ work₁
+    empty-call d = record { call = none-called e (none-due d .0); work = none-due d .1 }
 
 -- ---- a call with one series, windows and a work slice
 
-module _ (s : List Float) (windows : List ℕ) (out work : ℕ) {r : Answer} (e : r ≡ answered accepted s windows out (work ∷ [])) where
+module _ (s : List Float) (windows : List ℕ) (out work : ℕ) {r : Answer}
+    (e : r ≡ answered accepted s windows out (work ∷ [])) where
   -- its work slice has room to be cleared
   pub clearable : clearedOf r (8 * length s) ≤ work
   clearable = go r refl
@@ -98,7 +101,8 @@ priced s n rest out {work₀ = work₀} e d y =
     }
 
 -- a stage that uses fewer rows
-pub fewer-rows : {rows more n : ℕ} {s : List Float} {out work : ℕ} → Priced more n s out work → rows ≤ more → Priced rows n s out work
+pub fewer-rows : {rows more n : ℕ} {s : List Float} {out work : ℕ} → Priced more n s out work → rows ≤ more
+    → Priced rows n s out work
 fewer-rows {s = s} p h =
     let long = p .work-long in
     record {

@@ -1,4 +1,5 @@
--- The table of refusals for three series or three outputs, and what is known of three series that it let pass. Assumes nothing.
+-- The table of refusals for three series or three outputs, and what is known of three series that it let pass.
+-- Assumes nothing.
 use mathlib.Core.Path.{_≡_, refl, sym, _∙_}
 use mathlib.Core.Bool.{Bool, true, false, _&&_}
 use mathlib.Core.List.{List, [], _∷_, map}
@@ -34,7 +35,8 @@ unless-and false u q next = refl
 -- three series: each length, then each of the later two against the first
 pub slices-three : (a b c out : ℕ) (work : List ℕ)
     → slices (a ∷ b ∷ c ∷ []) (out ∷ []) work
-    ≡ unless (leb a longestSeries) SeriesTooLong (unless (leb b longestSeries) SeriesTooLong (unless (leb c longestSeries) SeriesTooLong
+    ≡ unless (leb a longestSeries) SeriesTooLong
+    (unless (leb b longestSeries) SeriesTooLong (unless (leb c longestSeries) SeriesTooLong
     (unless (eqb b a) LengthsDiffer (unless (eqb c a) LengthsDiffer
     (unless (leb a out) OutputTooShort (unless (all (λ room. leb (8 * a) room) work) WorkTooShort (Cells a)))))))
 unfolding slices
@@ -67,7 +69,8 @@ three-outputs ok series a b c work =
 
 in-turn : (a : Answer) (p q r : Bool) (k l m : ℕ)
     → andThen a (unless (p && (q && r)) ValueNotAccepted (Cells k))
-    ≡ andThen (andThen (andThen a (unless r ValueNotAccepted (Cells m))) (unless q ValueNotAccepted (Cells l))) (unless p ValueNotAccepted (Cells k))
+    ≡ andThen (andThen (andThen a (unless r ValueNotAccepted (Cells m))) (unless q ValueNotAccepted (Cells l)))
+    (unless p ValueNotAccepted (Cells k))
 in-turn (Refused x) p q r k l m = refl
 in-turn (Cells j) true true true k l m = refl
 in-turn (Cells j) true true false k l m = refl
@@ -101,7 +104,8 @@ checked-three-room ok s t u out work k e =
     let one = andThen-cells later _ k (sym (checked-three ok s t u (out ∷ []) work) ∙ e) in
     let two = andThen-cells last _ _ (one .0) in
     let three = andThen-cells lengths _ _ (two .0) in
-    let a = unless-cells (leb (length s) longestSeries) _ _ _ (sym (slices-three (length s) (length t) (length u) out work) ∙ three .0) in
+    let a = unless-cells (leb (length s) longestSeries) _ _ _
+    (sym (slices-three (length s) (length t) (length u) out work) ∙ three .0) in
     let b = unless-cells (leb (length t) longestSeries) _ _ _ (a .1) in
     let c = unless-cells (leb (length u) longestSeries) _ _ _ (b .1) in
     let second = unless-cells (eqb (length t) (length s)) _ _ _ (c .1) in

@@ -1,4 +1,5 @@
-// The checks of a call: the refusals in document 01's order, for one series or three, one output or three, with a work slice or without.
+// The checks of a call: the refusals in document 01's order, for one series or three, one output or three, with a
+// work slice or without.
 use calls::Answer;
 use calls::Refusal;
 use limits::LONGEST_SERIES;
@@ -51,7 +52,8 @@ pub fn and_then(due: Answer, next: Answer) -> Answer
 
 // The refusal of a value that is not accepted, unless there was one before; the values are looked at only then.
 pub fn check_values(due: Answer, series: &[f64]) -> Answer
-    ensures { λ r. ⌜ r ≡ andThen due (unless (all accepted (now (series .entry))) ValueNotAccepted (Cells (length (now (series .entry))))) ⌝ }
+    ensures { λ r. ⌜ r ≡ andThen due (unless (all accepted (now (series .entry))) ValueNotAccepted
+        (Cells (length (now (series .entry))))) ⌝ }
 {
     if let Answer::Refused(_) = due {
         return due;
@@ -65,7 +67,8 @@ pub fn check_values(due: Answer, series: &[f64]) -> Answer
 
 // The same for whole ticks.
 fn check_tick_values(due: Answer, series: &[f64]) -> Answer
-    ensures { λ r. ⌜ r ≡ andThen due (unless (all tick (now (series .entry))) ValueNotAccepted (Cells (length (now (series .entry))))) ⌝ }
+    ensures { λ r. ⌜ r ≡ andThen due (unless (all tick (now (series .entry))) ValueNotAccepted
+        (Cells (length (now (series .entry))))) ⌝ }
 {
     if let Answer::Refused(_) = due {
         return due;
@@ -77,7 +80,8 @@ fn check_tick_values(due: Answer, series: &[f64]) -> Answer
     }
 }
 
-// The first refusal of a call with one series, its output and no work slice, before its parameters; else the series' length.
+// The first refusal of a call with one series, its output and no work slice, before its parameters; else the series'
+// length.
 pub fn check(series: &[f64], out: usize) -> Answer
     ensures { λ r. ⌜ r ≡ checked accepted (now (series .entry) ∷ []) (out ∷ []) [] ⌝ }
 {
@@ -212,7 +216,8 @@ fn check_lengths_of_three(bars: usize, second: usize, third: usize, out: usize) 
 
 // The first refusal of a call with three series, one output and no work slice, before its parameters; else the length.
 pub fn check_three(first: &[f64], second: &[f64], third: &[f64], out: usize) -> Answer
-    ensures { λ r. ⌜ r ≡ checked accepted (now (first .entry) ∷ now (second .entry) ∷ now (third .entry) ∷ []) (out ∷ []) [] ⌝ }
+    ensures { λ r. ⌜ r ≡ checked accepted (now (first .entry) ∷ now (second .entry) ∷ now (third .entry) ∷ [])
+        (out ∷ []) [] ⌝ }
 {
     let lengths = check_lengths_of_three(first.len(), second.len(), third.len(), out);
     let one = check_values(lengths, third);
@@ -228,7 +233,8 @@ pub fn check_three_with_work(
     out: usize,
     work: usize,
 ) -> Answer
-    ensures { λ r. ⌜ r ≡ checked accepted (now (first .entry) ∷ now (second .entry) ∷ now (third .entry) ∷ []) (out ∷ []) (work ∷ []) ⌝ }
+    ensures { λ r. ⌜ r ≡ checked accepted (now (first .entry) ∷ now (second .entry) ∷ now (third .entry) ∷ [])
+        (out ∷ []) (work ∷ []) ⌝ }
 {
     let lengths = check_lengths_of_three(first.len(), second.len(), third.len(), out);
     let room = check_work(first.len(), work);
@@ -245,7 +251,8 @@ fn shortest(a: usize, b: usize, c: usize) -> usize
     cells::smaller(a, cells::smaller(b, c))
 }
 
-// The first refusal of a call with one series, three outputs and a work slice, before its parameters; else the series' length.
+// The first refusal of a call with one series, three outputs and a work slice, before its parameters; else the
+// series' length.
 pub fn check_bands(series: &[f64], middle: usize, upper: usize, lower: usize, work: usize) -> Answer
     ensures { λ r. ⌜ r ≡ checked accepted (now (series .entry) ∷ []) (middle ∷ upper ∷ lower ∷ []) (work ∷ []) ⌝ }
 {
@@ -262,12 +269,14 @@ pub fn check_channel(
     lower: usize,
     work: usize,
 ) -> Answer
-    ensures { λ r. ⌜ r ≡ checked accepted (now (first .entry) ∷ now (second .entry) ∷ now (third .entry) ∷ []) (middle ∷ upper ∷ lower ∷ []) (work ∷ []) ⌝ }
+    ensures { λ r. ⌜ r ≡ checked accepted (now (first .entry) ∷ now (second .entry) ∷ now (third .entry) ∷ [])
+        (middle ∷ upper ∷ lower ∷ []) (work ∷ []) ⌝ }
 {
     check_three_with_work(first, second, third, shortest(middle, upper, lower), work)
 }
 
-// Whether cells are to be written, by the answer to a call of `bars` bars. It writes nothing but +0.0 to the work slice of an answer that has no cells.
+// Whether cells are to be written, by the answer to a call of `bars` bars. It writes nothing but +0.0 to the work
+// slice of an answer that has no cells.
 pub fn cells_due(due: Answer, bars: usize, work: &mut [f64]) -> bool
     requires { ⌜ clearedOf due (8 * bars) ≤ length (now work) ⌝ }
     ensures { λ r. ⌜ CellsDue due bars r (now (work .entry)) (now (work .exit)) ⌝ }

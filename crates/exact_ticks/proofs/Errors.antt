@@ -26,7 +26,8 @@ pub sum-about : {f : Line} {z : ℕ → ℤ} {a c e b : ℕ} (i k : ℕ) → Sta
 unfolding sumFrom total
 sum-about {c = c} i zero s l h = about-weaken _ (about-minus-zero binary64 c) (omega arith)
 sum-about {f} {z} {a} {c} {e} {b} i (suc k) s l h =
-    let p = sum-about i k (record { about = λ j m. s .about j (omega arith); size = λ j m. s .size j (omega arith) }) l (omega arith) in
+    let p = sum-about i k (record { about = λ j m. s .about j (omega arith); size = λ j m. s .size j (omega arith) })
+    l (omega arith) in
     let q = s .about k (le-refl (suc k)) in
     let x = total-size z a k b (λ j m. s .size j (omega arith)) in
     let y = s .size k (le-refl (suc k)) in
@@ -42,14 +43,16 @@ products a b n m p q r s =
 -- ---- the mean of the means of whole ticks
 
 -- n means and what their sum is off by stay below 2 ^ 34, and the sum over n below 2 ^ 25; p is 2 ^ 53
-sum-room : (n p : ℕ) → 0 < n → n ≤ 1023 → 2 ^ 20 ≤ p → n * (n * 2 ^ 24 * p * 2 + n * 2 ^ 25 + 2 ^ 34 * n) < 2 ^ 34 * n * p * 2
+sum-room : (n p : ℕ) → 0 < n → n ≤ 1023 → 2 ^ 20 ≤ p
+    → n * (n * 2 ^ 24 * p * 2 + n * 2 ^ 25 + 2 ^ 34 * n) < 2 ^ 34 * n * p * 2
 sum-room n p N L P =
     let a : n * n ≤ 1023 * n = mul-le-mul-right n L in
     let b : n * n * p ≤ 1023 * n * p = mul-le-mul-right p a in
     let c : n * 2 ^ 20 ≤ n * p = mul-le-mul-left n P in
     omega arith
 
-mean-room : (n p d : ℕ) → 0 < n → 2 ^ 20 ≤ p → d ≤ n * (n * 2 ^ 24) → d * p * 2 + n * (n * 2 ^ 25 + 2 ^ 34 * n) < 2 ^ 25 * (n * n) * p * 2
+mean-room : (n p d : ℕ) → 0 < n → 2 ^ 20 ≤ p → d ≤ n * (n * 2 ^ 24)
+    → d * p * 2 + n * (n * 2 ^ 25 + 2 ^ 34 * n) < 2 ^ 25 * (n * n) * p * 2
 mean-room n p d N P h =
     let a : d * p ≤ n * (n * 2 ^ 24) * p = mul-le-mul-right p h in
     let b : n * n * 2 ^ 20 ≤ n * n * p = mul-le-mul-left (n * n) P in
@@ -63,9 +66,11 @@ module _ {l : ℕ} {f : Line} {t : ℕ → ℤ} (w : TickLine l f t) (n : ℕ) (
   pub mean-about : (i : ℕ) → n ≤ i + 1 → i < l → About binary64 (mean n f i) (windowTotal n t i) n (n * 2 ^ 25)
   mean-about i b h =
       rw (mean-exact w n N M i b h)
-      (about-weaken (n * 2 ^ 25) (about-quotient (window-whole w n N M (i + 1 - n) (omega arith))) (omega (arith, window-total-size i b h)))
+      (about-weaken (n * 2 ^ 25) (about-quotient (window-whole w n N M (i + 1 - n) (omega arith)))
+      (omega (arith, window-total-size i b h)))
 
-  means-standing : (i : ℕ) → 2 * n ≤ i + 2 → i < l → Standing (mean n f) (windowTotal n t) (i + 1 - n) n n (n * 2 ^ 25) (n * 2 ^ 24)
+  means-standing : (i : ℕ) → 2 * n ≤ i + 2 → i < l
+      → Standing (mean n f) (windowTotal n t) (i + 1 - n) n n (n * 2 ^ 25) (n * 2 ^ 24)
   means-standing i b h = record {
     about = λ j m. mean-about (i + 1 - n + j) (omega arith) (omega arith);
     size = λ j m. window-total-size (i + 1 - n + j) (omega arith) (omega arith);
@@ -80,5 +85,6 @@ module _ {l : ℕ} {f : Line} {t : ℕ → ℤ} (w : TickLine l f t) (n : ℕ) (
       let d = total-size (windowTotal n t) (i + 1 - n) n (n * 2 ^ 24) (s .size) in
       rw (from-bar (n - 1) plusZero _ i (omega arith))
       (about-weaken (n * n * (2 ^ 34 + 2 ^ 26))
-      (about-div 25 n (sum-about 34 n s (lit≤ tt) (sum-room n (2 ^ 53) N L (lit≤ tt))) N (omega arith) (lit≤ tt) (mean-room n (2 ^ 53) _ N (lit≤ tt) d))
+      (about-div 25 n (sum-about 34 n s (lit≤ tt) (sum-room n (2 ^ 53) N L (lit≤ tt))) N (omega arith) (lit≤ tt)
+      (mean-room n (2 ^ 53) _ N (lit≤ tt) d))
       (omega arith))

@@ -31,7 +31,8 @@ some-abs (negsuc a) h = zero-lt-suc a
 module _ {b l : ℕ} {f : Line} {t : ℕ → ℤ} (w : WholeLine b l f t) (n : ℕ) (N : 0 < n) (M : n * b ≤ 2 ^ 52) where
   pub run-exact : (i : ℕ) → n ≤ i + 1 → i < l → runs n f i ≡ ofInt binary64 (windowTotal n t i)
   unfolding runs
-  run-exact i p h = rw (from-bar (n - 1) plusZero _ i (omega arith)) (running-whole w difference-slides n (i + 1 - n) N M (omega arith))
+  run-exact i p h = rw (from-bar (n - 1) plusZero _ i (omega arith))
+      (running-whole w difference-slides n (i + 1 - n) N M (omega arith))
 
   -- so they are whole numbers in turn
   pub runs-whole : WholeLine (n * b) l (runs n f) (fromBar (n - 1) (pos 0) (windowTotal n t))
@@ -43,7 +44,12 @@ module _ {b l : ℕ} {f : Line} {t : ℕ → ℤ} (w : WholeLine b l f t) (n : �
     where
       at : (i : ℕ) → i < l → (u : Bool) → (T u → i < n - 1) → (T (not u) → n - 1 ≤ i)
           → let z = fromBar (n - 1) (pos 0) (windowTotal n t) i in (runs n f i ≡ ofInt binary64 z) × (natAbs z ≤ n * b)
-      at i h true p q = rw (before-bar (n - 1) plusZero _ i (p tt), before-bar (n - 1) (pos 0) (windowTotal n t) i (p tt)) (sym (zero-is binary64), zero-le)
+      at i h true p q = rw (
+        before-bar (n - 1) plusZero _ i (p tt),
+        before-bar (n - 1) (pos 0) (windowTotal n t) i
+            (p tt),
+      ) (sym (zero-is binary64), zero-le)
       at i h false p q =
           let m = q tt in
-          rw (from-bar (n - 1) (pos 0) (windowTotal n t) i m) (run-exact i (omega arith) h, window-size w (i + 1 - n) n (omega arith))
+          rw (from-bar (n - 1) (pos 0) (windowTotal n t) i m)
+          (run-exact i (omega arith) h, window-size w (i + 1 - n) n (omega arith))

@@ -17,6 +17,7 @@ use Rattle.exact_ticks.proofs.Exact.{TickLine}
 pub tick-line : (s : List Float) → ((i : ℕ) → i < length s → T (fits binary64 (line s i))) → all tick s ≡ true
     → TickLine (length s) (line s) (λ i. toSigned 63 (line s i))
 tick-line s floats h = record {
-  is = λ i l. sym (float-back-signed binary64 63 (line s i) (floats i l) (ticked (line s i) (all-at tick s i h l) .castable) .1);
+  is = λ i l. sym (float-back-signed binary64 63 (line s i) (floats i l)
+      (ticked (line s i) (all-at tick s i h l) .castable) .1);
   small = λ i l. ticked (line s i) (all-at tick s i h l) .near;
 }

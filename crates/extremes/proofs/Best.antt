@@ -1,5 +1,5 @@
--- The best of neighbouring cells, put together from the best of its parts: of numbers `pickOf` picks the same in any grouping.
--- Assumes nothing.
+-- The best of neighbouring cells, put together from the best of its parts: of numbers `pickOf` picks the same in any
+-- grouping. Assumes nothing.
 use mathlib.Core.Path.{_≡_, refl, sym, _∙_}
 use mathlib.Core.Bool.{Bool, true, false, cond}
 use Prim.Native.Nat.{ℕ, zero, suc, _+_, _-_, _<_}
@@ -55,7 +55,8 @@ module _ (high : Bool) where
 
     -- the cells after bar a + j joined to those up to it
     joined : (a j k : ℕ) → a + j + suc k < bars
-        → pickOf high (pickFrom (pickOf high) f a j) (pickFrom (pickOf high) f (a + suc j) k) ≡ pickFrom (pickOf high) f a (j + suc k)
+        → pickOf high (pickFrom (pickOf high) f a j) (pickFrom (pickOf high) f (a + suc j) k)
+        ≡ pickFrom (pickOf high) f a (j + suc k)
     unfolding pickFrom
     joined a j zero h =
         let e : j + 1 ≡ suc j = omega arith in
@@ -66,13 +67,15 @@ module _ (high : Bool) where
         rw (e, ← joined a j k (omega arith), g) (sym (grouped _ _ _ (pickFrom-number (a + suc j) k (omega arith))))
 
     -- the cells from bar a + j on joined to those up to it, so that bar a + j is in both
-    absorbed : (a j : ℕ) → a + j < bars → pickOf high (pickFrom (pickOf high) f a j) (f (a + j)) ≡ pickFrom (pickOf high) f a j
+    absorbed : (a j : ℕ) → a + j < bars → pickOf high (pickFrom (pickOf high) f a j) (f (a + j))
+        ≡ pickFrom (pickOf high) f a j
     unfolding pickFrom
     absorbed a zero h = rw add-zero (same (f a))
     absorbed a (suc j) h = grouped _ _ _ (all .at (a + suc j) h) ∙ rw (same (f (a + suc j)))
 
     met : (a j k : ℕ) → a + j + k < bars
-        → pickOf high (pickFrom (pickOf high) f a j) (pickFrom (pickOf high) f (a + j) k) ≡ pickFrom (pickOf high) f a (j + k)
+        → pickOf high (pickFrom (pickOf high) f a j) (pickFrom (pickOf high) f (a + j) k)
+        ≡ pickFrom (pickOf high) f a (j + k)
     unfolding pickFrom
     met a j zero h = rw add-zero (absorbed a j (omega arith))
     met a j (suc k) h =
@@ -91,26 +94,37 @@ module _ {high : Bool} {f : Line} where
 
   module _ {bars : ℕ} (all : Numbers f bars) where
     -- the bars after bar e joined to those up to it
-    pub joins : {a e e′ g : ℕ} {x y z : Float} → Best high f a e x → Best high f e′ g y → z ≡ pickOf high x y → (e′ ≡ e + 1) × (g < bars)
+    pub joins : {a e e′ g : ℕ} {x y z : Float} → Best high f a e x → Best high f e′ g y → z ≡ pickOf high x y
+        → (e′ ≡ e + 1) × (g < bars)
         → Best high f a g z
     joins {a} {e} {e′} {g} p q r (d, h) =
         let u = p .order in
         let v = q .order in
         let start : e′ ≡ a + suc (e - a) = omega arith in
         let span : g - a ≡ e - a + suc (g - e′) = omega arith in
-        record { order = omega arith; is = rw (r, p .is, q .is, span, ← joined high f all a (e - a) (g - e′) (omega arith), ← start) }
+        record {
+          order = omega arith;
+          is = rw
+              (r, p .is, q .is, span, ← joined high f all a (e - a) (g - e′) (omega arith), ← start);
+        }
 
     -- the bars from bar e on joined to those up to it
-    pub meets : {a e g : ℕ} {x y z : Float} → Best high f a e x → Best high f e g y → z ≡ pickOf high x y → g < bars → Best high f a g z
+    pub meets : {a e g : ℕ} {x y z : Float} → Best high f a e x → Best high f e g y → z ≡ pickOf high x y → g < bars
+        → Best high f a g z
     meets {a} {e} {g} p q r h =
         let u = p .order in
         let v = q .order in
         let start : e ≡ a + (e - a) = omega arith in
         let span : g - a ≡ e - a + (g - e) = omega arith in
-        record { order = omega arith; is = rw (r, p .is, q .is, span, ← met high f all a (e - a) (g - e) (omega arith), ← start) }
+        record {
+          order = omega arith;
+          is = rw
+              (r, p .is, q .is, span, ← met high f all a (e - a) (g - e) (omega arith), ← start);
+        }
 
   -- a whole window
-  pub extreme-is : (n : ℕ) {a i : ℕ} {x : Float} → Best high f a i x → (0 < n) × (a + n ≡ i + 1) → x ≡ extreme (pickOf high) n f i
+  pub extreme-is : (n : ℕ) {a i : ℕ} {x : Float} → Best high f a i x → (0 < n) × (a + n ≡ i + 1) → x
+      ≡ extreme (pickOf high) n f i
   unfolding extreme
   extreme-is n {a} {i} p (h, e) =
       let start : i + 1 - n ≡ a = omega arith in

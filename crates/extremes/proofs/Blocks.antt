@@ -8,6 +8,7 @@ use Rattle.extremes.specs.inner.Part.{Replacing}
 use Rattle.extremes.proofs.Part.{part-ends, stays}
 use Rattle.extremes.specs.inner.Blocks.{Begun, Room, Whole}
 
-pub begun : {s : List Float} {n k : ℕ} {old now : List Float} → Room s n (length old) → Replacing (length s) 0 k (Whole s n) old now
+pub begun : {s : List Float} {n k : ℕ} {old now : List Float} → Room s n (length old)
+    → Replacing (length s) 0 k (Whole s n) old now
     → k ≡ min (n - 1) (length s) → Begun s n now
 begun g w e = record { given = rw (w .long) g; lead = part-ends (stays w) e }

@@ -22,7 +22,8 @@ below-between r false false true a b c p q = q
 below-between r false true false a b c p q = le-ltb a c (omega (arith, ltb-false 0 (b + c) (q ∙ sym p))) ∙ p
 below-between r false true true a b c p q = p
 below-between true true false false a b c p q = lt-ltb 0 (a + c) (omega (arith, ltb-true b c q))
-below-between false true false false a b c p q = le-ltb 0 (a + c) (omega (arith, ltb-false 0 (a + b) p, ltb-false b c q))
+below-between false true false false a b c p q = le-ltb 0 (a + c)
+    (omega (arith, ltb-false 0 (a + b) p, ltb-false b c q))
 below-between r true false true a b c p q = le-ltb c a (omega (arith, ltb-false 0 (a + b) (p ∙ sym q))) ∙ q
 below-between true true true false a b c p q = lt-ltb 0 (a + c) (omega (arith, ltb-true b a p))
 below-between false true true false a b c p q = le-ltb 0 (a + c) (omega (arith, ltb-false b a p, ltb-false 0 (b + c) q))
@@ -41,7 +42,8 @@ module _ (k : ℕ) (h : 0 < k) where
   below-scaled true false a b = rw (← add-mul) (rw zero-mul at (ltb-scaled (ltb 0 (a + b)) 0 (a + b) refl))
   below-scaled true true a b = ltb-scaled (ltb b a) b a refl
 
-fin-between : (r s t u : Bool) (l m n : ℕ) (c d e : ℤ) → lt (fin s l c) (fin t m d) ≡ r → lt (fin t m d) (fin u n e) ≡ r → lt (fin s l c) (fin u n e) ≡ r
+fin-between : (r s t u : Bool) (l m n : ℕ) (c d e : ℤ) → lt (fin s l c) (fin t m d) ≡ r → lt (fin t m d) (fin u n e)
+    ≡ r → lt (fin s l c) (fin u n e) ≡ r
 unfolding lt
 fin-between r s t u l m n c d e p q =
     let x = l * up c in
@@ -52,7 +54,8 @@ fin-between r s t u l m n c d e p q =
     let xz = below-scaled (down d) (down-pos d) s u (x * down e) (z * down c) in
     sym xz
     ∙ rw (mul-right-comm x (down e) (down d))
-    (below-between r s t u _ (y * down c * down e) _ (xy ∙ p) (rw (mul-right-comm y (down c) (down e), mul-right-comm z (down c) (down d)) (yz ∙ q)))
+    (below-between r s t u _ (y * down c * down e) _ (xy ∙ p)
+    (rw (mul-right-comm y (down c) (down e), mul-right-comm z (down c) (down d)) (yz ∙ q)))
 
 -- Where x < y and y < z have one answer, x < z has it too; y is a number.
 pub lt-between : (r : Bool) (x y z : Float) → isNan y ≡ false → lt x y ≡ r → lt y z ≡ r → lt x z ≡ r

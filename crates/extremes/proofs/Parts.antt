@@ -11,4 +11,7 @@ use Rattle.cells.proofs.Parts.{part-is, part-long}
 
 module _ {k : ℕ} {g : Line} {old mid : List Float} (w : Writing k g old mid) (h : k ≤ length old) where
   pub part-numbers : Numbers g k → Numbers (line (take k mid)) (length (take k mid))
-  part-numbers p = record { at = λ i l. let long = part-long w h in let m : i < k = omega arith in rw (part-is w h i m) (p .at i m) }
+  part-numbers p = record {
+    at = λ i l. let long = part-long w h in let m : i < k = omega arith in rw
+        (part-is w h i m) (p .at i m);
+  }

@@ -1,5 +1,5 @@
-// The highest and the lowest of the last n cells, in time that does not grow with n: a window that reaches over bar e is the bars up to e
-// and the bars from e on, and the range of either is had from its neighbour's in one step.
+// The highest and the lowest of the last n cells, in time that does not grow with n: a window that reaches over bar e
+// is the bars up to e and the bars from e on, and the range of either is had from its neighbour's in one step.
 ghost use mathlib.Core.Path.{_≡_};
 ghost use Prim.Native.Nat.{_+_, _-_, _<_, _≤_, min};
 ghost use lib.ListN.{length};
@@ -67,7 +67,8 @@ fn range_of(cells: &[f64], a: usize, e: usize) -> HighLow
 // Writes for each bar from `last` down to e the range of its window's bars up to e.
 fn write_up_to(cells: &[f64], n: usize, e: usize, last: usize, rows: &mut [f64])
     requires { ⌜ Windows (now cells) n e last (length (now rows)) ⌝ }
-    ensures { λ _. ⌜ Replacing (length (now (cells .entry))) e (last + 1) (UpTo (now (cells .entry)) n e) (now (rows .entry)) (now (rows .exit)) ⌝ }
+    ensures { λ _. ⌜ Replacing (length (now (cells .entry))) e (last + 1) (UpTo (now (cells .entry)) n e)
+        (now (rows .entry)) (now (rows .exit)) ⌝ }
 {
     let bars = cells.len();
     let mut i = last;
@@ -86,7 +87,8 @@ fn write_up_to(cells: &[f64], n: usize, e: usize, last: usize, rows: &mut [f64])
 fn join_from(cells: &[f64], n: usize, e: usize, last: usize, rows: &mut [f64])
     requires { ⌜ Windows (now cells) n e last (length (now rows)) ⌝ }
     requires { ⌜ Replacing (length (now cells)) e (last + 1) (UpTo (now cells) n e) (now rows) (now rows) ⌝ }
-    ensures { λ _. ⌜ Replacing (length (now (cells .entry))) e (last + 1) (Whole (now (cells .entry)) n) (now (rows .entry)) (now (rows .exit)) ⌝ }
+    ensures { λ _. ⌜ Replacing (length (now (cells .entry))) e (last + 1) (Whole (now (cells .entry)) n)
+        (now (rows .entry)) (now (rows .exit)) ⌝ }
 {
     let bars = cells.len();
     let mut i = e;
@@ -107,7 +109,8 @@ fn join_from(cells: &[f64], n: usize, e: usize, last: usize, rows: &mut [f64])
 // Writes the ranges of the windows that end at bars e to `last`.
 fn write_block(cells: &[f64], n: usize, e: usize, last: usize, rows: &mut [f64])
     requires { ⌜ Windows (now cells) n e last (length (now rows)) ⌝ }
-    ensures { λ _. ⌜ Replacing (length (now (cells .entry))) e (last + 1) (Whole (now (cells .entry)) n) (now (rows .entry)) (now (rows .exit)) ⌝ }
+    ensures { λ _. ⌜ Replacing (length (now (cells .entry))) e (last + 1) (Whole (now (cells .entry)) n)
+        (now (rows .entry)) (now (rows .exit)) ⌝ }
 {
     write_up_to(cells, n, e, last, rows);
     join_from(cells, n, e, last, rows);
@@ -124,7 +127,8 @@ fn last_of(e: usize, n: usize, bars: usize) -> usize
 // Writes the range of every whole window, block after block.
 fn write_blocks(cells: &[f64], n: usize, rows: &mut [f64])
     requires { ⌜ Begun (now cells) n (now rows) ⌝ }
-    ensures { λ _. ⌜ Replacing (length (now (cells .entry))) 0 (length (now (cells .entry))) (Whole (now (cells .entry)) n) (now (rows .entry)) (now (rows .exit)) ⌝ }
+    ensures { λ _. ⌜ Replacing (length (now (cells .entry))) 0 (length (now (cells .entry)))
+        (Whole (now (cells .entry)) n) (now (rows .entry)) (now (rows .exit)) ⌝ }
 {
     let mut e = n - 1;
     while e < cells.len() {
@@ -136,7 +140,8 @@ fn write_blocks(cells: &[f64], n: usize, rows: &mut [f64])
 // The same of windows of one or two bars, each by itself.
 fn write_pairs(cells: &[f64], n: usize, rows: &mut [f64])
     requires { ⌜ (n ≤ 2) × Begun (now cells) n (now rows) ⌝ }
-    ensures { λ _. ⌜ Replacing (length (now (cells .entry))) 0 (length (now (cells .entry))) (Whole (now (cells .entry)) n) (now (rows .entry)) (now (rows .exit)) ⌝ }
+    ensures { λ _. ⌜ Replacing (length (now (cells .entry))) 0 (length (now (cells .entry)))
+        (Whole (now (cells .entry)) n) (now (rows .entry)) (now (rows .exit)) ⌝ }
 {
     let bars = cells.len();
     let mut i = n - 1;
@@ -159,7 +164,8 @@ fn first_whole(n: usize, bars: usize) -> usize
 // Writes 0.0 to both rows before the first whole window.
 fn write_lead(cells: &[f64], n: usize, first: usize, rows: &mut [f64])
     requires { ⌜ Room (now cells) n (length (now rows)) × (first ≡ min (n - 1) (length (now cells))) ⌝ }
-    ensures { λ _. ⌜ Replacing (length (now (cells .entry))) 0 first (Whole (now (cells .entry)) n) (now (rows .entry)) (now (rows .exit)) ⌝ }
+    ensures { λ _. ⌜ Replacing (length (now (cells .entry))) 0 first (Whole (now (cells .entry)) n)
+        (now (rows .entry)) (now (rows .exit)) ⌝ }
 {
     let bars = cells.len();
     let mut i = 0;
@@ -170,11 +176,13 @@ fn write_lead(cells: &[f64], n: usize, first: usize, rows: &mut [f64])
     }
 }
 
-// Writes the highest of the last n cells of each bar to one row and the lowest to the next, 0.0 before the first whole window.
+// Writes the highest of the last n cells of each bar to one row and the lowest to the next, 0.0 before the first
+// whole window.
 pub fn write_ranges(cells: &[f64], n: usize, rows: &mut [f64])
     requires { ⌜ Room (now cells) n (length (now rows)) ⌝ }
     ensures { λ _. ⌜ Writing (length (now (cells .entry)) + length (now (cells .entry)))
-        (beside (length (now (cells .entry))) (extreme larger n (line (now (cells .entry)))) (extreme smaller n (line (now (cells .entry)))))
+        (beside (length (now (cells .entry))) (extreme larger n (line (now (cells .entry))))
+        (extreme smaller n (line (now (cells .entry)))))
         (now (rows .entry)) (now (rows .exit)) ⌝ }
 {
     write_lead(cells, n, first_whole(n, cells.len()), rows);

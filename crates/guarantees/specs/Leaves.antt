@@ -14,7 +14,8 @@ use Rattle.smoother_table.specs.Bounds.{InBounds}
 use Rattle.smoother_table.proofs.Bounds.{in-bounds, a1-rises}
 
 -- The root of every f64 above 0 is the f64 nearest the true root, and no other is as near.
-pub root-is-nearest : (m : ℕ) (e : ℤ) → let x = fin false (suc m) e in T (fits binary64 x) → NearestRoot binary64 x (sqrtOf binary64 x)
+pub root-is-nearest : (m : ℕ) (e : ℤ) → let x = fin false (suc m) e in T (fits binary64 x)
+    → NearestRoot binary64 x (sqrtOf binary64 x)
 root-is-nearest = nearest-root binary64
 
 -- Over the whole table 0 < a1 < 1, and the size of b1 is at most 2 · a1.

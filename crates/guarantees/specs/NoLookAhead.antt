@@ -1,6 +1,7 @@
--- No look-ahead: of two calls of one function with equal parameters and equal bars up to bar b, each answered with as many cells as
--- bars, the cells of bars 0 to b are equal. The two series may have different lengths, and a window may exceed one of them and not the
--- other. NaN is one value of `Float`, so equal cells are the same number with the same sign, or both NaN. Assumes nothing.
+-- No look-ahead: of two calls of one function with equal parameters and equal bars up to bar b, each answered with as
+-- many cells as bars, the cells of bars 0 to b are equal. The two series may have different lengths, and a window may
+-- exceed one of them and not the other. NaN is one value of `Float`, so equal cells are the same number with the same
+-- sign, or both NaN. Assumes nothing.
 use mathlib.Core.Path.{_≡_, sym, _∙_}
 use mathlib.Core.Bool.{Bool}
 use mathlib.Core.List.{List, [], _∷_}
@@ -51,7 +52,8 @@ EqualCells d out out′ b = (j : ℕ) → j ≤ b → getD out j d ≡ getD out�
 
 -- ---- the law, for calls of one series
 
-module _ {A : Type 0} (d : A) {F : Line → ℕ → A} (ok : Float → Bool) {s t : List Float} {b : ℕ} (equal : EqualBars s t b)
+module _ {A : Type 0} (d : A) {F : Line → ℕ → A} (ok : Float → Bool) {s t : List Float} {b : ℕ}
+    (equal : EqualBars s t b)
     {out₀ out₁ out₀′ out₁′ : List A} where
   -- whatever follows the checks
   table-agrees : (work work′ : List ℕ) (next next′ : Answer) → Causal F
@@ -80,15 +82,18 @@ module _ {A : Type 0} (d : A) {F : Line → ℕ → A} (ok : Float → Bool) {s 
 
 module _ {s t out₀ out₁ out₀′ out₁′ : List Float} {b : ℕ} (equal : EqualBars s t b) where
   -- the averages
-  pub sma-no-look-ahead : (n : ℕ) → SmaCall s n out₀ (Cells (length s)) out₁ → SmaCall t n out₀′ (Cells (length t)) out₁′
+  pub sma-no-look-ahead : (n : ℕ) → SmaCall s n out₀ (Cells (length s)) out₁
+      → SmaCall t n out₀′ (Cells (length t)) out₁′
       → EqualCells nan out₁ out₁′ b
   sma-no-look-ahead n = windows-agree nan accepted equal (n ∷ []) [] [] (λ w. causal-sma n (w .0 .some))
 
-  pub ema-no-look-ahead : (n : ℕ) → EmaCall s n out₀ (Cells (length s)) out₁ → EmaCall t n out₀′ (Cells (length t)) out₁′
+  pub ema-no-look-ahead : (n : ℕ) → EmaCall s n out₀ (Cells (length s)) out₁
+      → EmaCall t n out₀′ (Cells (length t)) out₁′
       → EqualCells nan out₁ out₁′ b
   ema-no-look-ahead n = windows-agree nan accepted equal (n ∷ []) [] [] (λ w. causal-ema n)
 
-  pub exponential-smoothing-no-look-ahead : (alpha : Float) → ExponentialSmoothingCall s alpha out₀ (Cells (length s)) out₁
+  pub exponential-smoothing-no-look-ahead : (alpha : Float)
+      → ExponentialSmoothingCall s alpha out₀ (Cells (length s)) out₁
       → ExponentialSmoothingCall t alpha out₀′ (Cells (length t)) out₁′ → EqualCells nan out₁ out₁′ b
   unfolding exponentialAnswer
   exponential-smoothing-no-look-ahead alpha = table-agrees nan accepted equal [] [] _ _ (causal-exponential alpha)
@@ -101,7 +106,8 @@ module _ {s t out₀ out₁ out₀′ out₁′ : List Float} {b : ℕ} (equal :
       table-agrees nan accepted equal [] [] _ _ (causal-smooth (coefficients (wholePart period)))
 
   -- the rules of the sheet
-  pub double-no-look-ahead : (n m : ℕ) → DoubleCall s n m out₀ (Cells (length s)) out₁ → DoubleCall t n m out₀′ (Cells (length t)) out₁′
+  pub double-no-look-ahead : (n m : ℕ) → DoubleCall s n m out₀ (Cells (length s)) out₁
+      → DoubleCall t n m out₀′ (Cells (length t)) out₁′
       → EqualCells nan out₁ out₁′ b
   unfolding doubleAnswer
   double-no-look-ahead n m c c′ =
@@ -112,7 +118,8 @@ module _ {s t out₀ out₁ out₀′ out₁′ : List Float} {b : ℕ} (equal :
   module _ {work₀ work₁ work₀′ work₁′ : List Float} where
     pub single-no-look-ahead : (n : ℕ) → SingleCall s n out₀ work₀ (Cells (length s)) out₁ work₁
         → SingleCall t n out₀′ work₀′ (Cells (length t)) out₁′ work₁′ → EqualCells nan out₁ out₁′ b
-    single-no-look-ahead n c c′ = windows-agree nan accepted equal (n ∷ []) _ _ (λ w. causal-single n) (c .call) (c′ .call)
+    single-no-look-ahead n c c′ = windows-agree nan accepted equal (n ∷ []) _ _ (λ w. causal-single n) (c .call)
+        (c′ .call)
 
     pub mid-no-look-ahead : (n : ℕ) → MidCall s n out₀ work₀ (Cells (length s)) out₁ work₁
         → MidCall t n out₀′ work₀′ (Cells (length t)) out₁′ work₁′ → EqualCells nan out₁ out₁′ b
@@ -121,19 +128,23 @@ module _ {s t out₀ out₁ out₀′ out₁′ : List Float} {b : ℕ} (equal :
 
 -- the tick mean
 pub tick-mean-no-look-ahead : {s t : List Float} {out₀ out₁ out₀′ out₁′ : List ℤ} {b : ℕ} → EqualBars s t b → (n : ℕ)
-    → TickMeanCall s n out₀ (Cells (length s)) out₁ → TickMeanCall t n out₀′ (Cells (length t)) out₁′ → EqualCells (pos 0) out₁ out₁′ b
+    → TickMeanCall s n out₀ (Cells (length s)) out₁ → TickMeanCall t n out₀′ (Cells (length t)) out₁′
+    → EqualCells (pos 0) out₁ out₁′ b
 tick-mean-no-look-ahead equal n = windows-agree (pos 0) tick equal (n ∷ []) [] [] (λ w. causal-tick-mean n)
 
 -- true range, whose three series must each have equal bars
 pub true-range-no-look-ahead : {high low before high′ low′ before′ out₀ out₁ out₀′ out₁′ : List Float} {b : ℕ}
     → EqualBars high high′ b → EqualBars low low′ b → EqualBars before before′ b
-    → TrueRangeCall high low before out₀ (Cells (length high)) out₁ → TrueRangeCall high′ low′ before′ out₀′ (Cells (length high′)) out₁′
+    → TrueRangeCall high low before out₀ (Cells (length high)) out₁
+    → TrueRangeCall high′ low′ before′ out₀′ (Cells (length high′)) out₁′
     → EqualCells nan out₁ out₁′ b
 true-range-no-look-ahead {high} {low} {before} {high′} {low′} {before′} {out₀} {out₀′ = out₀′} {b = b} h l e c c′ j m =
     let p = h .left in
     let q = h .right in
-    let room = checked-three-room accepted high low before (length out₀) [] (length high) (sym (c .answer)) .0 .out-long in
-    let room′ = checked-three-room accepted high′ low′ before′ (length out₀′) [] (length high′) (sym (c′ .answer)) .0 .out-long in
+    let room = checked-three-room accepted high low before (length out₀) [] (length high)
+    (sym (c .answer)) .0 .out-long in
+    let room′ = checked-three-room accepted high′ low′ before′ (length out₀′) [] (length high′)
+    (sym (c′ .answer)) .0 .out-long in
     cell-at nan c room j (omega arith)
     ∙ causal-range (line high) (line high′) (line low) (line low′) (line before) (line before′) j
     (λ i k. h .same i (omega arith)) (λ i k. l .same i (omega arith)) (λ i k. e .same i (omega arith))

@@ -1,6 +1,6 @@
--- Exact on whole ticks. A series here is a list of f64, each a whole number from -16,777,216 to 16,777,216 (`WholeTicks`). Every sum and
--- product named below is one of whole numbers, never rounded; what is said from a bar on holds there and at every later bar below the
--- count k of the call's answer. Assumes nothing.
+-- Exact on whole ticks. A series here is a list of f64, each a whole number from -16,777,216 to 16,777,216
+-- (`WholeTicks`). Every sum and product named below is one of whole numbers, never rounded; what is said from a bar
+-- on holds there and at every later bar below the count k of the call's answer. Assumes nothing.
 use mathlib.Core.Path.{_≡_, sym, _∙_}
 use mathlib.Core.Bool.{cond, Bool, false, true, true≢false}
 use mathlib.Core.List.{List, [], _∷_}
@@ -74,7 +74,8 @@ whole-ticks {s} w = tick-line s (λ i h. is-true _ (all-at (fits binary64) s i (
 
 module _ {s out₀ out₁ : List Float} (w : WholeTicks s) (n : ℕ) {k : ℕ} where
   -- sma, for every window to 4,096: from bar n - 1 each cell is the mean of the last n prices.
-  pub sma-on-ticks : SmaCall s n out₀ (Cells k) out₁ → (i : ℕ) → n ≤ i + 1 → i < k → IsMean (windowSumOf n s i) n (getD out₁ i nan)
+  pub sma-on-ticks : SmaCall s n out₀ (Cells k) out₁ → (i : ℕ) → n ≤ i + 1 → i < k
+      → IsMean (windowSumOf n s i) n (getD out₁ i nan)
   sma-on-ticks c i b h =
       let r = bar nan accepted s (n ∷ []) [] c i h in
       let N = r .each .0 .some in
@@ -82,10 +83,14 @@ module _ {s out₀ out₁ : List Float} (w : WholeTicks s) (n : ℕ) {k : ℕ} w
       let t = whole-ticks w in
       let v = window-whole t n N (omega arith) (i + 1 - n) (omega (arith, r .inside)) in
       rw (r .cell, sma-exact t n N (omega arith) i b (r .inside))
-      (record { rounded = quotient-is v; nearest = quotient-nearest v; zero = λ e. zero-mean (windowSumOf n s i) n v e })
+      (record {
+        rounded = quotient-is v;
+        nearest = quotient-nearest v;
+        zero = λ e. zero-mean (windowSumOf n s i) n v e;
+      })
 
-  -- Double, for every n < m to 4,096: from bar m - 1 the cell is +1 exactly when m times the last n prices' sum is at least n times the last m
-  -- prices' sum, else -1.
+  -- Double, for every n < m to 4,096: from bar m - 1 the cell is +1 exactly when m times the last n prices' sum is at
+  -- least n times the last m prices' sum, else -1.
   pub double-on-ticks : (m : ℕ) → DoubleCall s n m out₀ (Cells k) out₁ → (i : ℕ) → m ≤ i + 1 → i < k
       → getD out₁ i nan ≡ sideOf (windowSumOf n s i *ℤ pos m) (windowSumOf m s i *ℤ pos n)
   double-on-ticks m c i b h =
@@ -98,15 +103,18 @@ module _ {s out₀ out₁ : List Float} (w : WholeTicks s) (n : ℕ) {k : ℕ} w
       (double-exact (whole-ticks w) n m i (o .short .some) (o .order) (omega arith) b (omega arith))
 
   module _ {work₀ work₁ : List Float} where
-    -- One average, for windows to 1,022: from bar 2n - 2 the cell has the sign of n · n · price - D, where that difference and D are not 0.
+    -- One average, for windows to 1,022: from bar 2n - 2 the cell has the sign of n · n · price - D, where that
+    -- difference and D are not 0.
     pub single-on-ticks : SingleCall s n out₀ work₀ (Cells k) out₁ work₁ → n ≤ 1022 → (i : ℕ) → 2 * n ≤ i + 2 → i < k
-        → ¬ (D n s i ≡ pos 0) → ¬ (price s i *ℤ pos (n * n) ≡ D n s i) → getD out₁ i nan ≡ sideOf (price s i *ℤ pos (n * n)) (D n s i)
+        → ¬ (D n s i ≡ pos 0) → ¬ (price s i *ℤ pos (n * n) ≡ D n s i) → getD out₁ i nan
+        ≡ sideOf (price s i *ℤ pos (n * n)) (D n s i)
     single-on-ticks c l i b h x y =
         let r = bar nan accepted s (n ∷ []) (length work₀ ∷ []) (c .call) i h in
         r .cell ∙ single-exact (whole-ticks w) n i (r .each .0 .some) l b (r .inside) x y
 
-    -- Middle, for every window to 4,096, with H and W the highest and the lowest of the last n window sums and S the present one: from bar
-    -- 2n - 2 the cell has the sign of 2 · S - (H + W), where that difference, H and W are not 0.
+    -- Middle, for every window to 4,096, with H and W the highest and the lowest of the last n window sums and S the
+    -- present one: from bar 2n - 2 the cell has the sign of 2 · S - (H + W), where that difference, H and W are not
+    -- 0.
     pub mid-on-ticks : MidCall s n out₀ work₀ (Cells k) out₁ work₁ → (i : ℕ) → 2 * n ≤ i + 2 → i < k
         → ¬ (H n s i ≡ pos 0) → ¬ (W n s i ≡ pos 0) → ¬ (windowSumOf n s i *ℤ pos 2 ≡ H n s i +ℤ W n s i)
         → getD out₁ i nan ≡ sideOf (windowSumOf n s i *ℤ pos 2) (H n s i +ℤ W n s i)

@@ -1,4 +1,5 @@
--- Positions: every cell of an answered call of the sheet's rules is +1.0, -1.0 or +0.0, and so none is a NaN. Assumes nothing.
+-- Positions: every cell of an answered call of the sheet's rules is +1.0, -1.0 or +0.0, and so none is a NaN. Assumes
+-- nothing.
 use mathlib.Core.Path.{_≡_, refl, sym}
 use mathlib.Core.Logic.{_⊎_, inl, inr}
 use mathlib.Core.Bool.{Bool, true, false, cond, _||_}
@@ -61,8 +62,10 @@ module _ (f : Line) (i : ℕ) (h : Bounded (2 ^ 30) f i) where
   unfolding singleLine
   single-position n N M =
       let average = mean-bounded n N M (mean n f) i (mean-bounded n N M f i h) i (le-refl i) in
-      let gap : AtMost (2 ^ 31) (sub binary64 (f i) (mean n (mean n f) i)) = sub-at-most (h i (le-refl i)) average (omega arith) in
-      from-bar-holds Position (2 * n - 2) _ i (inr (inr refl)) (λ k. flat-or (eq (mean n (mean n f) i) plusZero) _ (sign-position gap))
+      let gap : AtMost (2 ^ 31) (sub binary64 (f i) (mean n (mean n f) i)) = sub-at-most (h i (le-refl i)) average
+      (omega arith) in
+      from-bar-holds Position (2 * n - 2) _ i (inr (inr refl))
+      (λ k. flat-or (eq (mean n (mean n f) i) plusZero) _ (sign-position gap))
 
   double-position : (n m : ℕ) → 0 < n → n < m → m ≤ 2 ^ 12 → i < 2 ^ 16 → Position (doubleLine n m f i)
   unfolding doubleLine
@@ -71,7 +74,8 @@ module _ (f : Line) (i : ℕ) (h : Bounded (2 ^ 30) f i) where
       (λ k.
       let short = running-mean-bounded n N (omega arith) f i h (omega arith) l in
       let long = running-mean-bounded m (omega arith) M f i h (omega arith) l in
-      let gap : AtMost (2 ^ 48) (sub binary64 (runningMean n f i) (runningMean m f i)) = sub-at-most short long (omega arith) in
+      let gap : AtMost (2 ^ 48) (sub binary64 (runningMean n f i) (runningMean m f i)) = sub-at-most short long
+      (omega arith) in
       sign-position gap)
 
   mid-position : (n : ℕ) → 0 < n → n ≤ 2 ^ 12 → Position (midLine n f i)
@@ -81,16 +85,21 @@ module _ (f : Line) (i : ℕ) (h : Bounded (2 ^ 30) f i) where
       let high = extreme larger n (mean n f) i in
       let low = extreme smaller n (mean n f) i in
       let means = mean-bounded n N M f i h in
-      let both : AtMost (2 ^ 31) (add binary64 high low) = add-at-most (highest-bounded n N M (mean n f) i means) (lowest-bounded n N M (mean n f) i means) (omega arith) in
-      let middle : AtMost (2 ^ 30) (div binary64 (add binary64 high low) two) = rw two-is (div-at-most both 2 (omega arith)) in
-      let gap : AtMost (2 ^ 31) (sub binary64 average (div binary64 (add binary64 high low) two)) = sub-at-most (means i (le-refl i)) middle (omega arith) in
-      from-bar-holds Position (2 * n - 2) _ i (inr (inr refl)) (λ k. flat-or (eq high plusZero || eq low plusZero) _ (sign-position gap))
+      let both : AtMost (2 ^ 31) (add binary64 high low) = add-at-most (highest-bounded n N M (mean n f) i means)
+      (lowest-bounded n N M (mean n f) i means) (omega arith) in
+      let middle : AtMost (2 ^ 30) (div binary64 (add binary64 high low) two) = rw two-is
+      (div-at-most both 2 (omega arith)) in
+      let gap : AtMost (2 ^ 31) (sub binary64 average (div binary64 (add binary64 high low) two)) = sub-at-most
+      (means i (le-refl i)) middle (omega arith) in
+      from-bar-holds Position (2 * n - 2) _ i (inr (inr refl))
+      (λ k. flat-or (eq high plusZero || eq low plusZero) _ (sign-position gap))
 
 -- ---- the statements
 
 module _ (n : ℕ) (s : List Float) {out₀ out₁ : List Float} {k : ℕ} where
   -- Double: each of its cells is a position.
-  pub double-writes-positions : (m : ℕ) → DoubleCall s n m out₀ (Cells k) out₁ → (i : ℕ) → i < k → Position (getD out₁ i nan)
+  pub double-writes-positions : (m : ℕ) → DoubleCall s n m out₀ (Cells k) out₁ → (i : ℕ) → i < k
+      → Position (getD out₁ i nan)
   double-writes-positions m c i h =
       let e = sym (c .answer) in
       let o = double-opened s n m (length out₀) k e (omega arith) in
@@ -98,19 +107,24 @@ module _ (n : ℕ) (s : List Float) {out₀ out₁ : List Float} {k : ℕ} where
       let r = double-room s n m (length out₀) k e in
       let M = o .long .narrow in
       rw (cell-at nan c (omega (arith, r .out-long)) i h)
-      (double-position (line s) i (prices-bounded s i (r .values) (omega arith)) n m (o .short .some) (o .order) (omega arith) (omega (arith, r .short)))
+      (double-position (line s) i (prices-bounded s i (r .values) (omega arith)) n m (o .short .some) (o .order)
+      (omega arith) (omega (arith, r .short)))
 
   module _ {work₀ work₁ : List Float} where
     -- One average: likewise.
-    pub single-writes-positions : SingleCall s n out₀ work₀ (Cells k) out₁ work₁ → (i : ℕ) → i < k → Position (getD out₁ i nan)
+    pub single-writes-positions : SingleCall s n out₀ work₀ (Cells k) out₁ work₁ → (i : ℕ) → i < k
+        → Position (getD out₁ i nan)
     single-writes-positions c i h =
         let b = bar nan accepted s (n ∷ []) (length work₀ ∷ []) (c .call) i h in
         let M = b .each .0 .narrow in
-        rw (b .cell) (single-position (line s) i (prices-bounded s i (b .values) (b .inside)) n (b .each .0 .some) (omega arith))
+        rw (b .cell) (single-position (line s) i (prices-bounded s i (b .values) (b .inside)) n (b .each .0 .some)
+        (omega arith))
 
     -- Middle: likewise.
-    pub mid-writes-positions : MidCall s n out₀ work₀ (Cells k) out₁ work₁ → (i : ℕ) → i < k → Position (getD out₁ i nan)
+    pub mid-writes-positions : MidCall s n out₀ work₀ (Cells k) out₁ work₁ → (i : ℕ) → i < k
+        → Position (getD out₁ i nan)
     mid-writes-positions c i h =
         let b = bar nan accepted s (n ∷ []) (length work₀ ∷ []) (c .call) i h in
         let M = b .each .0 .narrow in
-        rw (b .cell) (mid-position (line s) i (prices-bounded s i (b .values) (b .inside)) n (b .each .0 .some) (omega arith))
+        rw (b .cell) (mid-position (line s) i (prices-bounded s i (b .values) (b .inside)) n (b .each .0 .some)
+        (omega arith))

@@ -46,21 +46,39 @@ threeHalves = fin false 3 (negsuc 0)
 
 abbrev pub table : List Case
 table =
-    record { function = sma 2; series = 1 ∷ 2 ∷ 4 ∷ []; answer = Cells 3; cells = number nan ∷ number threeHalves ∷ number (num 3) ∷ [] }
+    record {
+      function = sma 2;
+      series = 1 ∷ 2 ∷ 4 ∷ [];
+      answer = Cells 3;
+      cells = number nan ∷ number threeHalves
+          ∷ number (num 3) ∷ [];
+    }
     ∷ record {
       function = double 1 2;
       series = 10 ∷ 12 ∷ 12 ∷ 11 ∷ [];
       answer = Cells 4;
       cells = number (num 0) ∷ number (num 1) ∷ number (num 1) ∷ number minusOne ∷ [];
     }
-    ∷ record { function = oneAverage 2; series = 1 ∷ 3 ∷ 5 ∷ []; answer = Cells 3; cells = number (num 0) ∷ number (num 0) ∷ number (num 1) ∷ [] }
+    ∷ record {
+      function = oneAverage 2;
+      series = 1 ∷ 3 ∷ 5 ∷ [];
+      answer = Cells 3;
+      cells = number (num 0)
+          ∷ number (num 0) ∷ number (num 1) ∷ [];
+    }
     ∷ record {
       function = ema 3;
       series = 2 ∷ 4 ∷ 6 ∷ 10 ∷ [];
       answer = Cells 4;
       cells = number nan ∷ number nan ∷ number (num 4) ∷ number (num 7) ∷ [];
     }
-    ∷ record { function = tickMean 2; series = 2 ∷ 3 ∷ []; answer = Cells 2; cells = ticks (pos 0) ∷ ticks (pos 3) ∷ [] }
+    ∷ record {
+      function = tickMean 2;
+      series = 2 ∷ 3 ∷ [];
+      answer = Cells 2;
+      cells = ticks (pos 0) ∷ ticks (pos 3)
+          ∷ [];
+    }
     ∷ []
 
 -- what the definitions answer and write, where the slices are just long enough
@@ -85,5 +103,7 @@ found c =
     record { function = c .function; series = c .series; answer = a; cells = cellsOf (c .function) s (countOf a) }
 
 pub starred : map found table ≡ table
-unfolding smaLine carried total toTick tickMeanLine singleLine runningMean doubleLine doubleAnswer mean windowSum sumFrom runningSum recur fromBar slices checked windowed answered accepted tick signOf add sub mul div ofInt toSigned whole lt eq le toBits
+unfolding smaLine carried total toTick tickMeanLine singleLine runningMean doubleLine doubleAnswer mean windowSum
+    sumFrom runningSum recur fromBar slices checked windowed answered accepted tick signOf add sub mul div ofInt
+    toSigned whole lt eq le toBits
 starred = refl

@@ -13,7 +13,8 @@ longestWindow = 4096
 abbrev pub longestPeriod : ℕ
 longestPeriod = 512
 
--- an accepted value is at most 2 ^ valuePower = 1,073,741,824 in magnitude, and a whole tick at most 2 ^ tickPower = 16,777,216
+-- an accepted value is at most 2 ^ valuePower = 1,073,741,824 in magnitude, and a whole tick at most 2 ^ tickPower =
+-- 16,777,216
 abbrev pub valuePower : ℕ
 valuePower = 30
 

@@ -1,4 +1,5 @@
--- 0.0 - x is x with the other sign, and +0.0 for both zeros; so the larger of it and x is the magnitude. Assumes nothing.
+-- 0.0 - x is x with the other sign, and +0.0 for both zeros; so the larger of it and x is the magnitude. Assumes
+-- nothing.
 use mathlib.Core.Bool.{Bool, true, false, not, cond}
 use mathlib.Core.Path.{_≡_, refl, sym, ap, _∙_}
 use Prim.Native.Nat.{ℕ, zero, suc, _+_, _-_, _*_, _/_, _^_, _≤_, _<_}
@@ -24,14 +25,17 @@ rest k h = omega arith
 few : (k : ℕ) → 53 + (1073 - k) ≤ 2098
 few k = omega arith
 
-own-value : (s : Bool) (m : ℕ) (e : ℤ) → T (fits binary64 (fin s m e)) → HasValue (round binary64 s (m * up e) (down e)) s (m * up e) (down e)
+own-value : (s : Bool) (m : ℕ) (e : ℤ) → T (fits binary64 (fin s m e))
+    → HasValue (round binary64 s (m * up e) (down e)) s (m * up e) (down e)
 own-value s m (pos k) f =
     let w = written s m (pos k) f in
     let moved : m * 2 ^ (k + 1074) ≡ m * 2 ^ k * 2 ^ 1074 = rw (pow-add, mul-assoc) in
-    round-exact binary64 s (m * 2 ^ k) 1 m (k + 1074) (zero-lt-suc 0) (w .digits) (rw moved (shl-lt 1024 1074 (w .size))) (rw (mul-one, moved))
+    round-exact binary64 s (m * 2 ^ k) 1 m (k + 1074) (zero-lt-suc 0) (w .digits)
+    (rw moved (shl-lt 1024 1074 (w .size))) (rw (mul-one, moved))
 own-value s m (negsuc k) f =
     let w = written s m (negsuc k) f in
-    let whole : 2 ^ (1073 - k) * 2 ^ suc k ≡ 2 ^ 1074 = sym (pow-add 2 (1073 - k) (suc k)) ∙ ap (λ (j : ℕ). 2 ^ j) (rest k (pow-le-back (suc k) 1074 (w .places))) in
+    let whole : 2 ^ (1073 - k) * 2 ^ suc k ≡ 2 ^ 1074 = sym (pow-add 2 (1073 - k) (suc k))
+    ∙ ap (λ (j : ℕ). 2 ^ j) (rest k (pow-le-back (suc k) 1074 (w .places))) in
     round-exact binary64 s (m * 1) (2 ^ suc k) m (1073 - k) (pow-pos (suc k)) (w .digits)
     (lt-of-lt-of-le (shl-lt 53 (1073 - k) (w .digits)) (pow-mono (few k)))
     (rw (mul-one, mul-assoc m (2 ^ (1073 - k)) (2 ^ suc k), whole))
@@ -44,13 +48,15 @@ packs : (s : Bool) (m : ℕ) (e : ℤ) → toBits binary64 (fin s m e) ≡ packe
 unfolding toBits packed
 packs s m e = refl
 
-same : (y : Float) (s : Bool) (m : ℕ) (e : ℤ) → T (fits binary64 y) → T (fits binary64 (fin s m e)) → HasValue y s (m * up e) (down e) → y ≡ fin s m e
+same : (y : Float) (s : Bool) (m : ℕ) (e : ℤ) → T (fits binary64 y) → T (fits binary64 (fin s m e))
+    → HasValue y s (m * up e) (down e) → y ≡ fin s m e
 same nan s m e g f v = absurd v
 same (inf t) s m e g f v = absurd v
 same (fin t n d) s m e g f v =
     let scaled : n * up d * 2 ^ 1074 * down e ≡ m * up e * 2 ^ 1074 * down d =
     rw (mul-right-comm (n * up d), v .1, mul-right-comm (m * up e)) in
-    let units = div-same (n * up d * 2 ^ 1074) (down d) (m * up e * 2 ^ 1074) (down e) (down-pos d) (down-pos e) scaled in
+    let units = div-same (n * up d * 2 ^ 1074) (down d) (m * up e * 2 ^ 1074) (down e) (down-pos d) (down-pos e)
+    scaled in
     let bits : toBits binary64 (fin t n d) ≡ toBits binary64 (fin s m e) = rw (packs t n d, packs s m e, v .0, units) in
     sym (ofBits-toBits binary64 (fin t n d) g) ∙ ap (ofBits binary64) bits ∙ ofBits-toBits binary64 (fin s m e) f
 
@@ -67,7 +73,8 @@ turned : (s t : Bool) (m : ℕ) (e : ℤ) → T (fits binary64 (fin s (suc m) e)
 unfolding fits
 turned s t m e f = f
 
-opposite : (s : Bool) (m : ℕ) (e : ℤ) → T (fits binary64 (fin s (suc m) e)) → sub binary64 plusZero (fin s (suc m) e) ≡ fin (not s) (suc m) e
+opposite : (s : Bool) (m : ℕ) (e : ℤ) → T (fits binary64 (fin s (suc m) e)) → sub binary64 plusZero (fin s (suc m) e)
+    ≡ fin (not s) (suc m) e
 unfolding sub add neg sum
 opposite false m e f =
     let n = suc m * up e in
@@ -101,7 +108,8 @@ positive-sum : (a b : ℕ) → 0 < a → 0 < a + b
 positive-sum a b h = omega arith
 
 -- the larger of 0.0 - x and x, the first of equals
-pub larger-of-both : (x : Float) → T (fits binary64 x) → cond (lt (sub binary64 plusZero x) x) x (sub binary64 plusZero x) ≡ magnitudeOf x
+pub larger-of-both : (x : Float) → T (fits binary64 x)
+    → cond (lt (sub binary64 plusZero x) x) x (sub binary64 plusZero x) ≡ magnitudeOf x
 unfolding magnitudeOf lt
 larger-of-both nan f = unfold sub add neg in refl
 larger-of-both (inf false) f = unfold sub add neg in refl

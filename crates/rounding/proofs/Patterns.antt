@@ -24,7 +24,8 @@ unfolding odd negative
 odd-negative d s zero k l = refl
 odd-negative d s (suc q) k l = refl
 
-fields-negative : (s : Bool) (x t : ℕ) → isNan (ofFields binary64 s x t) ≡ false → negative (ofFields binary64 s x t) ≡ s
+fields-negative : (s : Bool) (x t : ℕ) → isNan (ofFields binary64 s x t) ≡ false → negative (ofFields binary64 s x t)
+    ≡ s
 unfolding ofFields isNan negative
 fields-negative s zero t n = odd-negative 53 s t 0 1074
 fields-negative s (suc x) t n = go (eqb (suc x) 2047) (eqb t 0) n

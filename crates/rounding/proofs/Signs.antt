@@ -49,7 +49,8 @@ sign-less : (a b c : ℕ) → signOf (sum binary64 false a true b c) ≡ cond (l
 unfolding sum
 sign-less a b c = go (ltb a b)
   where
-    go : (t : Bool) → signOf (cond t (round binary64 true (b - a) c) (round binary64 false (a - b) c)) ≡ cond t minusOne plusOne
+    go : (t : Bool) → signOf (cond t (round binary64 true (b - a) c) (round binary64 false (a - b) c))
+        ≡ cond t minusOne plusOne
     go true = sign-round true (b - a) c
     go false = sign-round false (a - b) c
 
@@ -57,27 +58,34 @@ sign-more : (a b c : ℕ) → signOf (sum binary64 true a false b c) ≡ cond (l
 unfolding sum
 sign-more a b c = go (ltb a b) (ltb b a) (λ l. le-ltb b a (le-of-lt (ltb-true a b l)))
   where
-    go : (t u : Bool) → (t ≡ true → u ≡ false) → signOf (cond t (round binary64 false (b - a) c) (round binary64 u (a - b) c)) ≡ cond u minusOne plusOne
+    go : (t u : Bool) → (t ≡ true → u ≡ false)
+        → signOf (cond t (round binary64 false (b - a) c) (round binary64 u (a - b) c)) ≡ cond u minusOne plusOne
     go true u h = rw (h refl) (sign-round false (b - a) c)
     go false true h = sign-round true (a - b) c
     go false false h = sign-round false (a - b) c
 
--- The sign of x - y, for numbers x and y: -1 where x is below y, else +1. Only -0.0 less +0.0 is left out, which has the sign -1.
-pub sign-difference : (x y : Float) → T (finite x) → T (finite y) → (negative x ≡ true → lt x (fin false 0 (pos 0)) ≡ true)
+-- The sign of x - y, for numbers x and y: -1 where x is below y, else +1. Only -0.0 less +0.0 is left out, which has
+-- the sign -1.
+pub sign-difference : (x y : Float) → T (finite x) → T (finite y)
+    → (negative x ≡ true → lt x (fin false 0 (pos 0)) ≡ true)
     → signOf (sub binary64 x y) ≡ cond (lt x y) minusOne plusOne
 unfolding sub lt negative
 sign-difference nan y p q h = absurd p
 sign-difference (inf s) y p q h = absurd p
 sign-difference (fin s m e) nan p q h = absurd q
 sign-difference (fin s m e) (inf t) p q h = absurd q
-sign-difference (fin false m e) (fin false n d) p q h = sign-less (m * up e * down d) (n * up d * down e) (down e * down d)
-sign-difference (fin false m e) (fin true n d) p q h = sign-round false (m * up e * down d + n * up d * down e) (down e * down d)
+sign-difference (fin false m e) (fin false n d) p q h = sign-less (m * up e * down d) (n * up d * down e)
+    (down e * down d)
+sign-difference (fin false m e) (fin true n d) p q h = sign-round false (m * up e * down d + n * up d * down e)
+    (down e * down d)
 sign-difference (fin true m e) (fin false n d) p q h =
     let a = m * up e * down d in
     let b = n * up d * down e in
     let above : 0 < m * up e = cleared (m * up e) (down e) (ltb-true 0 (m * up e * 1 + 0 * 1 * down e) (h refl)) in
-    rw (lt-ltb 0 (a + b) (lt-of-lt-of-le (mul-pos above (down-pos d)) (le-add-right a b))) (sign-round true (a + b) (down e * down d))
+    rw (lt-ltb 0 (a + b) (lt-of-lt-of-le (mul-pos above (down-pos d)) (le-add-right a b)))
+    (sign-round true (a + b) (down e * down d))
   where
     cleared : (n d : ℕ) → 0 < n * 1 + 0 * 1 * d → 0 < n
     cleared n d l = omega arith
-sign-difference (fin true m e) (fin true n d) p q h = sign-more (m * up e * down d) (n * up d * down e) (down e * down d)
+sign-difference (fin true m e) (fin true n d) p q h = sign-more (m * up e * down d) (n * up d * down e)
+    (down e * down d)

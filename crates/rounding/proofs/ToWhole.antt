@@ -1,5 +1,5 @@
--- Why `round_to_whole` is right: doubling is exact below 2 ^ 52, the whole part of twice a number says where its half goes, and from 2 ^ 52 on every number is whole.
--- Assumes nothing.
+-- Why `round_to_whole` is right: doubling is exact below 2 ^ 52, the whole part of twice a number says where its half
+-- goes, and from 2 ^ 52 on every number is whole. Assumes nothing.
 use mathlib.Core.Bool.{Bool, true, false, _&&_, true≢false}
 use mathlib.Core.Path.{_≡_, refl, sym, ap, _∙_}
 use Prim.Native.Nat.{ℕ, zero, suc, _+_, _-_, _*_, _/_, _%_, _^_, _≤_, _<_, min}
@@ -82,7 +82,8 @@ few : (k : ℕ) → 53 + (1074 - k) ≤ 2098
 few k = omega arith
 
 -- twice a number, as a fraction
-twice : (m : ℕ) (e : ℤ) → Written m e → m * up e < 2 ^ 52 * down e → HasValue (mul binary64 (fin false m e) two) false (m * up e * 2) (down e * 1)
+twice : (m : ℕ) (e : ℤ) → Written m e → m * up e < 2 ^ 52 * down e
+    → HasValue (mul binary64 (fin false m e) two) false (m * up e * 2) (down e * 1)
 unfolding mul
 twice m (pos k) w h =
     let moved : m * 2 ^ (k + 1075) ≡ m * 2 ^ k * 2 ^ 1075 = rw (pow-add, mul-assoc) in
@@ -90,9 +91,17 @@ twice m (pos k) w h =
     (rw moved (lt-of-lt-of-le (shl-lt 52 1075 h) (lit≤ tt)))
     (rw (mul-one, moved) (mul-assoc (m * 2 ^ k) 2 (2 ^ 1074)))
 twice m (negsuc k) w h =
-    round-exact binary64 false (m * 1 * 2) (2 ^ suc k * 1) m (1074 - k) (mul-pos (pow-pos (suc k)) (zero-lt-suc 0)) (w .digits)
+    round-exact binary64 false (m * 1 * 2) (2 ^ suc k * 1) m (1074 - k) (mul-pos (pow-pos (suc k)) (zero-lt-suc 0))
+    (w .digits)
     (lt-of-lt-of-le (shl-lt 53 (1074 - k) (w .digits)) (pow-mono (few k)))
-    (rw (mul-one, mul-one, mul-assoc m (2 ^ (1074 - k)), ← pow-add 2 (1074 - k) (suc k), rest k (pow-le-back (suc k) 1074 (w .places))) (mul-assoc m 2 (2 ^ 1074)))
+    (rw (
+      mul-one,
+      mul-one,
+      mul-assoc m (2 ^ (1074 - k)),
+      ← pow-add 2 (1074 - k) (suc k),
+      rest k
+          (pow-le-back (suc k) 1074 (w .places)),
+    ) (mul-assoc m 2 (2 ^ 1074)))
 
 -- what the cast asks and gives of a value below 2 ^ 53
 pub record Cut (y : Float) (n : ℕ) : Type 0 where
@@ -102,7 +111,8 @@ pub record Cut (y : Float) (n : ℕ) : Type 0 where
 
 -- n / d is a / c
 under : (n d a c p : ℕ) → 0 < c → 0 < d → n * c ≡ a * d → a < p * c → n < p * d
-under n d a c p C D v h = lt-of-mul-lt-mul-right c (lt-of-le-of-lt (le-of-eq v) (lt-of-lt-of-le (mul-lt-mul-of-pos-right h D) (le-of-eq (mul-right-comm p c d))))
+under n d a c p C D v h = lt-of-mul-lt-mul-right c
+    (lt-of-le-of-lt (le-of-eq v) (lt-of-lt-of-le (mul-lt-mul-of-pos-right h D) (le-of-eq (mul-right-comm p c d))))
 
 cut : (y : Float) (a c : ℕ) → 0 < c → HasValue y false a c → a < 2 ^ 53 * c → Cut y (a / c)
 unfolding lt toUnsigned
@@ -129,8 +139,10 @@ cut (fin false m e) a c p v h =
 half-of-more : (n d : ℕ) → 0 < d → (n * 2 / (d * 1) + 1) / 2 ≡ (2 * n + d) / (2 * d)
 half-of-more n d p = rw (mul-one, ← add-div-right (n * 2) p, div-div-eq-div-mul, mul-comm n 2, mul-comm d 2)
 
-same-fraction : (s : Bool) (m : ℕ) (e : ℤ) (q : ℕ) → m * up e * 1 ≡ q * down e → round binary64 s (m * up e * 1) (down e * 1) ≡ round binary64 s q 1
-same-fraction s m e q v = round-same binary64 s (m * up e * 1) (down e * 1) q 1 (rw mul-one (down-pos e)) (zero-lt-suc 0) (rw (mul-one, v, mul-one))
+same-fraction : (s : Bool) (m : ℕ) (e : ℤ) (q : ℕ) → m * up e * 1 ≡ q * down e
+    → round binary64 s (m * up e * 1) (down e * 1) ≡ round binary64 s q 1
+same-fraction s m e q v = round-same binary64 s (m * up e * 1) (down e * 1) q 1 (rw mul-one (down-pos e))
+    (zero-lt-suc 0) (rw (mul-one, v, mul-one))
 
 -- a whole number with a sign
 times-one : (y : Float) (s : Bool) (q : ℕ) → HasValue y false q 1 → mul binary64 y (one s) ≡ round binary64 s q 1
@@ -191,7 +203,8 @@ halves (fin s m e) f l =
 no-fraction : (m p : ℕ) → m < 2 ^ 53 → 0 < p → 1 * 2 ^ 52 * (2 * p) ≤ m * 1 * 1 → ⊥
 no-fraction m p h l g = omega arith
 
-pub whole-already : (x : Float) → T (fits binary64 x) → lt (magnitudeOf x) (fin false 1 (pos 52)) ≡ false → x ≡ roundToWhole x
+pub whole-already : (x : Float) → T (fits binary64 x) → lt (magnitudeOf x) (fin false 1 (pos 52)) ≡ false → x
+    ≡ roundToWhole x
 unfolding lt magnitudeOf roundToWhole
 whole-already nan f l = refl
 whole-already (inf s) f l = refl
@@ -200,7 +213,8 @@ whole-already (fin s m (pos k)) f l =
     let n = m * 2 ^ k in
     let moved : m * 2 ^ (k + 1074) ≡ n * 2 ^ 1074 = rw (pow-add, mul-assoc) in
     let back : HasValue (round binary64 s n 1) s n 1 =
-    round-exact binary64 s n 1 m (k + 1074) (zero-lt-suc 0) (w .digits) (rw moved (shl-lt 1024 1074 (w .size))) (rw (mul-one, moved)) in
+    round-exact binary64 s n 1 m (k + 1074) (zero-lt-suc 0) (w .digits) (rw moved (shl-lt 1024 1074 (w .size)))
+    (rw (mul-one, moved)) in
     whole-unique binary64 (fin s m (pos k)) (round binary64 s n 1) s n f (round-fits binary64 s n 1) (refl, refl) back
     ∙ ap (λ (q : ℕ). round binary64 s q 1) (halved n)
   where

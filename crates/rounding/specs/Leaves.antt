@@ -1,6 +1,6 @@
 -- The leaves: what `magnitude`, `sign` and `round_to_whole` give, for every f64. `is_nan` gives `isNan` of lib.Ieee.
--- A float is `nan`, `inf s` or `fin s m e`, which is m * 2 ^ e, negative where s is true; there is one `nan`, so no promise speaks of the bits inside a NaN.
--- Assumes nothing.
+-- A float is `nan`, `inf s` or `fin s m e`, which is m * 2 ^ e, negative where s is true; there is one `nan`, so no
+-- promise speaks of the bits inside a NaN. Assumes nothing.
 use mathlib.Core.Bool.{Bool, true, false}
 use Prim.Native.Nat.{ℕ, _+_, _*_, _/_}
 use lib.IntN.{ℤ, pos}

@@ -1,4 +1,5 @@
--- Every finite number of a format is a whole number of units, the format's smallest value 2 ^ -low, with a sign. Assumes nothing.
+-- Every finite number of a format is a whole number of units, the format's smallest value 2 ^ -low, with a sign.
+-- Assumes nothing.
 use mathlib.Core.Path.{_≡_}
 use mathlib.Core.Bool.{Bool, cond}
 use Prim.Native.Nat.{ℕ, _*_, _/_, _^_, _≤_, _%_}
@@ -32,8 +33,10 @@ pub record Number (f : Format) (x : Float) : Type 0 where
   pub fit : T (fits f x)
   pub ends : T (finite x)
 
--- x is the number of the format f that is nearest to z / n: none is nearer, and where another is as near, the last bit of x is 0
+-- x is the number of the format f that is nearest to z / n: none is nearer, and where another is as near, the last
+-- bit of x is 0
 pub record NearestTo (f : Format) (z : ℤ) (n : ℕ) (x : Float) : Type 0 where
   pub number : Number f x
   pub least : (y : Float) → Number f y → distance f x z n ≤ distance f y z n
-  pub even : (y : Float) → Number f y → distance f x z n ≡ distance f y z n → ¬ (signedUnits f x ≡ signedUnits f y) → toBits f x % 2 ≡ 0
+  pub even : (y : Float) → Number f y → distance f x z n ≡ distance f y z n → ¬ (signedUnits f x ≡ signedUnits f y)
+      → toBits f x % 2 ≡ 0

@@ -1,6 +1,6 @@
--- A number that stands for a fraction, and how far it is from it. Each operation adds what its rounding may be off by, so the error of a
--- sum or of a mean is read off the operations; and numbers that stand for different fractions are in the fractions' order where their
--- errors are too small to reach. Assumes nothing.
+-- A number that stands for a fraction, and how far it is from it. Each operation adds what its rounding may be off
+-- by, so the error of a sum or of a mean is read off the operations; and numbers that stand for different fractions
+-- are in the fractions' order where their errors are too small to reach. Assumes nothing.
 use mathlib.Core.Path.{_≡_, refl, sym, ap, _∙_}
 use mathlib.Core.Logic.{_⊎_, inl, inr}
 use mathlib.Core.Bool.{Bool, true, false, not, true≢false, cond}
@@ -88,7 +88,8 @@ within {f} {x} {z} {c} {e} a =
     let h = a .close in
     omega arith
 
-about : {f : Format} {x : Float} {z : ℤ} {c e : ℕ} → Number f x → Within f (signedUnits f x) z c (e * fine f) → About f x z c e
+about : {f : Format} {x : Float} {z : ℤ} {c e : ℕ} → Number f x → Within f (signedUnits f x) z c (e * fine f)
+    → About f x z c e
 unfolding distance
 about {f} {x} {z} {c} {e} m n =
     let v = signedUnits f x in
@@ -99,13 +100,21 @@ about {f} {x} {z} {c} {e} m n =
 
 -- ---- a fraction rounded
 
-signed-within : (f : Format) (s : Bool) (g a c e : ℕ) → Near (g * c * 2) (a * 2 ^ low f * 2) e → Within f (signed s g) (signed s a) c e
-signed-within f true g a c e n = rw (parts-signed true g .0, parts-signed true g .1, parts-signed true a .0, parts-signed true a .1) (omega arith)
+signed-within : (f : Format) (s : Bool) (g a c e : ℕ) → Near (g * c * 2) (a * 2 ^ low f * 2) e
+    → Within f (signed s g) (signed s a) c e
+signed-within f true g a c e n = rw (
+  parts-signed true g .0,
+  parts-signed true g .1,
+  parts-signed true a .0,
+  parts-signed true a .1,
+) (omega arith)
 signed-within f false g a c e n = omega arith
 
-pub about-worth : {f : Format} {x : Float} {s : Bool} {g : ℕ} (a : ℕ) {c e : ℕ} → Worth f x s g → Near (g * c * 2) (a * 2 ^ low f * 2) (e * fine f)
+pub about-worth : {f : Format} {x : Float} {s : Bool} {g : ℕ} (a : ℕ) {c e : ℕ} → Worth f x s g
+    → Near (g * c * 2) (a * 2 ^ low f * 2) (e * fine f)
     → About f x (signed s a) c e
-about-worth {f} {x} {s} {g} a {c} {e} w n = about (worth-number w) (rw (worth-units w) (signed-within f s g a c (e * fine f) n))
+about-worth {f} {x} {s} {g} a {c} {e} w n = about (worth-number w)
+    (rw (worth-units w) (signed-within f s g a c (e * fine f) n))
 
 -- a format reaches far below its last digit
 wide : (f : Format) → prec f ≤ low f
@@ -123,10 +132,12 @@ fines-up f i =
     rw e (pow-add 2 i (low f - prec f))
 
 -- below 2 ^ i
-pub about-round : (f : Format) (s : Bool) (a c i : ℕ) → 0 < c → a < 2 ^ i * c → i ≤ emax f → About f (round f s a c) (signed s a) c (2 ^ i * c)
+pub about-round : (f : Format) (s : Bool) (a c i : ℕ) → 0 < c → a < 2 ^ i * c → i ≤ emax f
+    → About f (round f s a c) (signed s a) c (2 ^ i * c)
 about-round f s a c i C h l =
     let j = low f + i in
-    let k : a * 2 ^ low f < 2 ^ j * c = rw (pow-add 2 (low f) i) (omega (arith, mul-lt-mul-of-pos-right h (pow-pos (low f)))) in
+    let k : a * 2 ^ low f < 2 ^ j * c = rw (pow-add 2 (low f) i)
+    (omega (arith, mul-lt-mul-of-pos-right h (pow-pos (low f)))) in
     let n = grid-within f a c C j k in
     let e = ap (λ (z : ℕ). c * z) (fines-up f i) in
     about-worth a (round-worth f s a c (grid-range f a c C j k (omega arith))) (omega arith)
@@ -140,11 +151,13 @@ sizes f (pos v) (negsuc z) c e n = omega arith
 sizes f (negsuc v) (pos z) c e n = omega arith
 sizes f (negsuc v) (negsuc z) c e n = omega arith
 
-size-near : {f : Format} {x : Float} {z : ℤ} {c e : ℕ} → About f x z c e → Near (inUnits f x * c * 2) (natAbs z * 2 ^ low f * 2) (e * fine f)
+size-near : {f : Format} {x : Float} {z : ℤ} {c e : ℕ} → About f x z c e
+    → Near (inUnits f x * c * 2) (natAbs z * 2 ^ low f * 2) (e * fine f)
 size-near {f} {x} {z} {c} {e} a = rw abs-units at (sizes f (signedUnits f x) z c (e * fine f) (within a))
 
 -- how many units at most
-size-of : {f : Format} {x : Float} {z : ℤ} {c e : ℕ} → About f x z c e → inUnits f x * c * 2 ≤ (natAbs z * 2 ^ prec f * 2 + e) * fine f
+size-of : {f : Format} {x : Float} {z : ℤ} {c e : ℕ} → About f x z c e
+    → inUnits f x * c * 2 ≤ (natAbs z * 2 ^ prec f * 2 + e) * fine f
 size-of {f} {x} {z} {c} {e} a = let l = rw (fines f) at (size-near a .above-by) in omega arith
 
 -- a sum is one fraction rounded
@@ -160,13 +173,26 @@ apart f a b c true h k =
     let l : a < b = h tt in
     let p = parts-signed true b in
     let q = parts-signed true (b - a) in
-    record { sign = true; count = b - a; is = refl; of = parts-same (negℤ (pos (b - a))) (pos a +ℤ negℤ (pos b)) (omega (arith, parts-add (pos a) (negℤ (pos b)))) }
+    record {
+      sign = true;
+      count = b - a;
+      is = refl;
+      of = parts-same (negℤ (pos (b - a))) (pos a +ℤ negℤ (pos b))
+          (omega (arith, parts-add (pos a) (negℤ (pos b))));
+    }
 apart f a b c false h k =
     let l : b ≤ a = k tt in
     let p = parts-signed true b in
-    record { sign = false; count = a - b; is = refl; of = parts-same (pos (a - b)) (pos a +ℤ negℤ (pos b)) (omega (arith, parts-add (pos a) (negℤ (pos b)))) }
+    record {
+      sign = false;
+      count = a - b;
+      is = refl;
+      of = parts-same (pos (a - b)) (pos a +ℤ negℤ (pos b))
+          (omega (arith, parts-add (pos a) (negℤ (pos b))));
+    }
 
-sum-rounds : (f : Format) (s : Bool) (a : ℕ) (t : Bool) (b c : ℕ) → Rounds f (sum f s a t b c) (signed s a +ℤ signed t b) c
+sum-rounds : (f : Format) (s : Bool) (a : ℕ) (t : Bool) (b c : ℕ)
+    → Rounds f (sum f s a t b c) (signed s a +ℤ signed t b) c
 unfolding sum
 sum-rounds f false a false b c = record { sign = false; count = a + b; is = refl; of = refl }
 sum-rounds f true a true b c = record { sign = true; count = a + b; is = refl; of = negℤ-+ℤ (pos a) (pos b) }
@@ -178,17 +204,26 @@ signed-back : (f : Format) (x : Float) → signed (negative x) (inUnits f x) ≡
 unfolding signedUnits
 signed-back f x = refl
 
-add-rounds : {f : Format} {x y : Float} → Number f x → Number f y → Rounds f (add f x y) (signedUnits f x +ℤ signedUnits f y) (2 ^ low f)
+add-rounds : {f : Format} {x y : Float} → Number f x → Number f y
+    → Rounds f (add f x y) (signedUnits f x +ℤ signedUnits f y) (2 ^ low f)
 add-rounds {f} {x} {y} n m =
     let r = sum-rounds f (negative x) (inUnits f x) (negative y) (inUnits f y) (2 ^ low f) in
-    record { sign = r .sign; count = r .count; is = worth-add (worth x n) (worth y m) ∙ r .is; of = r .of ∙ rw (signed-back f x, signed-back f y) }
+    record {
+      sign = r .sign;
+      count = r .count;
+      is = worth-add (worth x n) (worth y m) ∙ r .is;
+      of = r .of
+          ∙ rw (signed-back f x, signed-back f y);
+    }
 
-rounds-about : {f : Format} {x : Float} {z : ℤ} {c : ℕ} (i : ℕ) → Rounds f x z c → 0 < c → natAbs z < 2 ^ i * c → i ≤ emax f → About f x z c (2 ^ i * c)
+rounds-about : {f : Format} {x : Float} {z : ℤ} {c : ℕ} (i : ℕ) → Rounds f x z c → 0 < c → natAbs z < 2 ^ i * c
+    → i ≤ emax f → About f x z c (2 ^ i * c)
 rounds-about {f} {x} {z} {c} i r C h l =
     rw (r .is, ← r .of) (about-round f (r .sign) (r .count) c i C (rw (← abs-signed (r .sign) (r .count), r .of) h) l)
 
 near-times : {a b e : ℕ} (c : ℕ) → Near a b e → Near (a * c) (b * c) (e * c)
-near-times {a} {b} {e} c n = let p = mul-le-mul-right c (n .above-by) in let q = mul-le-mul-right c (n .below-by) in omega arith
+near-times {a} {b} {e} c n = let p = mul-le-mul-right c (n .above-by) in let q = mul-le-mul-right c (n .below-by) in
+    omega arith
 
 near-over : {a b e : ℕ} (c : ℕ) → 0 < c → Near (a * c) (b * c) (e * c) → Near a b e
 near-over {a} {b} {e} c C n = record {
@@ -197,16 +232,21 @@ near-over {a} {b} {e} c C n = record {
 }
 
 -- the sum of two numbers that stand for fractions of the same denominator, and stay below 2 ^ i
-pub about-add : {f : Format} {x y : Float} {z w : ℤ} {c d e : ℕ} (i : ℕ) → About f x z c d → About f y w c e → i ≤ emax f
-    → (natAbs z + natAbs w) * 2 ^ prec f * 2 + d + e < 2 ^ i * c * 2 ^ prec f * 2 → About f (add f x y) (z +ℤ w) c (d + e + 2 ^ i * c)
+pub about-add : {f : Format} {x y : Float} {z w : ℤ} {c d e : ℕ} (i : ℕ) → About f x z c d → About f y w c e
+    → i ≤ emax f
+    → (natAbs z + natAbs w) * 2 ^ prec f * 2 + d + e < 2 ^ i * c * 2 ^ prec f * 2
+    → About f (add f x y) (z +ℤ w) c (d + e + 2 ^ i * c)
 about-add {f} {x} {y} {z} {w} {c} {d} {e} i p q l h =
     let u = 2 ^ low f in
     let v = signedUnits f x +ℤ signedUnits f y in
     let k = mul-lt-mul-of-pos-right h (pow-pos (low f - prec f)) in
-    let few : inUnits f x + inUnits f y < 2 ^ i * u = rw (fines f) (lt-of-mul-lt-mul-right (c * 2) (omega (arith, size-of p, size-of q))) in
-    let r = rounds-about i (add-rounds (p .number) (q .number)) (pow-pos (low f)) (omega (arith, abs-add (signedUnits f x) (signedUnits f y), abs-units f x, abs-units f y)) l in
+    let few : inUnits f x + inUnits f y < 2 ^ i * u = rw (fines f)
+    (lt-of-mul-lt-mul-right (c * 2) (omega (arith, size-of p, size-of q))) in
+    let r = rounds-about i (add-rounds (p .number) (q .number)) (pow-pos (low f))
+    (omega (arith, abs-add (signedUnits f x) (signedUnits f y), abs-units f x, abs-units f y)) l in
     let t = signedUnits f (add f x y) in
-    let n : Near ((above t + below v) * 2) ((above v + below t) * 2) (2 ^ i * fine f) = near-over u (pow-pos (low f)) (omega (arith, within r)) in
+    let n : Near ((above t + below v) * 2) ((above v + below t) * 2) (2 ^ i * fine f) = near-over u (pow-pos (low f))
+    (omega (arith, within r)) in
     let m = near-times c n in
     let a = ap (λ (k : ℕ). k * c) (parts-add (signedUnits f x) (signedUnits f y)) in
     let b = ap (λ (k : ℕ). k * u) (parts-add z w) in
@@ -219,26 +259,34 @@ signed-int (negsuc n) = refl
 -- a whole number stands for itself
 pub about-whole : (f : Format) (z : ℤ) → natAbs z ≤ 2 ^ prec f → About f (ofInt f z) z 1 0
 about-whole f z h =
-    let a : About f (ofInt f z) (signed (isNegative z) (natAbs z)) 1 0 = about-worth (natAbs z) (worth-whole f z h) (omega arith) in
+    let a : About f (ofInt f z) (signed (isNegative z) (natAbs z)) 1 0 = about-worth (natAbs z) (worth-whole f z h)
+    (omega arith) in
     rw signed-int at a
 
 -- and -0.0, with which a sum begins, for 0
 pub about-minus-zero : (f : Format) (c : ℕ) → About f (fin true 0 (pos 0)) (pos 0) c 0
 unfolding fits
-about-minus-zero f c = about-worth {s = true} {g = 0} 0 (record { fit = tt; value = (refl, simp zero-mul) }) (omega arith)
+about-minus-zero f c = about-worth {s = true} {g = 0} 0 (record { fit = tt; value = (refl, simp zero-mul) })
+    (omega arith)
 
 -- divided by a whole number, to less than 2 ^ i
-pub about-div : {f : Format} {x : Float} {z : ℤ} {c e : ℕ} (i n : ℕ) → About f x z c e → 0 < n → n ≤ 2 ^ prec f → i ≤ emax f
-    → natAbs z * 2 ^ prec f * 2 + e < 2 ^ i * (c * n) * 2 ^ prec f * 2 → About f (div f x (ofInt f (pos n))) z (c * n) (e + 2 ^ i * (c * n))
+pub about-div : {f : Format} {x : Float} {z : ℤ} {c e : ℕ} (i n : ℕ) → About f x z c e → 0 < n → n ≤ 2 ^ prec f
+    → i ≤ emax f
+    → natAbs z * 2 ^ prec f * 2 + e < 2 ^ i * (c * n) * 2 ^ prec f * 2
+    → About f (div f x (ofInt f (pos n))) z (c * n) (e + 2 ^ i * (c * n))
 about-div {f} {x} {z} {c} {e} i n p N k l h =
     let u = 2 ^ low f in
     let v = signedUnits f x in
     let g = mul-lt-mul-of-pos-right h (pow-pos (low f - prec f)) in
-    let few : inUnits f x < 2 ^ i * (n * u) = rw (fines f) (lt-of-mul-lt-mul-right (c * 2) (omega (arith, size-of p))) in
+    let few : inUnits f x < 2 ^ i * (n * u) = rw (fines f)
+    (lt-of-mul-lt-mul-right (c * 2) (omega (arith, size-of p))) in
     let r : About f (div f x (ofInt f (pos n))) v (n * u) (2 ^ i * (n * u)) =
-    rw (worth-div (worth x (p .number)) n N k) (rw (signed-back f x) at (about-round f (negative x) (inUnits f x) (n * u) i (mul-pos N (pow-pos (low f))) few l)) in
+    rw (worth-div (worth x (p .number)) n N k)
+    (rw (signed-back f x) at (about-round f (negative x) (inUnits f x) (n * u) i (mul-pos N (pow-pos (low f))) few
+    l)) in
     let t = signedUnits f (div f x (ofInt f (pos n))) in
-    let q : Near ((above t * n + below v) * 2) ((above v + below t * n) * 2) (2 ^ i * n * fine f) = near-over u (pow-pos (low f)) (omega (arith, within r)) in
+    let q : Near ((above t * n + below v) * 2) ((above v + below t * n) * 2) (2 ^ i * n * fine f) = near-over u
+    (pow-pos (low f)) (omega (arith, within r)) in
     let m = near-times c q in
     about (r .number) (omega (arith, within p))
 
@@ -252,7 +300,8 @@ spread : (a b c v u x d g k : ℕ) → (a * c + v * u) * 2 ≤ (b * u + x * c) *
     → a * c * k * 2 + v * u * k * 2 ≤ b * u * k * 2 + x * c * k * 2 + d * g * k
 spread a b c v u x d g k h = omega (arith, mul-le-mul-right k h)
 
-linear : (x⁺ x⁻ y⁺ y⁻ z⁺ z⁻ w⁺ w⁻ d e u : ℕ) → x⁺ * 2 + z⁻ * 2 ≤ z⁺ * 2 + x⁻ * 2 + d → w⁺ * 2 + y⁻ * 2 ≤ y⁺ * 2 + w⁻ * 2 + e
+linear : (x⁺ x⁻ y⁺ y⁻ z⁺ z⁻ w⁺ w⁻ d e u : ℕ) → x⁺ * 2 + z⁻ * 2 ≤ z⁺ * 2 + x⁻ * 2 + d
+    → w⁺ * 2 + y⁻ * 2 ≤ y⁺ * 2 + w⁻ * 2 + e
     → u + z⁺ + w⁻ ≤ w⁺ + z⁻ → d + e < u * 2 → x⁺ + y⁻ < y⁺ + x⁻
 linear x⁺ x⁻ y⁺ y⁻ z⁺ z⁻ w⁺ w⁻ d e u h k o l = omega arith
 
@@ -265,7 +314,8 @@ reach x⁺ x⁻ y⁺ y⁻ z⁺ z⁻ w⁺ w⁻ c b d e p u g G eq h k o l =
     let o' = mul-le-mul-right u o in
     let l' = mul-lt-mul-of-pos-right l G in
     let r =
-    linear (x⁺ * c * b) (x⁻ * c * b) (y⁺ * b * c) (y⁻ * b * c) (z⁺ * u * b) (z⁻ * u * b) (w⁺ * u * c) (w⁻ * u * c) (d * g * b) (e * g * c) u
+    linear (x⁺ * c * b) (x⁻ * c * b) (y⁺ * b * c) (y⁻ * b * c) (z⁺ * u * b) (z⁻ * u * b) (w⁺ * u * c) (w⁻ * u * c)
+    (d * g * b) (e * g * c) u
     (spread x⁺ z⁺ c z⁻ u x⁻ d g b h) (spread w⁺ y⁺ u y⁻ b w⁻ e g c k) (omega arith) (omega arith) in
     lt-of-mul-lt-mul-right (c * b) (omega arith)
 
@@ -277,13 +327,16 @@ about-lt {f} {x} {y} {z} {w} {c} {b} {d} {e} p q g h =
     let t = signedUnits f y in
     let i = parts-times z b in
     let j = parts-times w c in
-    let o : above z * b + below w * c < above w * c + below z * b = omega (arith, parts-less (z *ℤ pos b) (w *ℤ pos c) g) in
-    let less = reach (above v) (below v) (above t) (below t) (above z) (below z) (above w) (below w) c b d e (2 ^ prec f) (2 ^ low f) (fine f)
+    let o : above z * b + below w * c < above w * c + below z * b = omega
+    (arith, parts-less (z *ℤ pos b) (w *ℤ pos c) g) in
+    let less = reach (above v) (below v) (above t) (below t) (above z) (below z) (above w) (below w) c b d e
+    (2 ^ prec f) (2 ^ low f) (fine f)
     (pow-pos (low f - prec f)) (fines f) (within p .above-by) (within q .below-by) o h in
     rw (number-lt (p .number) (q .number), parts-lt v t) (lt-ltb (above v + below t) (above t + below v) less)
 
 -- so different fractions decide the order
-pub about-order : {f : Format} {x y : Float} {z w : ℤ} {c b d e : ℕ} → About f x z c d → About f y w b e → ¬ (z *ℤ pos b ≡ w *ℤ pos c)
+pub about-order : {f : Format} {x y : Float} {z w : ℤ} {c b d e : ℕ} → About f x z c d → About f y w b e
+    → ¬ (z *ℤ pos b ≡ w *ℤ pos c)
     → d * b + e * c < 2 ^ prec f * 2 → lt x y ≡ ltZ (z *ℤ pos b) (w *ℤ pos c)
 about-order {f} {x} {y} {z} {w} {c} {b} p q k h = go (one-of-three (z *ℤ pos b) (w *ℤ pos c))
   where
@@ -292,7 +345,8 @@ about-order {f} {x} {y} {z} {w} {c} {b} p q k h = go (one-of-three (z *ℤ pos b
     go (inl l) = about-lt p q l h ∙ sym l
     go (inr (inl g)) =
         number-lt (p .number) (q .number)
-        ∙ not-less (signedUnits f y) (signedUnits f x) (sym (number-lt (q .number) (p .number)) ∙ about-lt q p g (omega arith))
+        ∙ not-less (signedUnits f y) (signedUnits f x)
+        (sym (number-lt (q .number) (p .number)) ∙ about-lt q p g (omega arith))
         ∙ sym (not-less (w *ℤ pos c) (z *ℤ pos b) g)
     go (inr (inr e)) = absurd (k e)
 
@@ -302,7 +356,8 @@ zero-is binary32 = refl
 zero-is binary64 = refl
 
 -- a number that stands for a negative fraction is below 0, so what has its fraction's sign is not -0.0
-pub about-below : {f : Format} {x : Float} {z : ℤ} {c e : ℕ} → About f x z c e → negative x ≡ isNegative z → e < 2 ^ prec f * 2
+pub about-below : {f : Format} {x : Float} {z : ℤ} {c e : ℕ} → About f x z c e → negative x ≡ isNegative z
+    → e < 2 ^ prec f * 2
     → negative x ≡ true → lt x (fin false 0 (pos 0)) ≡ true
 about-below {f} {x} {z} {c} {e} a s h = go z a s
   where
@@ -315,12 +370,14 @@ about-below {f} {x} {z} {c} {e} a s h = go z a s
         rw (← zero-is f) (about-lt a (about-whole f (pos 0) zero-le) less (omega arith))
 
 -- the sign of a difference, where the first has its fraction's sign
-pub about-sign : {x y : Float} {z w : ℤ} {c b d e : ℕ} → About binary64 x z c d → About binary64 y w b e → negative x ≡ isNegative z
+pub about-sign : {x y : Float} {z w : ℤ} {c b d e : ℕ} → About binary64 x z c d → About binary64 y w b e → negative x
+    ≡ isNegative z
     → d < 2 ^ 53 * 2 → signOf (sub binary64 x y) ≡ cond (lt x y) minusOne plusOne
 about-sign {x} {y} p q s h = sign-difference x y (p .number .ends) (q .number .ends) (about-below p s h)
 
 -- and a number that stands for a fraction other than 0 is not 0
-pub about-some : {f : Format} {x : Float} {z : ℤ} {c e : ℕ} → About f x z c e → 0 < natAbs z → e < 2 ^ prec f * 2 → eq x (fin false 0 (pos 0)) ≡ false
+pub about-some : {f : Format} {x : Float} {z : ℤ} {c e : ℕ} → About f x z c e → 0 < natAbs z → e < 2 ^ prec f * 2
+    → eq x (fin false 0 (pos 0)) ≡ false
 about-some {f} {x} {z} {c} {e} a h l =
     let k = mul-le-mul-right (2 ^ low f) h in
     let m = mul-lt-mul-of-pos-right l (pow-pos (low f - prec f)) in

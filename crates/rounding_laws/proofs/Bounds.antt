@@ -67,14 +67,16 @@ not-more a b v = go (ltb a b) v (ltb→lt a b)
     go false false p q e = absurd e
 
 -- the order of two floats of one sign is that of their magnitudes
-pub le-plus : (m : ℕ) (e : ℤ) (n : ℕ) (d : ℤ) → T (le (fin false m e) (fin false n d)) → m * up e * down d ≤ n * up d * down e
+pub le-plus : (m : ℕ) (e : ℤ) (n : ℕ) (d : ℤ) → T (le (fin false m e) (fin false n d))
+    → m * up e * down d ≤ n * up d * down e
 unfolding le lt eq
 le-plus m e n d l =
     let a = m * up e * down d in
     let b = n * up d * down e in
     not-more a b (eqb a b) (eqb→eq a b) l
 
-pub le-minus : (m : ℕ) (e : ℤ) (n : ℕ) (d : ℤ) → T (le (fin true n d) (fin true m e)) → m * up e * down d ≤ n * up d * down e
+pub le-minus : (m : ℕ) (e : ℤ) (n : ℕ) (d : ℤ) → T (le (fin true n d) (fin true m e))
+    → m * up e * down d ≤ n * up d * down e
 unfolding le lt eq
 le-minus m e n d l =
     let a = m * up e * down d in
@@ -86,7 +88,8 @@ values x y a c b v w l =
     let (m, e, p, v') = shape x false a c v in
     let (n, d, q, w') = shape y false b 1 w in
     rw mul-one at
-    (transfer a b c 1 (m * up e) (n * up d) (down e) (down d) (down-pos e) (down-pos d) (sym v') (sym w') (le-plus m e n d (rw (p, q) at l)))
+    (transfer a b c 1 (m * up e) (n * up d) (down e) (down d) (down-pos e) (down-pos d) (sym v') (sym w')
+    (le-plus m e n d (rw (p, q) at l)))
 
 roomy : (f : Format) → low f + suc (prec f) ≤ low f + emax f
 roomy binary32 = lit≤ tt
@@ -98,19 +101,28 @@ module _ (f : Format) (s : Bool) (a c b : ℕ) (C : 0 < c) (B : b ≤ 2 ^ prec f
   in-range =
       let l = mul-le-mul-right c B in
       let g : a < 2 ^ suc (prec f) * c = rw (pow-suc 2 (prec f)) (omega (arith, mul-pos (pow-pos (prec f)) C)) in
-      let k : a * 2 ^ low f < 2 ^ (low f + suc (prec f)) * c = rw (pow-add 2 (low f) (suc (prec f))) (omega (arith, mul-lt-mul-of-pos-right g (pow-pos (low f)))) in
+      let k : a * 2 ^ low f < 2 ^ (low f + suc (prec f)) * c = rw (pow-add 2 (low f) (suc (prec f)))
+      (omega (arith, mul-lt-mul-of-pos-right g (pow-pos (low f)))) in
       grid-range f a c C (low f + suc (prec f)) k (roomy f)
 
   few : grid f a c ≤ b * 2 ^ low f
   few =
-      values (round f false a c) (round f false b 1) (grid f a c) (2 ^ low f) b (round-val f a c in-range) (round-whole f false b B)
+      values (round f false a c) (round f false b 1) (grid f a c) (2 ^ low f) b (round-val f a c in-range)
+      (round-whole f false b B)
       (round-mono f a c b 1 C (zero-lt-suc 0) (rw mul-one h))
 
   round-at-most : AtMost b (round f s a c)
   round-at-most =
       let (m, e, p, v) = shape (round f s a c) s (grid f a c) (2 ^ low f) (round-worth f s a c in-range .value) in
       let l = mul-le-mul-right (down e) few in
-      record { sign = s; digits = m; place = e; is = p; size = le-of-mul-le-mul-right {k = 2 ^ low f} (omega arith) (pow-pos (low f)) }
+      record {
+        sign = s;
+        digits = m;
+        place = e;
+        is = p;
+        size = le-of-mul-le-mul-right {k = 2 ^ low f} (omega arith)
+            (pow-pos (low f));
+      }
 
 -- ---- the operations
 
@@ -121,11 +133,13 @@ either false p q = q
 pub zero-at-most : (b : ℕ) (s : Bool) → AtMost b (fin s 0 (pos 0))
 zero-at-most b s = record { sign = s; digits = 0; place = pos 0; is = refl; size = omega arith }
 
-sum-at-most : (f : Format) (s : Bool) (a : ℕ) (t : Bool) (d c b : ℕ) → 0 < c → b ≤ 2 ^ prec f → a + d ≤ b * c → AtMost b (sum f s a t d c)
+sum-at-most : (f : Format) (s : Bool) (a : ℕ) (t : Bool) (d c b : ℕ) → 0 < c → b ≤ 2 ^ prec f → a + d ≤ b * c
+    → AtMost b (sum f s a t d c)
 unfolding sum
 sum-at-most f s a t d c b C B h =
     either (Bool·beq s t) (round-at-most f s (a + d) c b C B h)
-    (either (ltb a d) (round-at-most f t (d - a) c b C B (omega arith)) (round-at-most f (s && ltb d a) (a - d) c b C B (omega arith)))
+    (either (ltb a d) (round-at-most f t (d - a) c b C B (omega arith))
+    (round-at-most f (s && ltb d a) (a - d) c b C B (omega arith)))
 
 module _ {x : Float} {a b : ℕ} (p : AtMost a x) where
   pub add-at-most : {y : Float} {c : ℕ} → AtMost c y → (a + c ≤ b) × (b ≤ 2 ^ 53) → AtMost b (add binary64 x y)
@@ -137,22 +151,27 @@ module _ {x : Float} {a b : ℕ} (p : AtMost a x) where
       let r = mul-le-mul-right (down e) (q .size) in
       let m = mul-le-mul-right (down e * down d) h in
       rw (p .is, q .is)
-      (sum-at-most binary64 (p .sign) (p .digits * up e * down d) (q .sign) (q .digits * up d * down e) (down e * down d) b (mul-pos (down-pos e) (down-pos d)) B (omega arith))
+      (sum-at-most binary64 (p .sign) (p .digits * up e * down d) (q .sign) (q .digits * up d * down e)
+      (down e * down d) b (mul-pos (down-pos e) (down-pos d)) B (omega arith))
 
-  pub div-at-most : (n : ℕ) → (a ≤ n * b) × (0 < n) × (n ≤ 2 ^ 12) × (b ≤ 2 ^ 53) → AtMost b (div binary64 x (ofInt binary64 (pos n)))
+  pub div-at-most : (n : ℕ) → (a ≤ n * b) × (0 < n) × (n ≤ 2 ^ 12) × (b ≤ 2 ^ 53)
+      → AtMost b (div binary64 x (ofInt binary64 (pos n)))
   unfolding ofInt
   div-at-most n (h, N, M, B) =
       let e = p .place in
       let l = p .size in
       let r = mul-le-mul-right (down e) h in
-      rw (div-at x (round binary64 false n 1) (p .sign) (p .digits * up e) (down e) false n 1 (down-pos e) (zero-lt-suc 0) N (rw (p .is) (refl, refl)) (round-whole binary64 false n (omega arith)) binary64)
-      (round-at-most binary64 (unlike (p .sign) false) (p .digits * up e * 1) (n * down e) b (mul-pos N (down-pos e)) B (omega arith))
+      rw (div-at x (round binary64 false n 1) (p .sign) (p .digits * up e) (down e) false n 1 (down-pos e)
+      (zero-lt-suc 0) N (rw (p .is) (refl, refl)) (round-whole binary64 false n (omega arith)) binary64)
+      (round-at-most binary64 (unlike (p .sign) false) (p .digits * up e * 1) (n * down e) b (mul-pos N (down-pos e))
+      B (omega arith))
 
 neg-at-most : {b : ℕ} {x : Float} → AtMost b x → AtMost b (neg x)
 unfolding neg
 neg-at-most p = record { sign = not (p .sign); digits = p .digits; place = p .place; is = rw (p .is); size = p .size }
 
-pub sub-at-most : {x y : Float} {a b c : ℕ} → AtMost a x → AtMost c y → (a + c ≤ b) × (b ≤ 2 ^ 53) → AtMost b (sub binary64 x y)
+pub sub-at-most : {x y : Float} {a b c : ℕ} → AtMost a x → AtMost c y → (a + c ≤ b) × (b ≤ 2 ^ 53)
+    → AtMost b (sub binary64 x y)
 unfolding sub
 sub-at-most p q h = add-at-most p (neg-at-most q) h
 

@@ -44,7 +44,8 @@ use Rattle.rounding_laws.proofs.Integers.{Near}
 pub closest-near : (a b : ℕ) → 0 < b → Near (closest a b * b * 2) (a * 2) b
 closest-near a b B = go (compare (a % b * 2) b) (leb→le (a % b * 2) b) (nleb→lt (a % b * 2) b) (eqb→eq (a % b * 2) b)
   where
-    go : (o : Ordering) → (T (isLe o) → a % b * 2 ≤ b) → (T (not (isLe o)) → b < a % b * 2) → (T (isEq o) → a % b * 2 ≡ b)
+    go : (o : Ordering) → (T (isLe o) → a % b * 2 ≤ b) → (T (not (isLe o)) → b < a % b * 2)
+        → (T (isEq o) → a % b * 2 ≡ b)
         → Near (nearest (a / b) o * b * 2) (a * 2) b
     go Ordering·lt h k e =
         let l : a % b * 2 ≤ b = h tt in
@@ -65,7 +66,8 @@ places f a c = drop (prec f) (a * 2 ^ low f) c
 -- a / c rounded, within half of the last place that is kept
 module _ (f : Format) (a c : ℕ) (C : 0 < c) where
   pub grid-near : Near (grid f a c * c * 2) (a * 2 ^ low f * 2) (c * 2 ^ places f a c)
-  grid-near = let k = places f a c in let n = closest-near (a * 2 ^ low f) (c * 2 ^ k) (mul-pos C (pow-pos k)) in omega arith
+  grid-near = let k = places f a c in let n = closest-near (a * 2 ^ low f) (c * 2 ^ k) (mul-pos C (pow-pos k)) in
+      omega arith
 
   -- a fraction below 2 ^ j units
   module _ (j : ℕ) (h : a * 2 ^ low f < 2 ^ j * c) where

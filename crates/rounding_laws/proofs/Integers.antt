@@ -1,5 +1,5 @@
--- Integers as differences of natural numbers: z is `above z` - `below z`, one of which is 0. What is linear in the parts is then
--- plain arithmetic. Beside them the sum of a run of integers. Assumes nothing.
+-- Integers as differences of natural numbers: z is `above z` - `below z`, one of which is 0. What is linear in the
+-- parts is then plain arithmetic. Beside them the sum of a run of integers. Assumes nothing.
 use mathlib.Core.Path.{_≡_, refl, sym, _∙_}
 use mathlib.Core.Logic.{_⊎_, inl, inr}
 use mathlib.Core.Bool.{Bool, true, false, not, cond}
@@ -166,7 +166,8 @@ gap a b = (a - b) + (b - a)
 pub abs-gap : (a b : ℤ) → natAbs (a -ℤ b) ≡ gap (above a + below b) (above b + below a)
 abs-gap a b = go (a -ℤ b) (parts-minus a b)
   where
-    go : (z : ℤ) → above z + (below a + above b) ≡ above a + below b + below z → natAbs z ≡ gap (above a + below b) (above b + below a)
+    go : (z : ℤ) → above z + (below a + above b) ≡ above a + below b + below z → natAbs z
+        ≡ gap (above a + below b) (above b + below a)
     go (pos k) m = omega arith
     go (negsuc k) m = omega arith
 

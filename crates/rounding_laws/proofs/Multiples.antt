@@ -37,11 +37,14 @@ value-units f (fin t m e) s a v = ap (λ (y : ℕ). y / down e) (v .1) ∙ mul-d
 
 -- ---- what `units` makes
 
-units-odd : (f : Format) (s : Bool) (q k : ℕ) → q * 2 ^ k < overflow f → units f s q k ≡ odd (suc (prec f)) s q k (low f)
+units-odd : (f : Format) (s : Bool) (q k : ℕ) → q * 2 ^ k < overflow f → units f s q k
+    ≡ odd (suc (prec f)) s q k (low f)
 unfolding units
-units-odd f s q k h = ap (λ (b : Bool). cond b (odd (suc (prec f)) s q k (low f)) (inf s)) (is-true (ltb (q * 2 ^ k) (overflow f)) (lt→ltb (q * 2 ^ k) (overflow f) h))
+units-odd f s q k h = ap (λ (b : Bool). cond b (odd (suc (prec f)) s q k (low f)) (inf s))
+    (is-true (ltb (q * 2 ^ k) (overflow f)) (lt→ltb (q * 2 ^ k) (overflow f) h))
 
-pub units-fits : (f : Format) (s : Bool) (q k : ℕ) → q ≤ 2 ^ prec f → q * 2 ^ k < overflow f → T (fits f (units f s q k))
+pub units-fits : (f : Format) (s : Bool) (q k : ℕ) → q ≤ 2 ^ prec f → q * 2 ^ k < overflow f
+    → T (fits f (units f s q k))
 units-fits f s q k l h =
     subst (λ (x : Float). T (fits f x)) (sym (units-odd f s q k h))
     (odd-fits f (suc (prec f)) s q k (lt-of-le-of-lt l (pow-lt (le-refl (suc (prec f))))) l h)
@@ -59,17 +62,26 @@ pow-le-back : (a l : ℕ) → 2 ^ a ≤ 2 ^ l → a ≤ l
 pow-le-back a l h = let g : a < suc l = lt-of-not-le (λ (g : l < a). not-le-of-lt (pow-lt g) h) in omega arith
 
 place : (l : ℕ) (e : ℤ) → down e ≤ 2 ^ l → (j : ℕ) × ((m : ℕ) → m * up e * 2 ^ l ≡ m * 2 ^ j * down e)
-place l (pos a) h = (a + l, λ m. mul-assoc m (2 ^ a) (2 ^ l) ∙ ap (λ (x : ℕ). m * x) (sym (pow-add 2 a l)) ∙ sym (mul-one (m * 2 ^ (a + l))))
+place l (pos a) h = (
+  a + l,
+  λ m. mul-assoc m (2 ^ a) (2 ^ l) ∙ ap (λ (x : ℕ). m * x) (sym (pow-add 2 a l))
+      ∙ sym (mul-one (m * 2 ^ (a + l))),
+)
 place l (negsuc a) h =
     let le : suc a ≤ l = pow-le-back (suc a) l h in
-    let whole : l - suc a + suc a ≡ l = omega arith in
-    (l - suc a, λ m. ap (λ (x : ℕ). x * 2 ^ l) (mul-one m) ∙ ap (λ (x : ℕ). m * 2 ^ x) (sym whole) ∙ ap (λ (x : ℕ). m * x) (pow-add 2 (l - suc a) (suc a)) ∙ sym (mul-assoc m (2 ^ (l - suc a)) (2 ^ suc a)))
+    let whole : l - suc a + suc a ≡ l = omega arith in (
+      l - suc a,
+      λ m. ap (λ (x : ℕ). x * 2 ^ l) (mul-one m) ∙ ap (λ (x : ℕ). m * 2 ^ x) (sym whole)
+          ∙ ap (λ (x : ℕ). m * x) (pow-add 2 (l - suc a) (suc a)) ∙ sym (mul-assoc m (2 ^ (l - suc a)) (2 ^ suc a)),
+    )
 
-made-at : (f : Format) (s : Bool) (m : ℕ) (e : ℤ) → m < 2 ^ prec f → down e ≤ 2 ^ low f → m * up e < 2 ^ suc (emax f) * down e → Made f (fin s m e) m
+made-at : (f : Format) (s : Bool) (m : ℕ) (e : ℤ) → m < 2 ^ prec f → down e ≤ 2 ^ low f
+    → m * up e < 2 ^ suc (emax f) * down e → Made f (fin s m e) m
 made-at f s m e a b c =
     let at = place (low f) e b in
     let w = at .1 m in
-    let big : 2 ^ suc (emax f) * down e * 2 ^ low f ≡ overflow f * down e = rw (pow-add 2 (low f) (suc (emax f))) (simp (mul-assoc, mul-comm, mul-left-comm)) in
+    let big : 2 ^ suc (emax f) * down e * 2 ^ low f
+    ≡ overflow f * down e = rw (pow-add 2 (low f) (suc (emax f))) (simp (mul-assoc, mul-comm, mul-left-comm)) in
     record {
       j = at .0;
       is = ap (λ (x : ℕ). x / down e) w ∙ mul-div-cancel (m * 2 ^ at .0) (down-pos e);
@@ -77,7 +89,8 @@ made-at f s m e a b c =
       under = lt-of-mul-lt-mul-right (down e) (rw (w, big) at (mul-lt-mul-of-pos-right c (pow-pos (low f))));
     }
 
-pub made-some : (f : Format) (s : Bool) (m : ℕ) (e : ℤ) → T (fits f (fin s (suc m) e)) → Made f (fin s (suc m) e) (suc m)
+pub made-some : (f : Format) (s : Bool) (m : ℕ) (e : ℤ) → T (fits f (fin s (suc m) e))
+    → Made f (fin s (suc m) e) (suc m)
 unfolding fits
 made-some f s m e h =
     let A = eqb (suc m % 2) 1 in
@@ -97,7 +110,8 @@ made f (fin s zero e) h t = (
   0,
   record {
     j = 0;
-    is = ap (λ (x : ℕ). x * 2 ^ low f / down e) (zero-mul (up e)) ∙ ap (λ (x : ℕ). x / down e) (zero-mul (2 ^ low f)) ∙ zero-div (down e);
+    is = ap (λ (x : ℕ). x * 2 ^ low f / down e) (zero-mul (up e)) ∙ ap (λ (x : ℕ). x / down e) (zero-mul (2 ^ low f))
+        ∙ zero-div (down e);
     short = pow-pos (prec f);
     under = pow-pos (low f + suc (emax f));
   },

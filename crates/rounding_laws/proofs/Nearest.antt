@@ -71,12 +71,15 @@ no-nearer a b k q n = go (ltb k q) (ltb q k) (ltb→lt k q) (ltb→lt q k) (nltb
     go : (t u : Bool) → (T t → k < q) → (T u → q < k) → (T (not t) → q ≤ k) → (T (not u) → k ≤ q) → NoNearer a b k q
     go true u h i h' i' = let l = mul-le-mul-right b (h tt) in omega arith
     go false true h i h' i' = let l = mul-le-mul-right b (i tt) in omega arith
-    go false false h i h' i' = let e : k ≡ q = le-antisymm (i' tt) (h' tt) in let g = ap (λ (z : ℕ). z * b) e in omega arith
+    go false false h i h' i' = let e : k
+        ≡ q = le-antisymm (i' tt) (h' tt) in let g = ap (λ (z : ℕ). z * b) e in omega arith
 
 closest-even : (a b : ℕ) → 0 < b → gap (closest a b * b) a * 2 ≡ b → closest a b % 2 ≡ 0
-closest-even a b B = go (compare (a % b * 2) b) (leb→le (a % b * 2) b) (nleb→lt (a % b * 2) b) (eqb→eq (a % b * 2) b) eq→eqb
+closest-even a b B = go (compare (a % b * 2) b) (leb→le (a % b * 2) b) (nleb→lt (a % b * 2) b) (eqb→eq (a % b * 2) b)
+    eq→eqb
   where
-    go : (o : Ordering) → (T (isLe o) → a % b * 2 ≤ b) → (T (not (isLe o)) → b < a % b * 2) → (T (isEq o) → a % b * 2 ≡ b) → (a % b * 2 ≡ b → T (isEq o))
+    go : (o : Ordering) → (T (isLe o) → a % b * 2 ≤ b) → (T (not (isLe o)) → b < a % b * 2)
+        → (T (isEq o) → a % b * 2 ≡ b) → (a % b * 2 ≡ b → T (isEq o))
         → gap (nearest (a / b) o * b) a * 2 ≡ b → nearest (a / b) o % 2 ≡ 0
     go Ordering·lt h k e i g = let l : a % b * 2 ≤ b = h tt in absurd (i (omega (arith, div-add-mod' a b)))
     go Ordering·eq h k e i g = omega arith
@@ -89,7 +92,8 @@ closest-even a b B = go (compare (a % b * 2) b) (leb→le (a % b * 2) b) (nleb�
 
 shift : (m j k : ℕ) → k ≤ j → m * 2 ^ j ≡ m * 2 ^ (j - k) * 2 ^ k
 shift m j k h =
-    ap (λ (z : ℕ). m * 2 ^ z) (sym (sub-add-cancel h)) ∙ ap (λ (z : ℕ). m * z) (pow-add 2 (j - k) k) ∙ sym (mul-assoc m (2 ^ (j - k)) (2 ^ k))
+    ap (λ (z : ℕ). m * 2 ^ z) (sym (sub-add-cancel h)) ∙ ap (λ (z : ℕ). m * z) (pow-add 2 (j - k) k)
+    ∙ sym (mul-assoc m (2 ^ (j - k)) (2 ^ k))
 
 -- n / c is rounded to q * 2 ^ k, by its last place that is kept; where digits are dropped, it has more than p
 record Rounding (p n c k q : ℕ) : Type 0 where
@@ -160,13 +164,15 @@ even-bits p q k P l e = go (ltb k d) (ltb→lt k d) (nltb→le k d)
         let four : 2 ^ p ≡ 4 * 2 ^ (p - 2) = ap (λ (z : ℕ). 2 ^ z) (sym (add-sub-of-le P)) ∙ pow-add 2 2 (p - 2) in
         let half : q / 2 ≡ 2 ^ (p - 2) * 2 = omega arith in
         let twice : q ≡ q / 2 * 2 = omega arith in
-        let n-is : n ≡ q / 2 * 2 ^ suc k = ap (λ (z : ℕ). z * 2 ^ k) twice ∙ mul-assoc (q / 2) 2 (2 ^ k) ∙ ap (λ (z : ℕ). q / 2 * z) (sym (pow-succ' 2 k)) in
+        let n-is : n ≡ q / 2 * 2 ^ suc k = ap (λ (z : ℕ). z * 2 ^ k) twice ∙ mul-assoc (q / 2) 2 (2 ^ k)
+        ∙ ap (λ (z : ℕ). q / 2 * z) (sym (pow-succ' 2 k)) in
         ap (λ (z : ℕ). n / 2 ^ z % 2) d-is
         ∙ ap (λ (z : ℕ). z / 2 ^ suc k % 2) n-is
         ∙ ap (λ (z : ℕ). z % 2) (mul-div-cancel (q / 2) (pow-pos (suc k)) ∙ half)
         ∙ mul-mod-left (2 ^ (p - 2)) 2
     go false h i =
-        ap (λ (z : ℕ). z / 2 ^ d % 2) (shift q k d (i tt)) ∙ ap (λ (z : ℕ). z % 2) (mul-div-cancel (q * 2 ^ (k - d)) (pow-pos d)) ∙ even-times q (2 ^ (k - d)) e
+        ap (λ (z : ℕ). z / 2 ^ d % 2) (shift q k d (i tt))
+        ∙ ap (λ (z : ℕ). z % 2) (mul-div-cancel (q * 2 ^ (k - d)) (pow-pos d)) ∙ even-times q (2 ^ (k - d)) e
 
 -- ---- `round` finds the nearest number
 
@@ -174,9 +180,11 @@ kept-le : (f : Format) (a c : ℕ) → kept (prec f) (a * 2 ^ low f) c ≤ 2 ^ p
 kept-le f a c =
     let n = a * 2 ^ low f in
     let u = c * 2 ^ places f a c in
-    le-trans (nearest-le (n / u) (compare (n % u * 2) u)) (rw (← div-div-eq-div-mul n c (2 ^ places f a c)) (kept-lt (prec f) (n / c)))
+    le-trans (nearest-le (n / u) (compare (n % u * 2) u))
+    (rw (← div-div-eq-div-mul n c (2 ^ places f a c)) (kept-lt (prec f) (n / c)))
 
-rounding : (f : Format) (a c : ℕ) → 0 < c → Rounding (prec f) (a * 2 ^ low f) c (places f a c) (kept (prec f) (a * 2 ^ low f) c)
+rounding : (f : Format) (a c : ℕ) → 0 < c
+    → Rounding (prec f) (a * 2 ^ low f) c (places f a c) (kept (prec f) (a * 2 ^ low f) c)
 rounding f a c C =
     let u = c * 2 ^ places f a c in
     let U : 0 < u = mul-pos C (pow-pos (places f a c)) in
@@ -193,7 +201,8 @@ even-pattern binary32 false d w h = omega arith
 even-pattern binary64 true d w h = omega arith
 even-pattern binary64 false d w h = omega arith
 
-worth-even : {f : Format} {x : Float} {s : Bool} {u : ℕ} → Worth f x s u → u / 2 ^ (size u - prec f) % 2 ≡ 0 → toBits f x % 2 ≡ 0
+worth-even : {f : Format} {x : Float} {s : Bool} {u : ℕ} → Worth f x s u → u / 2 ^ (size u - prec f) % 2 ≡ 0
+    → toBits f x % 2 ≡ 0
 unfolding toBits
 worth-even {f} {x} {s} {u} w h =
     let (m, e, p, v) = shape x s u (2 ^ low f) (w .value) in
@@ -201,7 +210,8 @@ worth-even {f} {x} {s} {u} w h =
 
 -- the distance of v units from ±a / c, in natural numbers
 distance-is : (f : Format) (x : Float) (z : ℤ) (c : ℕ)
-    → distance f x z c ≡ gap (above (signedUnits f x) * c + below z * 2 ^ low f) (above z * 2 ^ low f + below (signedUnits f x) * c)
+    → distance f x z c ≡ gap (above (signedUnits f x) * c + below z * 2 ^ low f)
+    (above z * 2 ^ low f + below (signedUnits f x) * c)
 unfolding distance
 distance-is f x z c =
     let p = parts-times (signedUnits f x) c in
@@ -209,12 +219,20 @@ distance-is f x z c =
     abs-gap (signedUnits f x *ℤ pos c) (z *ℤ pos (2 ^ low f)) ∙ rw (p .0, p .1, q .0, q .1)
 
 -- on the same side of zero it is the difference of the sizes
-same-side : (s : Bool) (v a c u : ℕ) → gap (above (signed s v) * c + below (signed s a) * u) (above (signed s a) * u + below (signed s v) * c) ≡ gap (v * c) (a * u)
-same-side true v a c u = rw (parts-signed true v .0, parts-signed true v .1, parts-signed true a .0, parts-signed true a .1) (omega arith)
+same-side : (s : Bool) (v a c u : ℕ) → gap (above (signed s v) * c + below (signed s a) * u)
+    (above (signed s a) * u + below (signed s v) * c) ≡ gap (v * c) (a * u)
+same-side true v a c u = rw (
+  parts-signed true v .0,
+  parts-signed true v .1,
+  parts-signed true a .0,
+  parts-signed true
+      a .1,
+) (omega arith)
 same-side false v a c u = omega arith
 
 -- on the other side it is their sum
-either-side : (s : Bool) (y : ℤ) (a c u : ℕ) → let d = gap (above y * c + below (signed s a) * u) (above (signed s a) * u + below y * c) in
+either-side : (s : Bool) (y : ℤ) (a c u : ℕ)
+    → let d = gap (above y * c + below (signed s a) * u) (above (signed s a) * u + below y * c) in
     (y ≡ signed s (natAbs y)) ⊎ (d ≡ natAbs y * c + a * u)
 either-side true (pos v) a c u = inr (rw (parts-signed true a .0, parts-signed true a .1) (omega arith))
 either-side true (negsuc v) a c u = inl refl
@@ -235,9 +253,11 @@ module _ (f : Format) (s : Bool) (a c : ℕ) (C : 0 < c) (h : grid f a c < overf
   found = round-worth f s a c h
 
   here : distance f (round f s a c) (signed s a) c ≡ gap (grid f a c * c) (a * 2 ^ low f)
-  here = distance-is f (round f s a c) (signed s a) c ∙ rw (worth-units found) (same-side s (grid f a c) a c (2 ^ low f))
+  here = distance-is f (round f s a c) (signed s a) c
+      ∙ rw (worth-units found) (same-side s (grid f a c) a c (2 ^ low f))
 
-  against : (m j : ℕ) → m < 2 ^ prec f → Best (a * 2 ^ low f) c (places f a c) (kept (prec f) (a * 2 ^ low f) c) (m * 2 ^ j)
+  against : (m j : ℕ) → m < 2 ^ prec f → Best (a * 2 ^ low f) c (places f a c) (kept (prec f) (a * 2 ^ low f) c)
+      (m * 2 ^ j)
   against m j h = best (rounding f a c C) m j h (omega (arith, two f))
 
   against-zero : Best (a * 2 ^ low f) c (places f a c) (kept (prec f) (a * 2 ^ low f) c) 0
@@ -246,7 +266,8 @@ module _ (f : Format) (s : Bool) (a c : ℕ) (C : 0 < c) (h : grid f a c < overf
   -- no number y is nearer, and as near only if the digits that were kept are even
   record Judged (y : Float) : Type 0 where
     least : distance f (round f s a c) (signed s a) c ≤ distance f y (signed s a) c
-    even : distance f (round f s a c) (signed s a) c ≡ distance f y (signed s a) c → ¬ (signedUnits f (round f s a c) ≡ signedUnits f y) → kept (prec f) (a * 2 ^ low f) c % 2 ≡ 0
+    even : distance f (round f s a c) (signed s a) c ≡ distance f y (signed s a) c
+        → ¬ (signedUnits f (round f s a c) ≡ signedUnits f y) → kept (prec f) (a * 2 ^ low f) c % 2 ≡ 0
 
   judged : (y : Float) → Number f y → Judged y
   judged y n = go (either-side s (signedUnits f y) a c (2 ^ low f))
@@ -257,18 +278,23 @@ module _ (f : Format) (s : Bool) (a c : ℕ) (C : 0 < c) (h : grid f a c < overf
       v : ℤ
       v = signedUnits f y
 
-      there : distance f y (signed s a) c ≡ gap (above v * c + below (signed s a) * u) (above (signed s a) * u + below v * c)
+      there : distance f y (signed s a) c
+          ≡ gap (above v * c + below (signed s a) * u) (above (signed s a) * u + below v * c)
       there = distance-is f y (signed s a) c
 
-      go : (v ≡ signed s (natAbs v)) ⊎ (gap (above v * c + below (signed s a) * u) (above (signed s a) * u + below v * c) ≡ natAbs v * c + a * u) → Judged y
+      go : (v ≡ signed s (natAbs v)) ⊎ (gap (above v * c + below (signed s a) * u)
+          (above (signed s a) * u + below v * c) ≡ natAbs v * c + a * u) → Judged y
       go (inl e) =
           let (m, d) = made f y (n .fit) (n .ends) in
-          let b : Best (a * u) c (places f a c) (kept (prec f) (a * u) c) (natAbs v) = rw (abs-units f y, d .is) (against m (d .j) (d .short)) in
+          let b : Best (a * u) c (places f a c) (kept (prec f) (a * u) c) (natAbs v) = rw (abs-units f y, d .is)
+          (against m (d .j) (d .short)) in
           let d : distance f y (signed s a) c ≡ gap (natAbs v * c) (a * u) =
-          there ∙ ap (λ (t : ℤ). gap (above t * c + below (signed s a) * u) (above (signed s a) * u + below t * c)) e ∙ same-side s (natAbs v) a c u in
+          there ∙ ap (λ (t : ℤ). gap (above t * c + below (signed s a) * u) (above (signed s a) * u + below t * c)) e
+          ∙ same-side s (natAbs v) a c u in
           record {
             least = rw (here, d) (b .least);
-            even = λ i j. b .even (sym here ∙ i ∙ d) (λ (g : grid f a c ≡ natAbs v). j (worth-units found ∙ ap (signed s) g ∙ sym e));
+            even = λ i j. b .even (sym here ∙ i ∙ d)
+                (λ (g : grid f a c ≡ natAbs v). j (worth-units found ∙ ap (signed s) g ∙ sym e));
           }
       go (inr e) =
           let b = against-zero in
@@ -278,7 +304,8 @@ module _ (f : Format) (s : Bool) (a c : ℕ) (C : 0 < c) (h : grid f a c < overf
             least = rw (here, d) (omega arith);
             even = λ i j.
                 let g : gap (grid f a c * c) (a * u) ≡ natAbs v * c + a * u = sym here ∙ i ∙ d in
-                b .even (omega arith) (λ (z : grid f a c ≡ 0). j (worth-units found ∙ ap (signed s) z ∙ zero-signed s ∙ sym (none v c C (omega arith))));
+                b .even (omega arith) (λ (z : grid f a c ≡ 0). j
+                (worth-units found ∙ ap (signed s) z ∙ zero-signed s ∙ sym (none v c C (omega arith))));
           }
 
   -- a fraction rounded is the nearest number
@@ -286,5 +313,6 @@ module _ (f : Format) (s : Bool) (a c : ℕ) (C : 0 < c) (h : grid f a c < overf
   round-nearest = record {
     number = worth-number found;
     least = λ y n. judged y n .least;
-    even = λ y n i j. worth-even found (even-bits (prec f) (kept (prec f) (a * 2 ^ low f) c) (places f a c) (two f) (kept-le f a c) (judged y n .even i j));
+    even = λ y n i j. worth-even found (even-bits (prec f) (kept (prec f) (a * 2 ^ low f) c) (places f a c) (two f)
+        (kept-le f a c) (judged y n .even i j));
   }

@@ -1,4 +1,5 @@
--- Quotients of whole numbers: each is one fraction rounded once, and two of them are in the order of their fractions. Assumes nothing.
+-- Quotients of whole numbers: each is one fraction rounded once, and two of them are in the order of their fractions.
+-- Assumes nothing.
 use mathlib.Core.Path.{_≡_, refl, sym, ap, _∙_}
 use mathlib.Core.Logic.{_⊎_, inl, inr}
 use mathlib.Core.Bool.{Bool, false, cond}
@@ -58,7 +59,8 @@ module _ {f : Format} {z : ℤ} {n : ℕ} (w : Whole f z n) where
   -- one rounding of the fraction
   pub quotient-is : quotient f z n ≡ round f (isNegative z) (natAbs z) n
   quotient-is =
-      div-at (ofInt f z) (ofInt f (pos n)) (isNegative z) (natAbs z) 1 false n 1 (zero-lt-suc 0) (zero-lt-suc 0) (w .some)
+      div-at (ofInt f z) (ofInt f (pos n)) (isNegative z) (natAbs z) 1 false n 1 (zero-lt-suc 0) (zero-lt-suc 0)
+      (w .some)
       (whole-value f z (w .size)) (whole-value f (pos n) (w .divisor)) f
       ∙ simp (unlike-plus, mul-one)
 
@@ -86,7 +88,8 @@ grid-zero f c C =
     let k = drop (prec f) (0 * 2 ^ low f) c in
     let b = c * 2 ^ k in
     let n = closest-near (0 * 2 ^ low f) b (mul-pos C (pow-pos k)) in
-    let l : kept (prec f) (0 * 2 ^ low f) c * 2 ≤ 1 = le-of-mul-le-mul-right {k = b} (omega arith) (mul-pos C (pow-pos k)) in
+    let l : kept (prec f) (0 * 2 ^ low f) c * 2 ≤ 1 = le-of-mul-le-mul-right {k = b} (omega arith)
+    (mul-pos C (pow-pos k)) in
     let z : kept (prec f) (0 * 2 ^ low f) c ≡ 0 = omega arith in
     ap (λ (q : ℕ). q * 2 ^ k) z ∙ zero-mul (2 ^ k)
 
@@ -104,7 +107,8 @@ module _ (f : Format) (a n : ℕ) (N : 0 < n) (d : n ≤ 2 ^ prec f) where
           let normal : top * n ≤ a * 2 ^ low f = omega arith in
           let g = grid-relative f a n N (normal-of-fraction f a n N normal) in
           let t = ap (λ (z : ℕ). a * z) s in
-          let r : n * 2 ^ places f a n ≤ a * 2 * fine f = le-of-mul-le-mul-right {k = top} (omega arith) (pow-pos (prec f - 1)) in
+          let r : n * 2 ^ places f a n ≤ a * 2 * fine f = le-of-mul-le-mul-right {k = top} (omega arith)
+          (pow-pos (prec f - 1)) in
           omega (arith, grid-near f a n N)
 
   grid-inside : a ≤ 2 ^ prec f → grid f a n < overflow f
@@ -119,12 +123,14 @@ module _ (f : Format) (a n : ℕ) (N : 0 < n) (d : n ≤ 2 ^ prec f) where
 
 module _ {f : Format} {z : ℤ} {n : ℕ} (w : Whole f z n) where
   pub quotient-worth : Worth f (quotient f z n) (isNegative z) (grid f (natAbs z) n)
-  quotient-worth = rw (quotient-is w) (round-worth f (isNegative z) (natAbs z) n (grid-inside f (natAbs z) n (w .some) (w .divisor) (w .size)))
+  quotient-worth = rw (quotient-is w) (round-worth f (isNegative z) (natAbs z) n
+      (grid-inside f (natAbs z) n (w .some) (w .divisor) (w .size)))
 
   -- no number of the format is nearer to the fraction
   pub quotient-nearest : NearestTo f z n (quotient f z n)
   quotient-nearest =
-      let r = round-nearest f (isNegative z) (natAbs z) n (w .some) (grid-inside f (natAbs z) n (w .some) (w .divisor) (w .size)) in
+      let r = round-nearest f (isNegative z) (natAbs z) n (w .some)
+      (grid-inside f (natAbs z) n (w .some) (w .divisor) (w .size)) in
       rw (quotient-is w) (rw signed-int at r)
 
   -- it stands for its fraction, within 2 ^ -prec of its size
@@ -152,7 +158,8 @@ module _ {f : Format} {a b : ℤ} {n m : ℕ} (v : Whole f a n) (w : Whole f b m
       let y : below a * m ≡ below b * n = omega (arith, ap below e) in
       let z : natAbs a * m ≡ natAbs b * n = rw (← parts-abs a, ← parts-abs b) (omega arith) in
       quotient-is v
-      ∙ rw (sign-same a b n m (v .some) (w .some) y) (round-same f (isNegative b) (natAbs a) n (natAbs b) m (v .some) (w .some) z)
+      ∙ rw (sign-same a b n m (v .some) (w .some) y)
+      (round-same f (isNegative b) (natAbs a) n (natAbs b) m (v .some) (w .some) z)
       ∙ sym (quotient-is w)
 
   module _ (h : natAbs a * m + natAbs b * n < 2 ^ prec f) where
@@ -163,12 +170,14 @@ module _ {f : Format} {a b : ℤ} {n m : ℕ} (v : Whole f a n) (w : Whole f b m
         go : Dec (a *ℤ pos m ≡ b *ℤ pos n) → lt (quotient f a n) (quotient f b m) ≡ ltZ (a *ℤ pos m) (b *ℤ pos n)
         go (yes e) =
             let i = about-quotient w .number in
-            rw (quotient-same e, e) (number-lt i i ∙ self-not-less (signedUnits f (quotient f b m)) ∙ sym (self-not-less (b *ℤ pos n)))
+            rw (quotient-same e, e) (number-lt i i ∙ self-not-less (signedUnits f (quotient f b m))
+            ∙ sym (self-not-less (b *ℤ pos n)))
         go (no k) = about-order (about-quotient v) (about-quotient w) k (omega arith)
 
 -- and the sign of their difference says it
 pub quotient-sign : {a b : ℤ} {n m : ℕ} → Whole binary64 a n → Whole binary64 b m → natAbs a * m + natAbs b * n < 2 ^ 53
-    → signOf (sub binary64 (quotient binary64 a n) (quotient binary64 b m)) ≡ cond (ltZ (a *ℤ pos m) (b *ℤ pos n)) minusOne plusOne
+    → signOf (sub binary64 (quotient binary64 a n) (quotient binary64 b m))
+    ≡ cond (ltZ (a *ℤ pos m) (b *ℤ pos n)) minusOne plusOne
 quotient-sign {a} {b} {n} {m} v w h =
     let l = le-mul-of-pos-right (natAbs a) (w .some) in
     about-sign (about-quotient v) (about-quotient w) (worth-negative (quotient-worth v)) (omega arith)

@@ -1,4 +1,5 @@
--- Every finite number of a format is a whole number of units, the format's smallest value 2 ^ -low, with a sign. Assumes nothing.
+-- Every finite number of a format is a whole number of units, the format's smallest value 2 ^ -low, with a sign.
+-- Assumes nothing.
 use mathlib.Core.Path.{_≡_, refl, sym, ap, _∙_}
 use mathlib.Core.Bool.{Bool, true, false, _&&_, _||_, Bool·beq, cond}
 use Prim.Native.Nat.{ℕ, zero, suc, _+_, _-_, _*_, _/_, _%_, _^_, _<_, _≤_, zero-le}
@@ -75,16 +76,19 @@ down-low f s m e t =
     leb→le (down e) (2 ^ low f) (and-r a b (and-l (a && b) (ltb (suc m * up e) (2 ^ suc (emax f) * down e)) t))
 
 -- m * 2 ^ e is m * 2 ^ j units
-in-low : (f : Format) (s : Bool) (m : ℕ) (e : ℤ) → T (fits f (fin s m e)) → (j : ℕ) × (m * up e * 2 ^ low f ≡ m * 2 ^ j * down e)
+in-low : (f : Format) (s : Bool) (m : ℕ) (e : ℤ) → T (fits f (fin s m e)) → (j : ℕ)
+    × (m * up e * 2 ^ low f ≡ m * 2 ^ j * down e)
 in-low f s zero e t = (0, simp zero-mul)
 in-low f s (suc m) (pos k) t = (k + low f, rw (pow-add, mul-one, mul-assoc))
 in-low f s (suc m) (negsuc k) t =
     let h : suc k ≤ low f = le-of-pow (suc k) (low f) (down-low f s m (negsuc k) t) in
-    let e : 2 ^ low f ≡ 2 ^ (low f - suc k) * 2 ^ suc k = ap (λ (z : ℕ). 2 ^ z) (sym (sub-add-cancel h)) ∙ pow-add 2 (low f - suc k) (suc k) in
+    let e : 2 ^ low f ≡ 2 ^ (low f - suc k) * 2 ^ suc k = ap (λ (z : ℕ). 2 ^ z) (sym (sub-add-cancel h))
+    ∙ pow-add 2 (low f - suc k) (suc k) in
     (low f - suc k, rw (mul-one, e) (sym (mul-assoc (suc m) (2 ^ (low f - suc k)) (2 ^ suc k))))
 
 -- so no fraction of a unit is left
-whole-units : (f : Format) (s : Bool) (m : ℕ) (e : ℤ) → T (fits f (fin s m e)) → m * up e * 2 ^ low f ≡ m * up e * 2 ^ low f / down e * down e
+whole-units : (f : Format) (s : Bool) (m : ℕ) (e : ℤ) → T (fits f (fin s m e)) → m * up e * 2 ^ low f
+    ≡ m * up e * 2 ^ low f / down e * down e
 whole-units f s m e t = let (j, p) = in-low f s m e t in rw (p, mul-div-cancel (m * 2 ^ j) (down-pos e))
 
 pub abs-signed : (s : Bool) (u : ℕ) → natAbs (signed s u) ≡ u
@@ -115,7 +119,8 @@ module _ {f : Format} {x : Float} {s : Bool} {u : ℕ} (w : Worth f x s u) where
   worth-units = rw (worth-negative, value-units f x s u (w .value))
 
 -- a whole number
-pub worth-whole : (f : Format) (z : ℤ) → natAbs z ≤ 2 ^ prec f → Worth f (ofInt f z) (isNegative z) (natAbs z * 2 ^ low f)
+pub worth-whole : (f : Format) (z : ℤ) → natAbs z ≤ 2 ^ prec f
+    → Worth f (ofInt f z) (isNegative z) (natAbs z * 2 ^ low f)
 worth-whole f z h =
     let (m, e, p, v) = shape (ofInt f z) (isNegative z) (natAbs z) 1 (whole-value f z h) in
     record { fit = ofInt-fits f z; value = rw p (refl, omega (arith, ap (λ (k : ℕ). k * 2 ^ low f) v)) }
@@ -131,7 +136,13 @@ round-worth f s a c h = record {
 
 below-is : (s : Bool) (a : ℕ) (t : Bool) (b : ℕ) → isBelow s a t b ≡ ltZ (signed s a) (signed t b)
 below-is s a t b =
-    rw (parts-lt (signed s a) (signed t b), parts-signed s a .0, parts-signed s a .1, parts-signed t b .0, parts-signed t b .1) (go s t)
+    rw (
+      parts-lt (signed s a) (signed t b),
+      parts-signed s a .0,
+      parts-signed s a .1,
+      parts-signed t b .0,
+      parts-signed t b .1,
+    ) (go s t)
   where
     go : (s t : Bool) → isBelow s a t b ≡ ltb (cond s 0 a + cond t b 0) (cond t 0 b + cond s a 0)
     go false false = simp add-zero
@@ -154,7 +165,8 @@ unlike-plus false = refl
 pub worth-div : {f : Format} {x : Float} {s : Bool} {a : ℕ} → Worth f x s a → (n : ℕ) → 0 < n → n ≤ 2 ^ prec f
     → div f x (ofInt f (pos n)) ≡ round f s a (n * 2 ^ low f)
 worth-div {f} {x} {s} {a} v n N h =
-    div-at x (ofInt f (pos n)) s a (2 ^ low f) false n 1 (pow-pos (low f)) (zero-lt-suc 0) N (v .value) (whole-value f (pos n) h) f
+    div-at x (ofInt f (pos n)) s a (2 ^ low f) false n 1 (pow-pos (low f)) (zero-lt-suc 0) N (v .value)
+    (whole-value f (pos n) h) f
     ∙ rw (unlike-plus s, mul-one)
 
 both-zero : (a c u d : ℕ) → 0 < c → 0 < d → a * c ≡ u * d → eqb a 0 ≡ eqb u 0
@@ -176,4 +188,5 @@ level-zero s a d = rw zero-mul (go s (eqb a 0))
 pub worth-zero : {f : Format} {x : Float} {s : Bool} {u : ℕ} → Worth f x s u → eq x (fin false 0 (pos 0)) ≡ eqb u 0
 unfolding eq
 worth-zero {f} {x} {s} {u} w = let (m, e, p, v) = shape x s u (2 ^ low f) (w .value) in
-    rw p (level-zero s (m * up e * 1) (down e) ∙ rw mul-one (both-zero (m * up e) (2 ^ low f) u (down e) (pow-pos (low f)) (down-pos e) v))
+    rw p (level-zero s (m * up e * 1) (down e)
+    ∙ rw mul-one (both-zero (m * up e) (2 ^ low f) u (down e) (pow-pos (low f)) (down-pos e) v))

@@ -1,5 +1,5 @@
--- The operations by value: what they give for numbers of which only the sign and the size, a fraction, are known. After this nobody
--- looks at how a float is written. Assumes nothing.
+-- The operations by value: what they give for numbers of which only the sign and the size, a fraction, are known.
+-- After this nobody looks at how a float is written. Assumes nothing.
 use mathlib.Core.Path.{_≡_, refl, sym, ap, _∙_}
 use mathlib.Core.Bool.{Bool, true, false, not, _&&_}
 use Prim.Native.Nat.{ℕ, _+_, _-_, _*_, _<_}
@@ -51,7 +51,8 @@ module _ (A B C a b c : ℕ) (p : A * c ≡ a * C) (q : B * c ≡ b * C) where
   cross-add = omega arith
 
   cross-sub : (A - B) * c ≡ (a - b) * C
-  cross-sub = mul-comm (A - B) c ∙ mul-sub c A B ∙ rw (mul-comm c A, mul-comm c B, p, q, mul-comm a C, mul-comm b C) (sym (mul-sub C a b)) ∙ mul-comm C (a - b)
+  cross-sub = mul-comm (A - B) c ∙ mul-sub c A B
+      ∙ rw (mul-comm c A, mul-comm c B, p, q, mul-comm a C, mul-comm b C) (sym (mul-sub C a b)) ∙ mul-comm C (a - b)
 
 -- equal fractions have equal sums
 sum-same : (f : Format) (s : Bool) (A : ℕ) (t : Bool) (B C a b c : ℕ) → 0 < C → 0 < c → A * c ≡ a * C → B * c ≡ b * C
@@ -68,16 +69,20 @@ sum-same f s A t B C a b c P p e g =
 
 below-same : (s : Bool) (A : ℕ) (t : Bool) (B C a b c : ℕ) → 0 < C → 0 < c → A * c ≡ a * C → B * c ≡ b * C
     → isBelow s A t B ≡ isBelow s a t b
-below-same false A false B C a b c P p e g = ltb-same A B a b (cross-lt A B C a b c e g p) (cross-lt a b c A B C (sym e) (sym g) P)
+below-same false A false B C a b c P p e g = ltb-same A B a b (cross-lt A B C a b c e g p)
+    (cross-lt a b c A B C (sym e) (sym g) P)
 below-same false A true B C a b c P p e g = refl
 below-same true A false B C a b c P p e g =
     let h : 0 * c ≡ 0 * C = omega arith in
     let k = cross-add A B C a b c e g in
-    ltb-same 0 (A + B) 0 (a + b) (cross-lt 0 (A + B) C 0 (a + b) c h k p) (cross-lt 0 (a + b) c 0 (A + B) C (sym h) (sym k) P)
-below-same true A true B C a b c P p e g = ltb-same B A b a (cross-lt B A C b a c g e p) (cross-lt b a c B A C (sym g) (sym e) P)
+    ltb-same 0 (A + B) 0 (a + b) (cross-lt 0 (A + B) C 0 (a + b) c h k p)
+    (cross-lt 0 (a + b) c 0 (A + B) C (sym h) (sym k) P)
+below-same true A true B C a b c P p e g = ltb-same B A b a (cross-lt B A C b a c g e p)
+    (cross-lt b a c B A C (sym g) (sym e) P)
 
 -- a number with a value is written in some way
-pub shape : (x : Float) (s : Bool) (a c : ℕ) → HasValue x s a c → (m : ℕ) × (e : ℤ) × (x ≡ fin s m e) × (m * up e * c ≡ a * down e)
+pub shape : (x : Float) (s : Bool) (a c : ℕ) → HasValue x s a c → (m : ℕ) × (e : ℤ) × (x ≡ fin s m e)
+    × (m * up e * c ≡ a * down e)
 shape nan s a c v = absurd v
 shape (inf t) s a c v = absurd v
 shape (fin t m e) s a c (p, v) = (m, e, ap (λ (r : Bool). fin r m e) p, v)
@@ -87,16 +92,19 @@ wider : (m a c e d : ℕ) → m * c ≡ a * e → m * d * c ≡ a * (e * d)
 wider m a c e d v = mul-right-comm m d c ∙ ap (λ (z : ℕ). z * d) v ∙ mul-assoc a e d
 
 wider' : (n b c e d : ℕ) → n * c ≡ b * d → n * e * c ≡ b * (e * d)
-wider' n b c e d w = mul-right-comm n e c ∙ ap (λ (z : ℕ). z * e) w ∙ mul-assoc b d e ∙ ap (λ (z : ℕ). b * z) (mul-comm d e)
+wider' n b c e d w = mul-right-comm n e c ∙ ap (λ (z : ℕ). z * e) w ∙ mul-assoc b d e
+    ∙ ap (λ (z : ℕ). b * z) (mul-comm d e)
 
-module _ (x y : Float) (s : Bool) (a : ℕ) (t : Bool) (b c : ℕ) (C : 0 < c) (v : HasValue x s a c) (w : HasValue y t b c) where
+module _ (x y : Float) (s : Bool) (a : ℕ) (t : Bool) (b c : ℕ) (C : 0 < c) (v : HasValue x s a c)
+    (w : HasValue y t b c) where
   pub add-at : (f : Format) → add f x y ≡ sum f s a t b c
   unfolding add
   add-at f =
       let (m, e, p, v') = shape x s a c v in
       let (n, d, q, w') = shape y t b c w in
       rw (p, q)
-      (sum-same f s (m * up e * down d) t (n * up d * down e) (down e * down d) a b c (mul-pos (down-pos e) (down-pos d)) C
+      (sum-same f s (m * up e * down d) t (n * up d * down e) (down e * down d) a b c
+      (mul-pos (down-pos e) (down-pos d)) C
       (wider (m * up e) a c (down e) (down d) v') (wider' (n * up d) b c (down e) (down d) w'))
 
   pub lt-at : lt x y ≡ isBelow s a t b
@@ -105,7 +113,8 @@ module _ (x y : Float) (s : Bool) (a : ℕ) (t : Bool) (b c : ℕ) (C : 0 < c) (
       let (m, e, p, v') = shape x s a c v in
       let (n, d, q, w') = shape y t b c w in
       rw (p, q)
-      (below-same s (m * up e * down d) t (n * up d * down e) (down e * down d) a b c (mul-pos (down-pos e) (down-pos d)) C
+      (below-same s (m * up e * down d) t (n * up d * down e) (down e * down d) a b c
+      (mul-pos (down-pos e) (down-pos d)) C
       (wider (m * up e) a c (down e) (down d) v') (wider' (n * up d) b c (down e) (down d) w'))
 
 neg-value : (y : Float) (t : Bool) (b c : ℕ) → HasValue y t b c → HasValue (neg y) (not t) b c
@@ -123,14 +132,16 @@ cross-mul M E a c N G b d p q =
     let r : a * E * (b * G) ≡ a * b * (E * G) = simp (mul-assoc, mul-comm, mul-left-comm) in
     l ∙ rw (p, q) r
 
-pub mul-at : (x y : Float) (s : Bool) (a c : ℕ) (t : Bool) (b d : ℕ) → 0 < c → 0 < d → HasValue x s a c → HasValue y t b d
+pub mul-at : (x y : Float) (s : Bool) (a c : ℕ) (t : Bool) (b d : ℕ) → 0 < c → 0 < d → HasValue x s a c
+    → HasValue y t b d
     → (f : Format) → mul f x y ≡ round f (unlike s t) (a * b) (c * d)
 unfolding mul
 mul-at x y s a c t b d C D v w f =
     let (m, e, p, v') = shape x s a c v in
     let (n, g, q, w') = shape y t b d w in
     rw (p, q)
-    (round-same f (unlike s t) (m * up e * (n * up g)) (down e * down g) (a * b) (c * d) (mul-pos (down-pos e) (down-pos g)) (mul-pos C D)
+    (round-same f (unlike s t) (m * up e * (n * up g)) (down e * down g) (a * b) (c * d)
+    (mul-pos (down-pos e) (down-pos g)) (mul-pos C D)
     (cross-mul (m * up e) (down e) a c (n * up g) (down g) b d v' w'))
 
 cross-div : (M E a c N G b d : ℕ) → M * c ≡ a * E → N * d ≡ b * G → M * G * (b * c) ≡ a * d * (N * E)
@@ -142,7 +153,8 @@ cross-div M E a c N G b d p q =
 pub not-zero : (n : ℕ) → 0 < n → n ≡ 0 → ⊥
 not-zero n h e = omega arith
 
-pub div-at : (x y : Float) (s : Bool) (a c : ℕ) (t : Bool) (b d : ℕ) → 0 < c → 0 < d → 0 < b → HasValue x s a c → HasValue y t b d
+pub div-at : (x y : Float) (s : Bool) (a c : ℕ) (t : Bool) (b d : ℕ) → 0 < c → 0 < d → 0 < b → HasValue x s a c
+    → HasValue y t b d
     → (f : Format) → div f x y ≡ round f (unlike s t) (a * d) (b * c)
 unfolding div
 div-at x y s a c t b d C D B v w f =
@@ -150,5 +162,6 @@ div-at x y s a c t b d C D B v w f =
     let (n, g, q, w') = shape y t b d w in
     let some : 0 < n * up g = first-pos (n * up g) d (rw w' (mul-pos B (down-pos g))) in
     rw (p, q, ne-eqb n 0 (not-zero n (first-pos n (up g) some)))
-    (round-same f (unlike s t) (m * up e * down g) (n * up g * down e) (a * d) (b * c) (mul-pos some (down-pos e)) (mul-pos B C)
+    (round-same f (unlike s t) (m * up e * down g) (n * up g * down e) (a * d) (b * c) (mul-pos some (down-pos e))
+    (mul-pos B C)
     (cross-div (m * up e) (down e) a c (n * up g) (down g) b d v' w'))

@@ -1,1 +1,2 @@
-// What holds of whole numbers in f64, of the error of a rounding, and of bounds that rounding does not cross: see proofs/.
+// What holds of whole numbers in f64, of the error of a rounding, and of bounds that rounding does not cross: see
+// proofs/.

@@ -1,5 +1,5 @@
--- `sqrtOf` is the correctly rounded root: the true root is nearer to it than to any other float of the format (`nearest-root`, at the end).
--- So there is never a tie. Assumes nothing.
+-- `sqrtOf` is the correctly rounded root: the true root is nearer to it than to any other float of the format
+-- (`nearest-root`, at the end). So there is never a tie. Assumes nothing.
 use mathlib.Core.Path.{_≡_, refl, sym, ap, _∙_, subst}
 use mathlib.Core.Bool.{false}
 use mathlib.Core.Logic.{_⊎_, inl, inr}
@@ -51,7 +51,8 @@ use Rattle.rounding_root.specs.Meaning.{Nearer, NearestRoot}
 
 -- ---- no float of the format lies between the two neighbours
 
-none-between : (f : Format) (q k m j : ℕ) → (k ≡ 0) ⊎ (2 ^ (prec f - 1) ≤ q) → m < 2 ^ prec f → q * 2 ^ k < m * 2 ^ j → (q + 1) * 2 ^ k ≤ m * 2 ^ j
+none-between : (f : Format) (q k m j : ℕ) → (k ≡ 0) ⊎ (2 ^ (prec f - 1) ≤ q) → m < 2 ^ prec f → q * 2 ^ k < m * 2 ^ j
+    → (q + 1) * 2 ^ k ≤ m * 2 ^ j
 none-between f q k m j (inl z) short h =
     let one : 2 ^ k ≡ 1 = ap (λ (x : ℕ). 2 ^ x) z in
     let a : q * 2 ^ k ≡ q = ap (λ (x : ℕ). q * x) one ∙ mul-one q in
@@ -62,22 +63,26 @@ none-between f q k m j (inr full) short h =
     let k-le : k < suc j = lt-of-not-le (λ (g : j < k).
     not-le-of-lt h
     (le-trans (le-of-lt (shl-lt (prec f) j short))
-    (le-trans (pow-mono (omega arith)) (le-trans (le-of-eq (pow-add 2 (prec f - 1) k)) (mul-le-mul-right (2 ^ k) full))))) in
+    (le-trans (pow-mono (omega arith)) (le-trans (le-of-eq (pow-add 2 (prec f - 1) k))
+    (mul-le-mul-right (2 ^ k) full))))) in
     let back : j - k + k ≡ j = omega arith in
     let c = m * 2 ^ (j - k) in
-    let is : c * 2 ^ k ≡ m * 2 ^ j = mul-assoc m (2 ^ (j - k)) (2 ^ k) ∙ ap (λ (x : ℕ). m * x) (sym (pow-add 2 (j - k) k) ∙ ap (λ (x : ℕ). 2 ^ x) back) in
+    let is : c * 2 ^ k ≡ m * 2 ^ j = mul-assoc m (2 ^ (j - k)) (2 ^ k)
+    ∙ ap (λ (x : ℕ). m * x) (sym (pow-add 2 (j - k) k) ∙ ap (λ (x : ℕ). 2 ^ x) back) in
     let l : q < c = lt-of-mul-lt-mul-right (2 ^ k) (subst (λ (x : ℕ). q * 2 ^ k < x) (sym is) h) in
     subst (λ (x : ℕ). (q + 1) * 2 ^ k ≤ x) is (mul-le-mul-right (2 ^ k) (omega arith))
 
 -- ---- there is no tie: 4 * n has more factors 2 than the square of the neighbours' sum
 
-no-tie : (f : Format) (n m t q k : ℕ) → n ≡ m * 2 ^ t → m < 2 ^ prec f → Between f n q k → 4 * n ≡ sumOf q k * sumOf q k → ⊥
+no-tie : (f : Format) (n m t q k : ℕ) → n ≡ m * 2 ^ t → m < 2 ^ prec f → Between f n q k → 4 * n
+    ≡ sumOf q k * sumOf q k → ⊥
 no-tie f n m t q k e short b tie =
     let k-le : k + k < suc t = lt-of-not-le (few (b .full)) in
     let back : t - (k + k) + (k + k) ≡ t = omega arith in
     let c = 2 ^ (t - (k + k)) in
     let w = 2 ^ k * 2 ^ k in
-    let power : 2 ^ t ≡ c * w = ap (λ (x : ℕ). 2 ^ x) (sym back) ∙ pow-add 2 (t - (k + k)) (k + k) ∙ ap (λ (x : ℕ). c * x) (pow-add 2 k k) in
+    let power : 2 ^ t ≡ c * w = ap (λ (x : ℕ). 2 ^ x) (sym back) ∙ pow-add 2 (t - (k + k)) (k + k)
+    ∙ ap (λ (x : ℕ). c * x) (pow-add 2 k k) in
     no-tie-at n (m * c) q k (e ∙ ap (λ (x : ℕ). m * x) power ∙ sym (mul-assoc m c w)) tie
   where
     few : (k ≡ 0) ⊎ (2 ^ (prec f - 1) ≤ q) → t < k + k → ⊥
@@ -86,13 +91,15 @@ no-tie f n m t q k e short b tie =
         let d = two f in
         let a = prec f - 1 + k in
         let top : 2 ^ a ≤ q * 2 ^ k = le-trans (le-of-eq (pow-add 2 (prec f - 1) k)) (mul-le-mul-right (2 ^ k) full) in
-        let much : 2 ^ (prec f + t) ≤ n = le-trans (pow-mono (omega arith)) (le-trans (le-of-eq (pow-add 2 a a)) (le-trans (square-le top) (b .low))) in
+        let much : 2 ^ (prec f + t) ≤ n = le-trans (pow-mono (omega arith))
+        (le-trans (le-of-eq (pow-add 2 a a)) (le-trans (square-le top) (b .low))) in
         not-le-of-lt (shl-lt (prec f) t short) (subst (λ (x : ℕ). 2 ^ (prec f + t) ≤ x) e much)
 
 -- ---- the nearer neighbour
 
 sums : (q k : ℕ) → sumOf q k ≡ q * 2 ^ k + (q + 1) * 2 ^ k
-sums q k = let two-parts : 2 * q + 1 ≡ q + (q + 1) = omega arith in ap (λ (x : ℕ). x * 2 ^ k) two-parts ∙ add-mul q (q + 1) (2 ^ k)
+sums q k = let two-parts : 2 * q + 1 ≡ q + (q + 1) = omega arith in ap (λ (x : ℕ). x * 2 ^ k) two-parts
+    ∙ add-mul q (q + 1) (2 ^ k)
 
 double : (r : ℕ) → 2 * r * (2 * r) ≡ 4 * (r * r)
 double r = mul-mul-mul-comm 2 r 2 r
@@ -119,7 +126,8 @@ nearer-at f n q k z m j b (inr (e, h)) short = subst (λ (x : ℕ). Nearer n (x 
       let high = b .high in
       omega arith;
   above-middle = λ l.
-      let y-le : m * 2 ^ j < suc (q * 2 ^ k) = lt-of-not-le (λ (g : q * 2 ^ k < m * 2 ^ j). not-le-of-lt l (none-between f q k m j (b .full) short g)) in
+      let y-le : m * 2 ^ j < suc (q * 2 ^ k) = lt-of-not-le
+      (λ (g : q * 2 ^ k < m * 2 ^ j). not-le-of-lt l (none-between f q k m j (b .full) short g)) in
       let s = sums q k in
       lt-of-le-of-lt (square-le (omega arith)) h;
 })
@@ -168,12 +176,14 @@ one-of q z a b (inl (e, h)) = omega arith
 one-of q z a b (inr (e, h)) = omega arith
 
 chosen-nearest : (f : Format) (x : Float) (q k z : ℕ) → let n = inUnits f x * 2 ^ low f in
-    0 < n → inUnits f x < overflow f → Between f n q k → Chosen q z (4 * n) (sumOf q k * sumOf q k) → NearestRoot f x (units f false z k)
+    0 < n → inUnits f x < overflow f → Between f n q k → Chosen q z (4 * n) (sumOf q k * sumOf q k)
+    → NearestRoot f x (units f false z k)
 chosen-nearest f x q k z pos-n small b c =
     let n = inUnits f x * 2 ^ low f in
     let short = b .short in
     let r = one-of q z (4 * n) (sumOf q k * sumOf q k) c in
-    let fine : z * 2 ^ k < overflow f = lt-of-le-of-lt (mul-le-mul-right (2 ^ k) (r .1)) (under f n (inUnits f x) q k refl small b) in
+    let fine : z * 2 ^ k < overflow f = lt-of-le-of-lt (mul-le-mul-right (2 ^ k) (r .1))
+    (under f n (inUnits f x) q k refl small b) in
     let value = units-val f false z k fine in
     let z-pos : 0 < z = lt-of-lt-of-le (some f n q k pos-n b) (r .0) in
     record {
@@ -186,13 +196,15 @@ chosen-nearest f x q k z pos-n small b c =
     }
 
 -- the root of every finite float above zero is the nearest one
-pub nearest-root : (f : Format) (m : ℕ) (e : ℤ) → let x = fin false (suc m) e in T (fits f x) → NearestRoot f x (sqrtOf f x)
+pub nearest-root : (f : Format) (m : ℕ) (e : ℤ) → let x = fin false (suc m) e in T (fits f x)
+    → NearestRoot f x (sqrtOf f x)
 unfolding sqrtOf
 nearest-root f m e h =
     let x = fin false (suc m) e in
     let n = inUnits f x * 2 ^ low f in
     let x-made = made-some f false m e h in
-    let is : n ≡ suc m * 2 ^ (x-made .j + low f) = rw (x-made .is, pow-add) (mul-assoc (suc m) (2 ^ x-made .j) (2 ^ low f)) in
+    let is : n ≡ suc m * 2 ^ (x-made .j + low f) = rw (x-made .is, pow-add)
+    (mul-assoc (suc m) (2 ^ x-made .j) (2 ^ low f)) in
     let b = between f n in
     rw (nearestRoot-is f n)
     (chosen-nearest f x (kept f n) (dropped f n) _

@@ -78,14 +78,16 @@ Chosen q z a b = ((z ≡ q) × (a < b)) ⊎ ((z ≡ q + 1) × (b < a))
 pub pick : (q a b : ℕ) → (a ≡ b → ⊥) → Chosen q (nearest q (compare a b)) a b
 pick q a b none = go (compare a b) (leb→le a b) (nleb→lt a b) (eqb→eq a b)
   where
-    go : (o : Ordering) → (T (isLe o) → a ≤ b) → (T (not (isLe o)) → b < a) → (T (isEq o) → a ≡ b) → Chosen q (nearest q o) a b
+    go : (o : Ordering) → (T (isLe o) → a ≤ b) → (T (not (isLe o)) → b < a) → (T (isEq o) → a ≡ b)
+        → Chosen q (nearest q o) a b
     go Ordering·lt h g e = inl (refl, lt-of-le-ne (h tt) none)
     go Ordering·eq h g e = absurd (none (e tt))
     go Ordering·gt h g e = inr (sym (add-one q), g tt)
 
 -- the square of the sum, with 4 ^ k taken out: an odd number, so that it is not four times another
 pub sum-square : (q k : ℕ) → sumOf q k * sumOf q k ≡ (4 * (q * q) + 4 * q + 1) * (2 ^ k * 2 ^ k)
-sum-square q k = mul-mul-mul-comm (2 * q + 1) (2 ^ k) (2 * q + 1) (2 ^ k) ∙ ap (λ (y : ℕ). y * (2 ^ k * 2 ^ k)) (square-odd q)
+sum-square q k = mul-mul-mul-comm (2 * q + 1) (2 ^ k) (2 * q + 1) (2 ^ k)
+    ∙ ap (λ (y : ℕ). y * (2 ^ k * 2 ^ k)) (square-odd q)
 
 pub no-tie-at : (n x q k : ℕ) → n ≡ x * (2 ^ k * 2 ^ k) → 4 * n ≡ sumOf q k * sumOf q k → ⊥
 no-tie-at n x q k is tie =

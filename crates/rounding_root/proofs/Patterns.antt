@@ -1,4 +1,5 @@
--- An f64's bits and its value: what the bits of a number above zero say of its root, and which bits a root has. Assumes nothing.
+-- An f64's bits and its value: what the bits of a number above zero say of its root, and which bits a root has.
+-- Assumes nothing.
 use mathlib.Core.Path.{_≡_, refl, sym, ap, _∙_, subst}
 use mathlib.Core.Bool.{Bool, true, false, not, cond, _||_, Bool·beq, false≢true, true≢false}
 use Prim.Native.Nat.{ℕ, zero, suc, _+_, _-_, _*_, _/_, _%_, _^_, _≤_, _<_}
@@ -61,7 +62,8 @@ no-nan b h =
 
 -- ---- the bits of a root: the digits q, and a field that says k
 
-bits-by-value : (x : Float) (a : ℕ) → HasValue x false a (2 ^ 1074) → toBits binary64 x ≡ (size a - 53) * 2 ^ 52 + a / 2 ^ (size a - 53)
+bits-by-value : (x : Float) (a : ℕ) → HasValue x false a (2 ^ 1074) → toBits binary64 x
+    ≡ (size a - 53) * 2 ^ 52 + a / 2 ^ (size a - 53)
 unfolding toBits
 bits-by-value nan a v = absurd v
 bits-by-value (inf s) a v = absurd v
@@ -79,10 +81,12 @@ written q k d l =
     let value = units-val binary64 false q k fine in
     let same : 53 + k ≡ suc (52 + k) = omega arith in
     let lo : 2 ^ (52 + k) ≤ q * 2 ^ k = le-trans (le-of-eq (pow-add 2 52 k)) (mul-le-mul-right (2 ^ k) (d .low)) in
-    let size-at : size (q * 2 ^ k) ≡ suc (52 + k) = size-is (q * 2 ^ k) (52 + k) lo (subst (λ (z : ℕ). q * 2 ^ k < 2 ^ z) same hi) in
+    let size-at : size (q * 2 ^ k) ≡ suc (52 + k) = size-is (q * 2 ^ k) (52 + k) lo
+    (subst (λ (z : ℕ). q * 2 ^ k < 2 ^ z) same hi) in
     let drop : size (q * 2 ^ k) - 53 ≡ k = omega arith in
     let bits : toBits binary64 x ≡ k * 2 ^ 52 + q =
-    bits-by-value x (q * 2 ^ k) value ∙ ap (λ (z : ℕ). z * 2 ^ 52 + q * 2 ^ k / 2 ^ z) drop ∙ ap (λ (z : ℕ). k * 2 ^ 52 + z) (mul-div-cancel q (pow-pos k)) in
+    bits-by-value x (q * 2 ^ k) value ∙ ap (λ (z : ℕ). z * 2 ^ 52 + q * 2 ^ k / 2 ^ z) drop
+    ∙ ap (λ (z : ℕ). k * 2 ^ 52 + z) (mul-div-cancel q (pow-pos k)) in
     ap (ofBits binary64) (sym bits) ∙ ofBits-toBits binary64 x (units-fits binary64 false q k (le-of-lt (d .high)) fine)
 
 -- ---- the root of a number above zero, by its value
@@ -96,7 +100,8 @@ above-is-number nan h = absurd (false≢true h)
 above-is-number (inf s) h = tt
 above-is-number (fin s m e) h = tt
 
-by-value : (x : Float) (s : Bool) (a : ℕ) → Above x → HasValue x s a (2 ^ 1074) → (0 < a) × (sqrtOf binary64 x ≡ nearestRoot binary64 (a * 2 ^ 1074))
+by-value : (x : Float) (s : Bool) (a : ℕ) → Above x → HasValue x s a (2 ^ 1074) → (0 < a)
+    × (sqrtOf binary64 x ≡ nearestRoot binary64 (a * 2 ^ 1074))
 unfolding lt sqrtOf
 by-value nan s a h v = absurd v
 by-value (inf t) s a h v = absurd v
@@ -120,7 +125,8 @@ digits x = toBits binary64 x % 2 ^ 52
 
 fields-of : (x : Float) (e : ℕ) → T (fits binary64 x) → field x ≡ e → x ≡ ofFields binary64 (sign x) e (digits x)
 unfolding ofBits
-fields-of x e h is = sym (ofBits-toBits binary64 x h) ∙ ap (λ (y : ℕ). ofFields binary64 (sign x) y (digits x)) (Pow.field (toBits binary64 x) 11 52 ∙ is)
+fields-of x e h is = sym (ofBits-toBits binary64 x h)
+    ∙ ap (λ (y : ℕ). ofFields binary64 (sign x) y (digits x)) (Pow.field (toBits binary64 x) 11 52 ∙ is)
 
 -- the highest field is an infinity's
 at-top : (x : Float) (s : Bool) (t : ℕ) → Above x → x ≡ ofFields binary64 s 2047 t → x ≡ sqrtOf binary64 x
@@ -135,14 +141,17 @@ at-top x s t h e = go (eqb t 0) s e
 -- a field of 0 is that of a subnormal number
 at-low : (x : Float) (s : Bool) (t : ℕ) → x ≡ ofFields binary64 s 0 t → HasValue x s t (2 ^ 1074)
 unfolding ofFields
-at-low x s t e = subst (λ (y : Float). HasValue y s t (2 ^ 1074)) (sym e) (subst (λ (n : ℕ). HasValue (odd 53 s t 0 1074) s n (2 ^ 1074)) (mul-one t) (odd-sign 53 s t 0 1074))
+at-low x s t e = subst (λ (y : Float). HasValue y s t (2 ^ 1074)) (sym e)
+    (subst (λ (n : ℕ). HasValue (odd 53 s t 0 1074) s n (2 ^ 1074)) (mul-one t) (odd-sign 53 s t 0 1074))
 
 -- any other has the first digit besides
-at-mid : (x : Float) (s : Bool) (j t : ℕ) → suc j < 2047 → x ≡ ofFields binary64 s (suc j) t → HasValue x s ((2 ^ 52 + t) * 2 ^ j) (2 ^ 1074)
+at-mid : (x : Float) (s : Bool) (j t : ℕ) → suc j < 2047 → x ≡ ofFields binary64 s (suc j) t
+    → HasValue x s ((2 ^ 52 + t) * 2 ^ j) (2 ^ 1074)
 unfolding ofFields
 at-mid x s j t h e =
     subst (λ (y : Float). HasValue y s ((2 ^ 52 + t) * 2 ^ j) (2 ^ 1074))
-    (sym (e ∙ ap (λ (b : Bool). cond b (cond (eqb t 0) (inf s) nan) (odd 53 s (2 ^ 52 + t) j 1074)) (ne-eqb (suc j) 2047 (omega arith))))
+    (sym (e ∙ ap (λ (b : Bool). cond b (cond (eqb t 0) (inf s) nan) (odd 53 s (2 ^ 52 + t) j 1074))
+    (ne-eqb (suc j) 2047 (omega arith))))
     (odd-sign 53 s (2 ^ 52 + t) j 1074)
 
 module _ (x : Float) (held : T (fits binary64 x)) (above : Above x) where
@@ -152,7 +161,8 @@ module _ (x : Float) (held : T (fits binary64 x)) (above : Above x) where
   pub subnormal : field x ≡ 0 → (0 < digits x) × (sqrtOf binary64 x ≡ nearestRoot binary64 (digits x * 2 ^ 1074))
   subnormal e = by-value x (sign x) (digits x) above (at-low x (sign x) (digits x) (fields-of x 0 held e))
 
-  pub normal : (field x ≡ 0 → ⊥) → (field x ≡ 2047 → ⊥) → sqrtOf binary64 x ≡ nearestRoot binary64 ((2 ^ 52 + digits x) * 2 ^ (field x + 1020 + 53))
+  pub normal : (field x ≡ 0 → ⊥) → (field x ≡ 2047 → ⊥) → sqrtOf binary64 x
+      ≡ nearestRoot binary64 ((2 ^ 52 + digits x) * 2 ^ (field x + 1020 + 53))
   normal some under =
       let j = field x - 1 in
       let p = 2 ^ 52 + digits x in
@@ -160,7 +170,8 @@ module _ (x : Float) (held : T (fits binary64 x)) (above : Above x) where
       let l : suc j < 2047 = omega arith in
       let e : j + 1074 ≡ field x + 1020 + 53 = omega arith in
       by-value x (sign x) (p * 2 ^ j) above (at-mid x (sign x) j (digits x) l (fields-of x (suc j) held is)) .1
-      ∙ ap (nearestRoot binary64) (mul-assoc p (2 ^ j) (2 ^ 1074) ∙ ap (λ (y : ℕ). p * y) (sym (pow-add 2 j 1074) ∙ ap (λ (y : ℕ). 2 ^ y) e))
+      ∙ ap (nearestRoot binary64) (mul-assoc p (2 ^ j) (2 ^ 1074)
+      ∙ ap (λ (y : ℕ). p * y) (sym (pow-add 2 j 1074) ∙ ap (λ (y : ℕ). 2 ^ y) e))
 
 -- ---- what is not above zero
 
@@ -184,7 +195,8 @@ unfolding eq
 zero-equals true e = simp zero-mul
 zero-equals false e = simp zero-mul
 
-pub of-none : (x : Float) → lt (fin false 0 (pos 0)) x ≡ false → eq x (fin false 0 (pos 0)) ≡ false → nan ≡ sqrtOf binary64 x
+pub of-none : (x : Float) → lt (fin false 0 (pos 0)) x ≡ false → eq x (fin false 0 (pos 0)) ≡ false → nan
+    ≡ sqrtOf binary64 x
 unfolding lt sqrtOf
 of-none nan h g = refl
 of-none (inf true) h g = refl

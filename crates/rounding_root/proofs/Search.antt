@@ -6,7 +6,8 @@ use Rattle.rounding_root.proofs.Squares.{square-next}
 use Rattle.rounding_root.specs.inner.Squares.{Closest}
 use Rattle.rounding_root.specs.inner.Steps.{Rooted}
 
--- h * (h + 1) < m * 2 ^ 52 at the low end, m * 2 ^ 52 ≤ (h + 1) * (h + 2) at the high one: where they meet, h + 1 is closest
+-- h * (h + 1) < m * 2 ^ 52 at the low end, m * 2 ^ 52 ≤ (h + 1) * (h + 2) at the high one: where they meet, h + 1 is
+-- closest
 pub record Span (m lo hi : ℕ) : Type 0 where
   pub first : 2 ^ 52 ≤ lo + 1
   pub order : lo ≤ hi
@@ -26,7 +27,8 @@ found {m} {lo} {hi} s h =
     }
 
 -- what the test of a guess q shows, with h = q - 1
-pub passed : (m q : ℕ) → 0 < q → let h = q - 1 in (h * h + h) / 2 ^ 52 < m → m ≤ (h * h + (3 * h + 2)) / 2 ^ 52 → Closest (m * 2 ^ 52) q
+pub passed : (m q : ℕ) → 0 < q → let h = q - 1 in (h * h + h) / 2 ^ 52 < m → m ≤ (h * h + (3 * h + 2)) / 2 ^ 52
+    → Closest (m * 2 ^ 52) q
 passed m q p a b =
     let h = q - 1 in
     let back : h + 1 ≡ q = omega arith in

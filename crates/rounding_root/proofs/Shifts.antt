@@ -29,7 +29,9 @@ evened p e d =
     rw whole
     (record {
       square = either i p (omega arith) d;
-      same = ap (λ (y : ℕ). p * 2 ^ y) parts ∙ ap (λ (y : ℕ). p * y) (pow-add 2 (i + 52) (k + k) ∙ ap₂ _*_ (pow-add 2 i 52) (pow-add 2 k k)) ∙ simp (mul-assoc);
+      same = ap (λ (y : ℕ). p * 2 ^ y) parts
+          ∙ ap (λ (y : ℕ). p * y) (pow-add 2 (i + 52) (k + k) ∙ ap₂ _*_ (pow-add 2 i 52) (pow-add 2 k k))
+          ∙ simp (mul-assoc);
     })
 
 -- ---- 53 digits
@@ -51,11 +53,13 @@ moved t p h =
     let past : suc j + z ≡ 53 = omega arith in
     let all : 1074 ≡ z + (1021 - z + 53) = omega arith in
     let whole : t * 2 ^ z % 2 ^ 64 ≡ t * 2 ^ z = shl-exact (suc j) z 64 (top .3) (omega arith) in
-    let least : 2 ^ 52 ≤ t * 2 ^ z = le-trans (le-of-eq (ap (λ (y : ℕ). 2 ^ y) (sym up) ∙ pow-add 2 j z)) (mul-le-mul-right (2 ^ z) (top .2)) in
+    let least : 2 ^ 52 ≤ t * 2 ^ z = le-trans (le-of-eq (ap (λ (y : ℕ). 2 ^ y) (sym up) ∙ pow-add 2 j z))
+    (mul-le-mul-right (2 ^ z) (top .2)) in
     let most : t * 2 ^ z < 2 ^ 53 = subst (λ (y : ℕ). t * 2 ^ z < 2 ^ y) past (shl-lt (suc j) z (top .3)) in
     record {
       at-least = omega arith;
       at-most = omega arith;
       digits = record { low = omega arith; high = omega arith };
-      same = ap (λ (y : ℕ). t * 2 ^ y) all ∙ ap (λ (y : ℕ). t * y) (pow-add 2 z (1021 - z + 53)) ∙ sym (mul-assoc t (2 ^ z) (2 ^ (1021 - z + 53))) ∙ ap (λ (y : ℕ). y * 2 ^ (1021 - z + 53)) (sym whole);
+      same = ap (λ (y : ℕ). t * 2 ^ y) all ∙ ap (λ (y : ℕ). t * y) (pow-add 2 z (1021 - z + 53))
+          ∙ sym (mul-assoc t (2 ^ z) (2 ^ (1021 - z + 53))) ∙ ap (λ (y : ℕ). y * 2 ^ (1021 - z + 53)) (sym whole);
     }

@@ -35,11 +35,13 @@ pub square-lt-back : {a b : ℕ} → a * a < b * b → a < b
 square-lt-back {a} {b} h = lt-of-not-le (λ (g : b ≤ a). not-le-of-lt h (square-le g))
 
 pub square-le-back : {a b : ℕ} → a * a ≤ b * b → a ≤ b
-square-le-back {a} {b} h = let l : a < suc b = lt-of-not-le (λ (g : suc b ≤ a). not-le-of-lt (square-lt g) h) in omega arith
+square-le-back {a} {b} h = let l : a < suc b = lt-of-not-le (λ (g : suc b ≤ a). not-le-of-lt (square-lt g) h) in omega
+    arith
 
 -- (a + 1) * (a + 1) and (2 * a + 1) * (2 * a + 1), written out
 pub square-next : (a : ℕ) → (a + 1) * (a + 1) ≡ a * a + 2 * a + 1
-square-next a = mul-add (a + 1) a 1 ∙ ap (λ (x : ℕ). x + (a + 1) * 1) (add-mul a 1 a) ∙ (let u : 1 * a ≡ a = one-mul a in omega arith)
+square-next a = mul-add (a + 1) a 1 ∙ ap (λ (x : ℕ). x + (a + 1) * 1) (add-mul a 1 a)
+    ∙ (let u : 1 * a ≡ a = one-mul a in omega arith)
 
 pub square-odd : (a : ℕ) → (2 * a + 1) * (2 * a + 1) ≡ 4 * (a * a) + 4 * a + 1
 square-odd a =
@@ -63,7 +65,8 @@ step n s is = go (leb (r1 * r1) n) (leb→le (r1 * r1) n) (nleb→lt (r1 * r1) n
     r1 : ℕ
     r1 = 2 * s + 1
 
-    go : (b : Bool) → (T b → (2 * s + 1) * (2 * s + 1) ≤ n) → (T (not b) → n < (2 * s + 1) * (2 * s + 1)) → IsRoot n (cond b (2 * s + 1) (2 * s))
+    go : (b : Bool) → (T b → (2 * s + 1) * (2 * s + 1) ≤ n) → (T (not b) → n < (2 * s + 1) * (2 * s + 1))
+        → IsRoot n (cond b (2 * s + 1) (2 * s))
     go true h g =
         let even : 2 * (s + 1) * (2 * (s + 1)) ≡ 4 * ((s + 1) * (s + 1)) = mul-mul-mul-comm 2 (s + 1) 2 (s + 1) in
         let same : 2 * s + 1 + 1 ≡ 2 * (s + 1) = omega arith in
@@ -88,7 +91,8 @@ none-higher {x} {a} {c} p q h =
     omega arith
 
 not-above : {x a b : ℕ} → Closest x a → Closest x b → a < b → ⊥
-not-above {x} {a} {b} p q h = let up : b ≡ b - 1 + 1 = omega arith in none-higher p (subst (Closest x) up q) (omega arith)
+not-above {x} {a} {b} p q h = let up : b
+    ≡ b - 1 + 1 = omega arith in none-higher p (subst (Closest x) up q) (omega arith)
 
 pub closest-unique : {x a b : ℕ} → Closest x a → Closest x b → a ≡ b
 closest-unique {x} {a} {b} p q =

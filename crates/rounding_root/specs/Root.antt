@@ -6,7 +6,8 @@ use lib.Dec.{leb}
 use lib.Ieee.{Float, nan, inf, fin, Format, prec, low, size, nearest, units}
 use Rattle.rounding.specs.Nearest.{inUnits}
 
--- The root of an n below 2 ^ d, rounded down to a whole number: twice the root of n / 4, or one more where the square of that is at most n.
+-- The root of an n below 2 ^ d, rounded down to a whole number: twice the root of n / 4, or one more where the square
+-- of that is at most n.
 unfoldable pub rootBelow : ℕ → ℕ → ℕ
 rootBelow zero n = 0
 rootBelow (suc d) n = let r = 2 * rootBelow d (n / 4) in cond (leb ((r + 1) * (r + 1)) n) (r + 1) r
@@ -15,9 +16,10 @@ unfoldable pub root : ℕ → ℕ
 unfolding rootBelow size
 root n = rootBelow (size n) n
 
--- The value of the format f that is nearest to √n, in units of f's smallest value. Of the root's whole part the format keeps the `prec` leading
--- digits and drops k, so that √n lies from q * 2 ^ k up to (q + 1) * 2 ^ k. It goes to the nearer one: half their sum is the middle between them,
--- so √n lies below or above the middle as 4 * n lies below or above the square of the sum. At a tie it goes to the even one.
+-- The value of the format f that is nearest to √n, in units of f's smallest value. Of the root's whole part the
+-- format keeps the `prec` leading digits and drops k, so that √n lies from q * 2 ^ k up to (q + 1) * 2 ^ k. It goes
+-- to the nearer one: half their sum is the middle between them, so √n lies below or above the middle as 4 * n lies
+-- below or above the square of the sum. At a tie it goes to the even one.
 unfoldable pub nearestRoot : Format → ℕ → Float
 unfolding root size units
 nearestRoot f n =

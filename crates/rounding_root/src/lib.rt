@@ -1,4 +1,5 @@
-// The square root, correctly rounded. A guess with floats is tested with integers, and a search takes its place where the test fails.
+// The square root, correctly rounded. A guess with floats is tested with integers, and a search takes its place where
+// the test fails.
 ghost use mathlib.Core.Path.{_≡_};
 ghost use mathlib.Core.Bool.{true, false};
 ghost use Prim.Native.Nat.{_+_, _*_, _/_, _^_, _≤_, _<_};
@@ -21,7 +22,8 @@ fn high(h: u64, e: u64) -> u64
     a * a + (2 * a * b + (b * b + e) / 0x400_0000) / 0x400_0000
 }
 
-// Whether q is closest to √(m * 2 ^ 52): with h = q - 1, whether m * 2 ^ 52 is above h * (h + 1) and at most (h + 1) * (h + 2).
+// Whether q is closest to √(m * 2 ^ 52): with h = q - 1, whether m * 2 ^ 52 is above h * (h + 1) and at most (h + 1)
+// * (h + 2).
 fn is_closest(m: u64, q: u64) -> bool
     requires { ⌜ Digits q ⌝ }
     ensures { λ r. ⌜ (r ≡ true → Closest (m * 2 ^ 52) q) ⌝ }
@@ -51,9 +53,9 @@ fn searched(m: u64) -> u64
     lo + 1
 }
 
-// A guess at the root of p * 2 ^ twice / 2 ^ 52, which lies from 1 up to 4. The first guess at the inverse root comes from the bits, and three
-// steps double its digits. In the last step a is s cut to 26 digits, so that a * a is exact and x - s * s is known to its last digits.
-// The guess is nearly always right, and only the speed rests on that.
+// A guess at the root of p * 2 ^ twice / 2 ^ 52, which lies from 1 up to 4. The first guess at the inverse root comes
+// from the bits, and three steps double its digits. In the last step a is s cut to 26 digits, so that a * a is exact
+// and x - s * s is known to its last digits. The guess is nearly always right, and only the speed rests on that.
 fn guess(p: u64, twice: u64) -> f64
     requires { ⌜ (Digits p) × (twice ≤ 1) ⌝ }
 {

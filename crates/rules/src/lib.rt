@@ -7,7 +7,8 @@ ghost use Rattle.rules_double.specs.Double.{DoubleCall};
 
 // One average: the sign of price less the doubly averaged price, from bar 2n - 2 on.
 pub fn single_sma_positions(series: &[f64], n: usize, out: &mut [f64], work: &mut [f64]) -> Answer
-    ensures { λ r. ⌜ SingleCall (now (series .entry)) n (now (out .entry)) (now (work .entry)) r (now (out .exit)) (now (work .exit)) ⌝ }
+    ensures { λ r. ⌜ SingleCall (now (series .entry)) n (now (out .entry)) (now (work .entry)) r (now (out .exit))
+        (now (work .exit)) ⌝ }
 {
     let due = checks::answer_window_with_work(series, n, out.len(), work.len());
     if checks::cells_due(due, series.len(), work) {
@@ -19,7 +20,8 @@ pub fn single_sma_positions(series: &[f64], n: usize, out: &mut [f64], work: &mu
 
 // The middle: the sign of the mean less the middle of the last n means, from bar 2n - 2 on.
 pub fn mid_positions(series: &[f64], n: usize, out: &mut [f64], work: &mut [f64]) -> Answer
-    ensures { λ r. ⌜ MidCall (now (series .entry)) n (now (out .entry)) (now (work .entry)) r (now (out .exit)) (now (work .exit)) ⌝ }
+    ensures { λ r. ⌜ MidCall (now (series .entry)) n (now (out .entry)) (now (work .entry)) r (now (out .exit))
+        (now (work .exit)) ⌝ }
 {
     let due = checks::answer_window_with_work(series, n, out.len(), work.len());
     if checks::cells_due(due, series.len(), work) {

@@ -1,4 +1,5 @@
--- Sums, means and extremes of accepted prices are finite: their magnitudes stay within whole bounds, which rounding does not cross. Assumes nothing.
+-- Sums, means and extremes of accepted prices are finite: their magnitudes stay within whole bounds, which rounding
+-- does not cross. Assumes nothing.
 use Prim.Native.Nat.{ℕ, _+_, _-_, _^_, _<_, _≤_}
 use native.Mathlib.Omega.{arith}
 use Rattle.cells.specs.Line.{Line}

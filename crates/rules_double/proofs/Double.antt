@@ -1,4 +1,5 @@
--- How the stages of a rule fit together: what they ask of each other, and a cell from what the stages before it wrote. Assumes nothing.
+-- How the stages of a rule fit together: what they ask of each other, and a cell from what the stages before it
+-- wrote. Assumes nothing.
 use mathlib.Core.Path.{_≡_}
 use Prim.Native.Nat.{ℕ, _+_, _-_, _<_, _≤_}
 use native.Mathlib.Omega.{arith}
@@ -24,6 +25,7 @@ causal-double n m p q =
 abbrev pub Sum : ℕ → Line → ℕ → Float → Type 0
 Sum n f i x = Running addThenSubtract n f (i + 1) x
 
-pub double-at : {n m : ℕ} {f : Line} (i : ℕ) {x y : Float} → Sum n f i x → Sum m f i y → m ≤ i + 1 → crossing n m x y ≡ doubleLine n m f i
+pub double-at : {n m : ℕ} {f : Line} (i : ℕ) {x y : Float} → Sum n f i x → Sum m f i y → m ≤ i + 1 → crossing n m x y
+    ≡ doubleLine n m f i
 unfolding doubleLine runningMean
 double-at {m = m} i s t h = rw (s .is, t .is, from-bar (m - 1) plusZero _ i (omega arith))

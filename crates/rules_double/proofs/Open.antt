@@ -26,7 +26,8 @@ module _ (s : List Float) (n m output k : ℕ) (e : doubleAnswer s n m output �
   -- it has room for its cells
   pub double-room : Room accepted s output []
   unfolding doubleAnswer
-  double-room = checked-room accepted s output [] _ (andThen-cells (checked accepted (s ∷ []) (output ∷ []) []) _ k e .0)
+  double-room = checked-room accepted s output [] _
+      (andThen-cells (checked accepted (s ∷ []) (output ∷ []) []) _ k e .0)
 
   module _ (h : 0 < k) where
     parts : DoubleOpen n m × (Cells (length s) ≡ Cells k)

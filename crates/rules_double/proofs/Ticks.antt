@@ -26,7 +26,8 @@ subtract-slides = record {
 }
 
 module _ {l : ℕ} {f : Line} {t : ℕ → ℤ} (w : TickLine l f t) where
-  running-mean-exact : (n i : ℕ) → 0 < n → n ≤ 2 ^ 12 → n ≤ i + 1 → i < l → runningMean n f i ≡ quotient binary64 (windowTotal n t i) n
+  running-mean-exact : (n i : ℕ) → 0 < n → n ≤ 2 ^ 12 → n ≤ i + 1 → i < l → runningMean n f i
+      ≡ quotient binary64 (windowTotal n t i) n
   unfolding runningMean
   running-mean-exact n i N M b h = rw (running-exact w subtract-slides n (i + 1 - n) N M (omega arith))
 
@@ -37,6 +38,11 @@ module _ {l : ℕ} {f : Line} {t : ℕ → ℤ} (w : TickLine l f t) where
   double-exact n m i N L M b h =
       let x = window-size w (i + 1 - n) n (omega arith) in
       let y = window-size w (i + 1 - m) m (omega arith) in
-      rw (from-bar (m - 1) plusZero _ i (omega arith), running-mean-exact n i N (omega arith) (omega arith) h, running-mean-exact m i (omega arith) M b h)
-      (quotient-sign (window-whole w n N (omega arith) (i + 1 - n) (omega arith)) (window-whole w m (omega arith) M (i + 1 - m) (omega arith))
+      rw (
+        from-bar (m - 1) plusZero _ i (omega arith),
+        running-mean-exact n i N (omega arith) (omega arith) h,
+        running-mean-exact m i (omega arith) M b h,
+      )
+      (quotient-sign (window-whole w n N (omega arith) (i + 1 - n) (omega arith))
+      (window-whole w m (omega arith) M (i + 1 - m) (omega arith))
       (products (natAbs (windowTotal n t i)) (natAbs (windowTotal m t i)) n m x y (omega arith) M))

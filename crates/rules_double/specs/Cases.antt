@@ -6,7 +6,12 @@ use lib.IntN.{pos, negsuc}
 use lib.ListN.{replicate}
 use lib.Ieee.{Float, nan, fin, round, add, sub, div, ofInt, lt, eq, le, toBits}
 use Rattle.rounding.specs.Leaves.{one, signOf}
-use Rattle.calls.specs.declared.Refusal.the-variants.{OutputTooShort, ValueNotAccepted, WindowTooLong, WindowsOutOfOrder}
+use Rattle.calls.specs.declared.Refusal.the-variants.{
+  OutputTooShort,
+  ValueNotAccepted,
+  WindowTooLong,
+  WindowsOutOfOrder,
+}
 use Rattle.calls.specs.declared.Answer.the-variants.{Cells, Refused}
 use Rattle.values.specs.Accepted.{accepted}
 use Rattle.calls.specs.Answer.{slices, checked, windowed}
@@ -42,7 +47,8 @@ double-edges : cellsOf (doubleLine 1 2) (least ∷ plusZero ∷ []) ∷ cellsOf 
 unfolding doubleLine runningMean runningSum recur sumFrom fromBar signOf add sub div ofInt round
 double-edges = refl
 
--- windows in order; out of order; none, and no bars, before that; too long before both; an output too short and a NaN before all
+-- windows in order; out of order; none, and no bars, before that; too long before both; an output too short and a NaN
+-- before all
 double-answers : doubleAnswer (plusZero ∷ []) 1 2 1
     ∷ doubleAnswer (plusZero ∷ []) 2 2 1
     ∷ doubleAnswer (plusZero ∷ []) 3 0 1

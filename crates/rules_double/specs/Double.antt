@@ -1,5 +1,5 @@
--- The three rules of the sheet: what each answers and writes. A position is the sign of a difference: +1 for +0.0 and above,
--- -1 for -0.0 and below. Assumes nothing.
+-- The three rules of the sheet: what each answers and writes. A position is the sign of a difference: +1 for +0.0 and
+-- above, -1 for -0.0 and below. Assumes nothing.
 use mathlib.Core.List.{List, [], _∷_}
 use Prim.Native.Nat.{ℕ, _+_, _-_}
 use lib.Dec.{ltb}

@@ -38,7 +38,8 @@ fn running_sum(series: &[f64], n: usize, i: usize) -> f64
 // Writes the positions from bar m - 1 on, where both averages are there, by running sums.
 fn write_crossings(series: &[f64], n: usize, m: usize, out: &mut [f64])
     requires { ⌜ Started n m (now series) (now out) ⌝ }
-    ensures { λ _. ⌜ Writing (length (now (series .entry))) (doubleLine n m (line (now (series .entry)))) (now (out .entry)) (now (out .exit)) ⌝ }
+    ensures { λ _. ⌜ Writing (length (now (series .entry))) (doubleLine n m (line (now (series .entry))))
+        (now (out .entry)) (now (out .exit)) ⌝ }
 {
     let mut short = running_sum(series, n, m);
     let mut long = running_sum(series, m, m);
@@ -55,7 +56,8 @@ fn write_crossings(series: &[f64], n: usize, m: usize, out: &mut [f64])
 // Writes each bar's position.
 pub fn write_double(series: &[f64], n: usize, m: usize, out: &mut [f64])
     requires { ⌜ Window n × Window m × (n < m) × (length (now series) ≤ length (now out)) ⌝ }
-    ensures { λ _. ⌜ Writing (length (now (series .entry))) (doubleLine n m (line (now (series .entry)))) (now (out .entry)) (now (out .exit)) ⌝ }
+    ensures { λ _. ⌜ Writing (length (now (series .entry))) (doubleLine n m (line (now (series .entry))))
+        (now (out .entry)) (now (out .exit)) ⌝ }
 {
     let first = cells::fill_lead(out, m - 1, series.len(), 0.0);
     if first < series.len() {

@@ -1,4 +1,5 @@
--- How the stages of a rule fit together: what they ask of each other, and a cell from what the stages before it wrote. Assumes nothing.
+-- How the stages of a rule fit together: what they ask of each other, and a cell from what the stages before it
+-- wrote. Assumes nothing.
 use mathlib.Core.Path.{_≡_}
 use mathlib.Core.List.{List}
 use Prim.Native.Nat.{ℕ, _+_, _-_, _*_, _<_, zero, suc, _≤_}
@@ -36,16 +37,19 @@ beside-same (suc a) b g f g′ f′ p q (suc i) l =
     beside-same a b (λ j. g (suc j)) f (λ j. g′ (suc j)) f′ (λ j m. p (suc j) (omega arith)) q i (omega arith)
 
 -- two causal operators, side by side, on the first part of a slice, which holds the line g
-pub both-through : {k : ℕ} {g : Line} {old mid : List Float} → Writing k g old mid → k ≤ length old → (F G : Line → Line) {a b : List Float}
+pub both-through : {k : ℕ} {g : Line} {old mid : List Float} → Writing k g old mid → k ≤ length old
+    → (F G : Line → Line) {a b : List Float}
     → Causal F → Causal G
     → (let t = take k mid in Writing (length t + length t) (beside (length t) (F (line t)) (G (line t))) a b)
     → Writing (k + k) (beside k (F g) (G g)) a b
 both-through {k} {g} {mid = mid} w h F G p q v =
     let t = line (take k mid) in
     let same : (i : ℕ) → i < k → (j : ℕ) → j ≤ i → t j ≡ g j = λ i l j m. part-is w h j (omega arith) in
-    writing-same (rw (part-long w h) at v) (beside-same k k _ _ _ _ (λ i l. p t g i (same i l)) (λ i l. q t g i (same i l)))
+    writing-same (rw (part-long w h) at v)
+    (beside-same k k _ _ _ _ (λ i l. p t g i (same i l)) (λ i l. q t g i (same i l)))
 
-pub mid-at : (n : ℕ) (f : Line) (i : ℕ) {m h l : Float} → m ≡ mean n f i → h ≡ extreme larger n (mean n f) i → l ≡ extreme smaller n (mean n f) i
+pub mid-at : (n : ℕ) (f : Line) (i : ℕ) {m h l : Float} → m ≡ mean n f i → h ≡ extreme larger n (mean n f) i → l
+    ≡ extreme smaller n (mean n f) i
     → 2 * n - 2 ≤ i → againstMiddle m h l ≡ midLine n f i
 unfolding midLine
 mid-at n f i e g k p = rw (e, g, k, from-bar (2 * n - 2) plusZero _ i p)

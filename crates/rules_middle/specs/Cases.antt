@@ -22,7 +22,8 @@ up = one false
 abbrev down : Float
 down = one true
 
--- 1, 3, 5, 2 with n 2 has the means 0, 2, 4, 3.5; -2, 2, 4 has the means 0, 0, 3, of which the lowest is 0; 5 with n 1 is its own middle
+-- 1, 3, 5, 2 with n 2 has the means 0, 2, 4, 3.5; -2, 2, 4 has the means 0, 0, 3, of which the lowest is 0; 5 with n
+-- 1 is its own middle
 mid-cases : cellsOf (midLine 2) (prices (pos 1 ∷ pos 3 ∷ pos 5 ∷ pos 2 ∷ []))
     ∷ cellsOf (midLine 2) (prices (negsuc 1 ∷ pos 2 ∷ pos 4 ∷ []))
     ∷ cellsOf (midLine 1) (prices (pos 5 ∷ []))

@@ -27,7 +27,8 @@ fn against_middle(average: f64, high: f64, low: f64) -> f64
 // Writes the mean of each bar to `out`, and the highest and the lowest of the last n means to two rows of `work`.
 fn write_ranges(series: &[f64], n: usize, out: &mut [f64], work: &mut [f64])
     requires { ⌜ Priced 2 n (now series) (length (now out)) (length (now work)) ⌝ }
-    ensures { λ _. ⌜ Writing (length (now (series .entry))) (mean n (line (now (series .entry)))) (now (out .entry)) (now (out .exit))
+    ensures { λ _. ⌜ Writing (length (now (series .entry))) (mean n (line (now (series .entry)))) (now (out .entry))
+        (now (out .exit))
         × Ranges n (now (series .entry)) (now (work .entry)) (now (work .exit)) ⌝ }
 {
     let bars = series.len();
@@ -39,7 +40,8 @@ fn write_ranges(series: &[f64], n: usize, out: &mut [f64], work: &mut [f64])
 fn write_against_middles(series: &[f64], n: usize, out: &mut [f64], work: &[f64])
     requires { ⌜ Averaged n (now series) (mean n (line (now series))) (now out) ⌝ }
     requires { ⌜ (2 * length (now series) ≤ length (now work)) × Ranges n (now series) (now work) (now work) ⌝ }
-    ensures { λ _. ⌜ Writing (length (now (series .entry))) (midLine n (line (now (series .entry)))) (now (out .entry)) (now (out .exit)) ⌝ }
+    ensures { λ _. ⌜ Writing (length (now (series .entry))) (midLine n (line (now (series .entry))))
+        (now (out .entry)) (now (out .exit)) ⌝ }
 {
     let bars = series.len();
     let mut i = cells::fill_lead(out, 2 * n - 2, bars, 0.0);
@@ -52,7 +54,8 @@ fn write_against_middles(series: &[f64], n: usize, out: &mut [f64], work: &[f64]
 // Writes each bar's position. The first two rows of `work` are used.
 pub fn write_mid(series: &[f64], n: usize, out: &mut [f64], work: &mut [f64])
     requires { ⌜ Priced 2 n (now series) (length (now out)) (length (now work)) ⌝ }
-    ensures { λ _. ⌜ Writing (length (now (series .entry))) (midLine n (line (now (series .entry)))) (now (out .entry)) (now (out .exit))
+    ensures { λ _. ⌜ Writing (length (now (series .entry))) (midLine n (line (now (series .entry))))
+        (now (out .entry)) (now (out .exit))
         × Touched (2 * length (now (series .entry))) (now (work .entry)) (now (work .exit)) ⌝ }
 {
     write_ranges(series, n, out, work);

@@ -1,5 +1,5 @@
--- The three rules of the sheet: what each answers and writes. A position is the sign of a difference: +1 for +0.0 and above,
--- -1 for -0.0 and below. Assumes nothing.
+-- The three rules of the sheet: what each answers and writes. A position is the sign of a difference: +1 for +0.0 and
+-- above, -1 for -0.0 and below. Assumes nothing.
 use mathlib.Core.Path.{_≡_}
 use Prim.Native.Nat.{ℕ, _-_, _*_, _≤_}
 use lib.Ieee.{Float}
@@ -19,6 +19,7 @@ causal-single n =
 
 -- ---- one average
 
-pub single-at : (n : ℕ) (f : Line) (i : ℕ) {m : Float} → m ≡ mean n (mean n f) i → 2 * n - 2 ≤ i → againstMean (f i) m ≡ singleLine n f i
+pub single-at : (n : ℕ) (f : Line) (i : ℕ) {m : Float} → m ≡ mean n (mean n f) i → 2 * n - 2 ≤ i → againstMean (f i) m
+    ≡ singleLine n f i
 unfolding singleLine
 single-at n f i e h = rw (e, from-bar (2 * n - 2) plusZero _ i h)

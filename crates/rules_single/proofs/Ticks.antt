@@ -56,9 +56,11 @@ unfolding ne
 apart a b h e p =
     let x = ofInt binary64 b in
     let other : ne x x ≡ true = rw (rw p at e) in
-    subst (λ (y : Float). HasValue y (isNegative b) (natAbs b) 1) (differs-from-itself x (rw other tt)) (whole-value binary64 b h)
+    subst (λ (y : Float). HasValue y (isNegative b) (natAbs b) 1) (differs-from-itself x (rw other tt))
+    (whole-value binary64 b h)
 
-module _ {l : ℕ} {f : Line} {t : ℕ → ℤ} (w : TickLine l f t) (n : ℕ) (N : 0 < n) (M : n ≤ 1022) (i : ℕ) (p : 2 * n ≤ i + 2) (h : i < l) where
+module _ {l : ℕ} {f : Line} {t : ℕ → ℤ} (w : TickLine l f t) (n : ℕ) (N : 0 < n) (M : n ≤ 1022) (i : ℕ)
+    (p : 2 * n ≤ i + 2) (h : i < l) where
   abbrev D : ℤ
   D = windowTotal n (windowTotal n t) i
 
@@ -67,37 +69,44 @@ module _ {l : ℕ} {f : Line} {t : ℕ → ℤ} (w : TickLine l f t) (n : ℕ) (
 
   total-small : natAbs D ≤ 2 ^ 53
   total-small =
-      let d = total-size (windowTotal n t) (i + 1 - n) n (n * 2 ^ 24) (λ j m. window-size w (i + 1 - n + j + 1 - n) n (omega arith)) in
+      let d = total-size (windowTotal n t) (i + 1 - n) n (n * 2 ^ 24)
+      (λ j m. window-size w (i + 1 - n + j + 1 - n) n (omega arith)) in
       omega (arith, square)
 
   total-exact : runs n (runs n f) i ≡ ofInt binary64 D
   total-exact =
       run-exact (runs-whole w n N (omega arith)) n N (omega (arith, square)) i (omega arith) h
-      ∙ ap (ofInt binary64) (total-same _ (windowTotal n t) (i + 1 - n) n (λ j m. from-bar (n - 1) (pos 0) (windowTotal n t) (i + 1 - n + j) (omega arith)))
+      ∙ ap (ofInt binary64) (total-same _ (windowTotal n t) (i + 1 - n) n
+      (λ j m. from-bar (n - 1) (pos 0) (windowTotal n t) (i + 1 - n + j) (omega arith)))
 
   scaled-small : natAbs (t i *ℤ pos (n * n)) ≤ 2 ^ 53
   scaled-small = rw (size-times (t i) (n * n)) (omega (arith, mul-le-mul (w .small i h) square))
 
   scaled-exact : mul binary64 (f i) (ofInt binary64 (pos (n * n))) ≡ ofInt binary64 (t i *ℤ pos (n * n))
-  scaled-exact = rw (w .is i h) (mul-whole binary64 (t i) (n * n) (omega (arith, w .small i h)) (mul-pos N N, omega (arith, square)))
+  scaled-exact = rw (w .is i h) (mul-whole binary64 (t i) (n * n) (omega (arith, w .small i h))
+      (mul-pos N N, omega (arith, square)))
 
   -- where there is no tie, whole numbers decide
   pub no-tie : tie (mul binary64 (f i) (ofInt binary64 (pos (n * n)))) (runs n (runs n f) i) ≡ false
-      → singleLine n f i ≡ cond (lt (mul binary64 (f i) (ofInt binary64 (pos (n * n)))) (runs n (runs n f) i)) minusOne plusOne
+      → singleLine n f i ≡ cond (lt (mul binary64 (f i) (ofInt binary64 (pos (n * n)))) (runs n (runs n f) i))
+      minusOne plusOne
   no-tie e =
-      let parts = or-parts (eq (ofInt binary64 (t i *ℤ pos (n * n))) (ofInt binary64 D)) (eq (ofInt binary64 D) plusZero) (rw (← scaled-exact, ← total-exact) e) in
+      let parts = or-parts (eq (ofInt binary64 (t i *ℤ pos (n * n))) (ofInt binary64 D))
+      (eq (ofInt binary64 D) plusZero) (rw (← scaled-exact, ← total-exact) e) in
       let some : ¬ (D ≡ pos 0) = apart D (pos 0) zero-le (rw (zero-is binary64) (parts .1)) in
       let other = apart (t i *ℤ pos (n * n)) D total-small (parts .0) in
       let order =
       about-order (about-whole binary64 (t i *ℤ pos (n * n)) scaled-small) (about-whole binary64 D total-small)
       (λ q. other (sym (times-one (t i *ℤ pos (n * n))) ∙ q ∙ times-one D)) (lit< tt) in
-      rw (scaled-exact, total-exact, order, times-one (t i *ℤ pos (n * n)), times-one D) (single-exact w n i N M p h some other)
+      rw (scaled-exact, total-exact, order, times-one (t i *ℤ pos (n * n)), times-one D)
+      (single-exact w n i N M p h some other)
 
 pub whole-is-float : (k : ℕ) → k ≤ 2 ^ 53 → T (inFloat binary64 (pos k))
 unfolding inFloat
 whole-is-float k h = le→leb k (2 ^ 53) h
 
-module _ {n : ℕ} {s now : List Float} (r : TickRows n s now) (floats : (i : ℕ) → T (fits binary64 (line s i))) (i : ℕ) (p : 2 * n ≤ i + 2) (h : i < length s) where
+module _ {n : ℕ} {s now : List Float} (r : TickRows n s now) (floats : (i : ℕ) → T (fits binary64 (line s i))) (i : ℕ)
+    (p : 2 * n ≤ i + 2) (h : i < length s) where
   mean-cell : (j : ℕ) → j ≤ i → line now j ≡ mean n (line s) j
   mean-cell j l = read-back j nan (r .rows) (omega (arith, r .room)) ∙ beside-first (length s) _ _ j (omega arith)
 
@@ -110,5 +119,7 @@ module _ {n : ℕ} {s now : List Float} (r : TickRows n s now) (floats : (i : �
 
   -- and so does the total where there is no tie
   pub by-total : tie (mul binary64 (line s i) (ofInt binary64 (pos (n * n)))) (line now (length s + i)) ≡ false
-      → singleLine n (line s) i ≡ cond (lt (mul binary64 (line s i) (ofInt binary64 (pos (n * n)))) (line now (length s + i))) minusOne plusOne
-  by-total e = rw total-cell (no-tie (tick-line s (λ j l. floats j) (r .ticks)) n (r .some) (r .narrow) i p h (rw (← total-cell) e))
+      → singleLine n (line s) i ≡ cond (lt (mul binary64 (line s i) (ofInt binary64 (pos (n * n))))
+      (line now (length s + i))) minusOne plusOne
+  by-total e = rw total-cell (no-tie (tick-line s (λ j l. floats j) (r .ticks)) n (r .some) (r .narrow) i p h
+      (rw (← total-cell) e))

@@ -1,5 +1,5 @@
--- The three rules of the sheet: what each answers and writes. A position is the sign of a difference: +1 for +0.0 and above,
--- -1 for -0.0 and below. Assumes nothing.
+-- The three rules of the sheet: what each answers and writes. A position is the sign of a difference: +1 for +0.0 and
+-- above, -1 for -0.0 and below. Assumes nothing.
 use mathlib.Core.Bool.{cond}
 use mathlib.Core.List.{List, [], _∷_}
 use Prim.Native.Nat.{ℕ, _-_, _*_}
@@ -26,4 +26,5 @@ singleLine n f = fromBar (2 * n - 2) plusZero (λ i. againstMean (f i) (mean n (
 -- what a call of `single_sma_positions` promises
 abbrev pub SingleCall : List Float → ℕ → List Float → List Float → Answer → List Float → List Float → Type 0
 SingleCall s n out₀ work₀ =
-    WorkCall (answered accepted s (n ∷ []) (length out₀) (length work₀ ∷ [])) (singleLine n (line s)) out₀ (length s) work₀
+    WorkCall (answered accepted s (n ∷ []) (length out₀) (length work₀ ∷ [])) (singleLine n (line s)) out₀ (length s)
+    work₀

@@ -28,7 +28,8 @@ fn against_mean(price: f64, average: f64) -> f64
 // Writes each bar's position over the doubly averaged price that stands in its cell.
 fn write_against_means(series: &[f64], n: usize, out: &mut [f64])
     requires { ⌜ Averaged n (now series) (mean n (mean n (line (now series)))) (now out) ⌝ }
-    ensures { λ _. ⌜ Writing (length (now (series .entry))) (singleLine n (line (now (series .entry)))) (now (out .entry)) (now (out .exit)) ⌝ }
+    ensures { λ _. ⌜ Writing (length (now (series .entry))) (singleLine n (line (now (series .entry))))
+        (now (out .entry)) (now (out .exit)) ⌝ }
 {
     let mut i = cells::fill_lead(out, 2 * n - 2, series.len(), 0.0);
     while i < series.len() {
@@ -65,7 +66,8 @@ fn tick_position(series: &[f64], work: &[f64], n: usize, i: usize) -> f64
 fn write_tick_positions(series: &[f64], work: &[f64], n: usize, out: &mut [f64])
     requires { ⌜ TickRows n (now series) (now work) ⌝ }
     requires { ⌜ length (now series) ≤ length (now out) ⌝ }
-    ensures { λ _. ⌜ Writing (length (now (series .entry))) (singleLine n (line (now (series .entry)))) (now (out .entry)) (now (out .exit)) ⌝ }
+    ensures { λ _. ⌜ Writing (length (now (series .entry))) (singleLine n (line (now (series .entry))))
+        (now (out .entry)) (now (out .exit)) ⌝ }
 {
     let mut i = cells::fill_lead(out, 2 * n - 2, series.len(), 0.0);
     while i < series.len() {
@@ -74,11 +76,13 @@ fn write_tick_positions(series: &[f64], work: &[f64], n: usize, out: &mut [f64])
     }
 }
 
-// Writes each bar's position of whole ticks. Running sums are exact, and decide all but ties. Two rows of `work` are used.
+// Writes each bar's position of whole ticks. Running sums are exact, and decide all but ties. Two rows of `work` are
+// used.
 fn write_single_of_ticks(series: &[f64], n: usize, out: &mut [f64], work: &mut [f64])
     requires { ⌜ Priced 2 n (now series) (length (now out)) (length (now work)) ⌝ }
     requires { ⌜ (n ≤ 1022) × (all tick (now series) ≡ true) ⌝ }
-    ensures { λ _. ⌜ Writing (length (now (series .entry))) (singleLine n (line (now (series .entry)))) (now (out .entry)) (now (out .exit))
+    ensures { λ _. ⌜ Writing (length (now (series .entry))) (singleLine n (line (now (series .entry))))
+        (now (out .entry)) (now (out .exit))
         × Touched (2 * length (now (series .entry))) (now (work .entry)) (now (work .exit)) ⌝ }
 {
     let bars = series.len();
@@ -92,7 +96,8 @@ fn write_single_of_ticks(series: &[f64], n: usize, out: &mut [f64], work: &mut [
 fn write_single_of_means(series: &[f64], n: usize, ticks: bool, out: &mut [f64], work: &mut [f64])
     requires { ⌜ Priced 2 n (now series) (length (now out)) (length (now work)) ⌝ }
     requires { ⌜ ticks ≡ longTicks n (now series) ⌝ }
-    ensures { λ _. ⌜ Writing (length (now (series .entry))) (singleLine n (line (now (series .entry)))) (now (out .entry)) (now (out .exit))
+    ensures { λ _. ⌜ Writing (length (now (series .entry))) (singleLine n (line (now (series .entry))))
+        (now (out .entry)) (now (out .exit))
         × Touched (2 * length (now (series .entry))) (now (work .entry)) (now (work .exit)) ⌝ }
 {
     let bars = series.len();
@@ -104,7 +109,8 @@ fn write_single_of_means(series: &[f64], n: usize, ticks: bool, out: &mut [f64],
 // Writes each bar's position. The first two rows of `work` are used.
 pub fn write_single(series: &[f64], n: usize, out: &mut [f64], work: &mut [f64])
     requires { ⌜ Priced 2 n (now series) (length (now out)) (length (now work)) ⌝ }
-    ensures { λ _. ⌜ Writing (length (now (series .entry))) (singleLine n (line (now (series .entry)))) (now (out .entry)) (now (out .exit))
+    ensures { λ _. ⌜ Writing (length (now (series .entry))) (singleLine n (line (now (series .entry))))
+        (now (out .entry)) (now (out .exit))
         × Touched (2 * length (now (series .entry))) (now (work .entry)) (now (work .exit)) ⌝ }
 {
     let ticks = window_means::are_long_ticks(series, n);

@@ -50,7 +50,8 @@ causal-smooth c f g (suc (suc (suc (suc i)))) s =
     )
 
 -- the first cells, copied
-pub copied : {n : ℕ} {f : Line} {old now : List Float} (c : Coefficients) → Writing n f old now → n ≤ 4 → Writing n (smooth c f) old now
+pub copied : {n : ℕ} {f : Line} {old now : List Float} (c : Coefficients) → Writing n f old now → n ≤ 4
+    → Writing n (smooth c f) old now
 copied {f = f} c w h = writing-same w (λ i l. smooth-first c f i (omega arith))
 
 -- ---- NaN

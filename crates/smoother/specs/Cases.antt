@@ -1,4 +1,5 @@
--- Small cases, computed from the definitions: which numbers are periods, answers, cells that pure.rs gave, and true ranges by hand. Assumes nothing.
+-- Small cases, computed from the definitions: which numbers are periods, answers, cells that pure.rs gave, and true
+-- ranges by hand. Assumes nothing.
 use mathlib.Core.Path.{_≡_, refl}
 use mathlib.Core.Bool.{true, false}
 use mathlib.Core.List.{List, [], _∷_, map}
@@ -60,14 +61,18 @@ prices = num 1 ∷ num 2 ∷ num 4 ∷ num 8 ∷ num 16 ∷ num 3 ∷ fin true 5
 abbrev after : List ℕ → List Float
 after bits = num 1 ∷ num 2 ∷ num 4 ∷ num 8 ∷ map (ofBits binary64) bits
 
-smoother-cases : (cells 7 (smooth (coefficients 1) (line prices)) ≡ after (0x402e032557b07129 ∷ 0x402072ae644d8d3d ∷ 0xc019199a751d7ae9 ∷ []))
-    × (cells 7 (smooth (coefficients 20) (line prices)) ≡ after (0x402997bd8c59063a ∷ 0x402da0c57a126a6d ∷ 0x402703a8c3744453 ∷ []))
-    × (cells 7 (smooth (coefficients 512) (line prices)) ≡ after (0x402811b1260fa8f8 ∷ 0x402fe9bb19a15441 ∷ 0x4033a0ecc365586c ∷ []))
+smoother-cases : (cells 7 (smooth (coefficients 1) (line prices))
+    ≡ after (0x402e032557b07129 ∷ 0x402072ae644d8d3d ∷ 0xc019199a751d7ae9 ∷ []))
+    × (cells 7 (smooth (coefficients 20) (line prices))
+    ≡ after (0x402997bd8c59063a ∷ 0x402da0c57a126a6d ∷ 0x402703a8c3744453 ∷ []))
+    × (cells 7 (smooth (coefficients 512) (line prices))
+    ≡ after (0x402811b1260fa8f8 ∷ 0x402fe9bb19a15441 ∷ 0x4033a0ecc365586c ∷ []))
     × (cells 5 (smooth (coefficients 0) (line prices)) ≡ num 1 ∷ num 2 ∷ num 4 ∷ num 8 ∷ nan ∷ [])
 unfolding smooth formula coefficients ofPair a1Of b1Of a1Table b1Table a1Bits b1Bits ofBits ofInt neg add sub mul div
 smoother-cases = (refl, refl, refl, refl)
 
--- bar 0 does not look at its close; then the low is farthest from the close before, the high is, all are equal, and the bar itself is longest
+-- bar 0 does not look at its close; then the low is farthest from the close before, the high is, all are equal, and
+-- the bar itself is longest
 range-cases : cells 5 (trueRangeLine
     (line (num 5 ∷ num 5 ∷ num 10 ∷ num 3 ∷ num 7 ∷ []))
     (line (num 3 ∷ num 3 ∷ num 8 ∷ num 3 ∷ num 2 ∷ []))

@@ -23,7 +23,8 @@ formula c p0 p1 p2 us1 us2 =
     let newest = mul binary64 (sub binary64 (power 0) (c .c1)) p0 in
     let second = mul binary64 (sub binary64 (mul binary64 (power 1) (c .c1)) (c .c2)) p1 in
     let third = mul binary64 (add binary64 (c .c1) (c .c3)) p2 in
-    add binary64 (add binary64 (sub binary64 (add binary64 newest second) third) (mul binary64 (c .c2) us1)) (mul binary64 (c .c3) us2)
+    add binary64 (add binary64 (sub binary64 (add binary64 newest second) third) (mul binary64 (c .c2) us1))
+    (mul binary64 (c .c3) us2)
 
 -- The first four cells copy the input, and from bar 4 on the formula holds.
 unfoldable pub smooth : Coefficients → Line → Line
@@ -32,7 +33,8 @@ smooth c f (suc zero) = f 1
 smooth c f (suc (suc zero)) = f 2
 smooth c f (suc (suc (suc zero))) = f 3
 smooth c f (suc (suc (suc (suc i)))) =
-    formula c (f (suc (suc (suc (suc i))))) (f (suc (suc (suc i)))) (f (suc (suc i))) (smooth c f (suc (suc (suc i)))) (smooth c f (suc (suc i)))
+    formula c (f (suc (suc (suc (suc i))))) (f (suc (suc (suc i)))) (f (suc (suc i))) (smooth c f (suc (suc (suc i))))
+    (smooth c f (suc (suc i)))
 
 -- ---- the answer
 

@@ -52,7 +52,8 @@ unfolding rising
 rising-at x [] e k h = absurd (not-suc-le-zero h)
 rising-at x (y ∷ []) e k h = absurd (not-suc-le-zero (le-of-suc-le-suc h))
 rising-at x (y ∷ z ∷ zs) e zero h = and-parts (lt y z) (rising z zs) (and-parts (lt x y) (rising y (z ∷ zs)) e .1) .0
-rising-at x (y ∷ z ∷ zs) e (suc k) h = rising-at y (z ∷ zs) (and-parts (lt x y) (rising y (z ∷ zs)) e .1) k (le-of-suc-le-suc h)
+rising-at x (y ∷ z ∷ zs) e (suc k) h = rising-at y (z ∷ zs) (and-parts (lt x y) (rising y (z ∷ zs)) e .1) k
+    (le-of-suc-le-suc h)
 
 read : (a1 b1 : Float) → inBounds a1 b1 ≡ true → InBounds a1 b1
 read a1 b1 e =

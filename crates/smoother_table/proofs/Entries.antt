@@ -8,7 +8,8 @@ use lib.Ieee.{nan}
 use Rattle.smoother_table.specs.Coefficients.{a1Of, a1Table, b1Of, b1Table, coefficients, ofPair}
 
 -- the tables begin at period 1
-pub at-index : (period : ℕ) → 0 < period → ofPair (getD a1Table (period - 1) nan) (getD b1Table (period - 1) nan) ≡ coefficients period
+pub at-index : (period : ℕ) → 0 < period → ofPair (getD a1Table (period - 1) nan) (getD b1Table (period - 1) nan)
+    ≡ coefficients period
 unfolding coefficients a1Of b1Of
 at-index zero p = absurd (not-suc-le-zero p)
 at-index (suc k) p =

@@ -13,7 +13,8 @@ use Rattle.values.specs.Accepted.{accepted}
 
 -- The largest of high less low, the size of high less the close before, and the size of low less it.
 unfoldable pub trueRange : Float → Float → Float → Float
-trueRange high low before = larger (larger (sub binary64 high low) (magnitudeOf (sub binary64 high before))) (magnitudeOf (sub binary64 low before))
+trueRange high low before = larger (larger (sub binary64 high low) (magnitudeOf (sub binary64 high before)))
+    (magnitudeOf (sub binary64 low before))
 
 -- Bar 0 has no close before it: there it is high less low.
 unfoldable pub trueRangeLine : Line → Line → Line → Line
@@ -23,4 +24,5 @@ trueRangeLine high low before (suc i) = trueRange (high (suc i)) (low (suc i)) (
 -- what a call of `true_range` promises
 abbrev pub TrueRangeCall : List Float → List Float → List Float → List Float → Answer → List Float → Type 0
 TrueRangeCall high low before out₀ =
-    Call (checked accepted (high ∷ low ∷ before ∷ []) (length out₀ ∷ []) []) (trueRangeLine (line high) (line low) (line before)) out₀
+    Call (checked accepted (high ∷ low ∷ before ∷ []) (length out₀ ∷ []) [])
+    (trueRangeLine (line high) (line low) (line before)) out₀

@@ -31,7 +31,8 @@ pub fn range_of(high: f64, low: f64, before: f64) -> f64
 // Writes the cell of bar 0, which has no close before it.
 fn write_first(high: &[f64], low: &[f64], close_prev: &[f64], out: &mut [f64])
     requires { ⌜ (0 < length (now high)) × Three (now high) (now low) (now «close_prev») (length (now out)) [] ⌝ }
-    ensures { λ _. ⌜ Ranging 1 (now (high .entry)) (now (low .entry)) (now («close_prev» .entry)) (now (out .entry)) (now (out .exit)) ⌝ }
+    ensures { λ _. ⌜ Ranging 1 (now (high .entry)) (now (low .entry)) (now («close_prev» .entry)) (now (out .entry))
+        (now (out .exit)) ⌝ }
 {
     out[0] = high[0] - low[0];
 }
@@ -40,7 +41,8 @@ fn write_first(high: &[f64], low: &[f64], close_prev: &[f64], out: &mut [f64])
 fn write_rest(high: &[f64], low: &[f64], close_prev: &[f64], out: &mut [f64])
     requires { ⌜ (0 < length (now high)) × Three (now high) (now low) (now «close_prev») (length (now out)) [] ⌝ }
     requires { ⌜ Ranging 1 (now high) (now low) (now «close_prev») (now out) (now out) ⌝ }
-    ensures { λ _. ⌜ Ranging (length (now (high .entry))) (now (high .entry)) (now (low .entry)) (now («close_prev» .entry)) (now (out .entry)) (now (out .exit)) ⌝ }
+    ensures { λ _. ⌜ Ranging (length (now (high .entry))) (now (high .entry)) (now (low .entry))
+        (now («close_prev» .entry)) (now (out .entry)) (now (out .exit)) ⌝ }
 {
     let mut i = 1;
     while i < high.len() {
@@ -52,7 +54,8 @@ fn write_rest(high: &[f64], low: &[f64], close_prev: &[f64], out: &mut [f64])
 // Writes the true range of every bar.
 pub fn write_true_range(high: &[f64], low: &[f64], close_prev: &[f64], out: &mut [f64])
     requires { ⌜ Three (now high) (now low) (now «close_prev») (length (now out)) [] ⌝ }
-    ensures { λ _. ⌜ Ranging (length (now (high .entry))) (now (high .entry)) (now (low .entry)) (now («close_prev» .entry)) (now (out .entry)) (now (out .exit)) ⌝ }
+    ensures { λ _. ⌜ Ranging (length (now (high .entry))) (now (high .entry)) (now (low .entry))
+        (now («close_prev» .entry)) (now (out .entry)) (now (out .exit)) ⌝ }
 {
     if high.len() > 0 {
         write_first(high, low, close_prev, out);
@@ -62,7 +65,8 @@ pub fn write_true_range(high: &[f64], low: &[f64], close_prev: &[f64], out: &mut
 
 // True range: see `trueRangeLine`.
 pub fn true_range(high: &[f64], low: &[f64], close_prev: &[f64], out: &mut [f64]) -> Answer
-    ensures { λ r. ⌜ TrueRangeCall (now (high .entry)) (now (low .entry)) (now («close_prev» .entry)) (now (out .entry)) r (now (out .exit)) ⌝ }
+    ensures { λ r. ⌜ TrueRangeCall (now (high .entry)) (now (low .entry)) (now («close_prev» .entry))
+        (now (out .entry)) r (now (out .exit)) ⌝ }
 {
     let due = checks::check_three(high, low, close_prev, out.len());
     if let Answer::Refused(_) = due {

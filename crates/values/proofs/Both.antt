@@ -19,7 +19,8 @@ pub record Tested (p : Float → Bool) (s : List Float) (good : Bool) (bits i : 
 -- no bit is set in either
 neither : (a b : ℕ) → eqb (bitOr a b) 0 ≡ eqb a 0 && eqb b 0
 neither zero b = refl
-neither (suc a) b = rw (ne-eqb (suc a) 0 (λ e. omega arith)) (ne-eqb (bitOr (suc a) b) 0 (λ e. omega (arith, or-add-and (suc a) b, and-le-r (suc a) b)))
+neither (suc a) b = rw (ne-eqb (suc a) 0 (λ e. omega arith))
+    (ne-eqb (bitOr (suc a) b) 0 (λ e. omega (arith, or-add-and (suc a) b, and-le-r (suc a) b)))
 
 in-turn : (a b c d r : Bool) → a && b && (c && d && r) ≡ a && c && (b && d) && r
 in-turn true true c d r = refl
@@ -32,10 +33,14 @@ module _ {p : Float → Bool} {s : List Float} where
   none-tested = record { is = refl }
 
   -- the next number
-  pub one-tested : {good : Bool} {a i : ℕ} (t : Bool) (b : ℕ) → Tested p s good a i → p (getD s i nan) ≡ t && eqb b 0 → i < length s
+  pub one-tested : {good : Bool} {a i : ℕ} (t : Bool) (b : ℕ) → Tested p s good a i → p (getD s i nan) ≡ t && eqb b 0
+      → i < length s
       → Tested p s (good && t) (bitOr a b) (i + 1)
   one-tested {good} {a} {i} t b r e h =
-      record { is = rw (r .is, all-next p s i h, e, neither a b) (in-turn good (eqb a 0) t (eqb b 0) (all p (drop (i + 1) s))) }
+      record {
+        is = rw (r .is, all-next p s i h, e, neither a b)
+            (in-turn good (eqb a 0) t (eqb b 0) (all p (drop (i + 1) s)));
+      }
 
   -- all of them
   pub all-tested : {good : Bool} {a i : ℕ} → Tested p s good a i → length s ≤ i → good && eqb a 0 ≡ all p s

@@ -1,5 +1,5 @@
--- Why a fraction shows beside 2 ^ 52: from there to 2 ^ 53 every number is whole, so what 2 ^ 52 was added to and taken from comes back
--- only if it is whole. Assumes nothing.
+-- Why a fraction shows beside 2 ^ 52: from there to 2 ^ 53 every number is whole, so what 2 ^ 52 was added to and
+-- taken from comes back only if it is whole. Assumes nothing.
 use mathlib.Core.Path.{_≡_, refl, sym, ap, _∙_}
 use mathlib.Core.Bool.{Bool, true, false, _&&_, true≢false}
 use Prim.Native.Nat.{ℕ, _+_, _-_, _*_, _/_, _%_, _^_, _<_, _≤_, compare}
@@ -64,12 +64,16 @@ in-ones (fin s m e) q l L v =
 module _ (n d : ℕ) (D : 0 < d) (low : 2 ^ 52 * d ≤ n) (high : n < 2 ^ 53 * d) where
   dropped : (t : ℕ) → size (n * 2 ^ t / d) - 53 ≡ t
   dropped t =
-      let a : 2 ^ (52 + t) * d ≤ n * 2 ^ t = rw (pow-add 2 52 t, mul-right-comm (2 ^ 52) (2 ^ t) d) (mul-le-mul-right (2 ^ t) low) in
-      let b : n * 2 ^ t < 2 ^ (53 + t) * d = rw (pow-add 2 53 t, mul-right-comm (2 ^ 53) (2 ^ t) d) (mul-lt-mul-of-pos-right high (pow-pos t)) in
-      one-size (size (n * 2 ^ t / d)) t (size-gt (n * 2 ^ t / d) (52 + t) (le-div-iff-mul-le D .1 a)) (size-le (n * 2 ^ t / d) (53 + t) (div-lt-iff-lt-mul D .1 b))
+      let a : 2 ^ (52 + t) * d ≤ n * 2 ^ t = rw (pow-add 2 52 t, mul-right-comm (2 ^ 52) (2 ^ t) d)
+      (mul-le-mul-right (2 ^ t) low) in
+      let b : n * 2 ^ t < 2 ^ (53 + t) * d = rw (pow-add 2 53 t, mul-right-comm (2 ^ 53) (2 ^ t) d)
+      (mul-lt-mul-of-pos-right high (pow-pos t)) in
+      one-size (size (n * 2 ^ t / d)) t (size-gt (n * 2 ^ t / d) (52 + t) (le-div-iff-mul-le D .1 a))
+      (size-le (n * 2 ^ t / d) (53 + t) (div-lt-iff-lt-mul D .1 b))
 
   same-closest : (t : ℕ) → closest (n * 2 ^ t) (d * 2 ^ t) ≡ closest n d
-  same-closest t = closest-same (n * 2 ^ t) (d * 2 ^ t) n d (mul-pos D (pow-pos t)) D (mul-right-comm n (2 ^ t) d ∙ mul-assoc n d (2 ^ t))
+  same-closest t = closest-same (n * 2 ^ t) (d * 2 ^ t) n d (mul-pos D (pow-pos t)) D
+      (mul-right-comm n (2 ^ t) d ∙ mul-assoc n d (2 ^ t))
 
   rounded : round binary64 false n d ≡ units binary64 false (closest n d) 1074
   rounded =
@@ -87,7 +91,8 @@ module _ (n d : ℕ) (D : 0 < d) (low : 2 ^ 52 * d ≤ n) (high : n < 2 ^ 53 * d
   rounded-value =
       let q = closest n d in
       let fits : q * 2 ^ 1074 < 2 ^ 2098 = lt-of-le-of-lt (mul-le-mul-right (2 ^ 1074) closest-high) (lit< tt) in
-      rw rounded (in-ones (units binary64 false q 1074) q (2 ^ 1074) (pow-pos 1074) (units-val binary64 false q 1074 fits))
+      rw rounded (in-ones (units binary64 false q 1074) q (2 ^ 1074) (pow-pos 1074)
+      (units-val binary64 false q 1074 fits))
 
 -- a / d with 2 ^ 52 added
 abbrev above : ℕ → ℕ → ℕ
@@ -106,7 +111,8 @@ left-whole a d D e =
     let parts : a / d * d + a % d ≡ a = div-add-mod' a d in
     let whole : above a d ≡ (a / d + 2 ^ 52) * d = rw (add-mul (a / d) (2 ^ 52) d) (omega arith) in
     let is : left a d ≡ a / d =
-    ap (λ (k : ℕ). closest k d - 2 ^ 52) whole ∙ ap (λ (k : ℕ). k - 2 ^ 52) (closest-whole (a / d + 2 ^ 52) d D) ∙ add-sub-cancel (a / d) (2 ^ 52) in
+    ap (λ (k : ℕ). closest k d - 2 ^ 52) whole ∙ ap (λ (k : ℕ). k - 2 ^ 52) (closest-whole (a / d + 2 ^ 52) d D)
+    ∙ add-sub-cancel (a / d) (2 ^ 52) in
     rw is (omega arith)
 
 -- with a common factor
@@ -131,7 +137,8 @@ module _ (a d : ℕ) (D : 0 < d) (h : a ≤ 2 ^ 24 * d) where
       let q = closest (above a d) d in
       let at-most : q ≤ 2 ^ 53 = closest-high (above a d) d D low-end high-end in
       rw (
-        sub-at (round binary64 false (above a d) d) far false q false (2 ^ 52) 1 (zero-lt-suc 0) (rounded-value (above a d) d D low-end high-end) (refl, refl) binary64,
+        sub-at (round binary64 false (above a d) d) far false q false (2 ^ 52) 1 (zero-lt-suc 0)
+            (rounded-value (above a d) d D low-end high-end) (refl, refl) binary64,
         le-ltb q (2 ^ 52) (closest-low (above a d) d D low-end high-end),
       )
       (round-whole binary64 false (left a d) (omega arith))
@@ -141,7 +148,8 @@ module _ (m : ℕ) (e : ℤ) where
   unfolding add sum
   added = rw (mul-one (m * up e), mul-one (down e))
 
-  same-left : (y : Float) → HasValue y false (left (m * up e) (down e)) 1 → eq y (fin false m e) ≡ eqb (m * up e % down e) 0
+  same-left : (y : Float) → HasValue y false (left (m * up e) (down e)) 1 → eq y (fin false m e)
+      ≡ eqb (m * up e % down e) 0
   unfolding eq
   same-left nan v = absurd v
   same-left (inf s) v = absurd v
@@ -149,7 +157,8 @@ module _ (m : ℕ) (e : ℤ) where
       let size : n * up g ≡ left (m * up e) (down e) * down g = sym (mul-one (n * up g)) ∙ v .1 in
       rw (v .0, size, and-true) (left-is (m * up e) (down e) (down g) (down-pos e) (down-pos g))
 
-  comes-back : m * up e ≤ 2 ^ 24 * down e → eq (sub binary64 (add binary64 (fin false m e) far) far) (fin false m e) ≡ eqb (m * up e % down e) 0
+  comes-back : m * up e ≤ 2 ^ 24 * down e → eq (sub binary64 (add binary64 (fin false m e) far) far) (fin false m e)
+      ≡ eqb (m * up e % down e) 0
   comes-back h = rw added (same-left _ (left-value (m * up e) (down e) (down-pos e) h))
 
 -- the test of a number from 0.0 to 2 ^ 24
@@ -165,12 +174,14 @@ whole-tick (fin true m e) u = absurd (true≢false (u .value .0))
 whole-tick (fin false m e) u = whole-at m e (up-to-end 24 (fin false m e) u)
 
 -- the test of any number's magnitude
-pub size-tick : (x : Float) → le (magnitudeOf x) (fin false 1 (pos 24)) && comesBack (magnitudeOf x) ≡ tick (magnitudeOf x)
+pub size-tick : (x : Float) → le (magnitudeOf x) (fin false 1 (pos 24)) && comesBack (magnitudeOf x)
+    ≡ tick (magnitudeOf x)
 unfolding magnitudeOf le lt eq tick
 size-tick nan = refl
 size-tick (inf s) = refl
 size-tick (fin s m e) = go (le (fin false m e) (fin false 1 (pos 24))) refl
   where
-    go : (t : Bool) → le (fin false m e) (fin false 1 (pos 24)) ≡ t → t && comesBack (fin false m e) ≡ tick (fin false m e)
+    go : (t : Bool) → le (fin false m e) (fin false 1 (pos 24)) ≡ t → t && comesBack (fin false m e)
+        ≡ tick (fin false m e)
     go true w = whole-at m e w
     go false w = sym (too-far (fin false m e) w)

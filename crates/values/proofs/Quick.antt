@@ -58,7 +58,8 @@ module _ {s : List Float} {a : ℕ} where
       go i p q false e = let g : k ≤ i = ltb-false _ _ e in v .each i (le-trans h g) q
 
 -- number k alone
-pub none-of-one : {s : List Float} {k : ℕ} {x : Float} → x ≡ capped (getD s k nan) → NoneAbove (toBits binary64 x) s k (k + 1)
+pub none-of-one : {s : List Float} {k : ℕ} {x : Float} → x ≡ capped (getD s k nan)
+    → NoneAbove (toBits binary64 x) s k (k + 1)
 none-of-one {s} {k} {x} e = record { each = λ i p q. go i (omega arith) }
   where
     go : (i : ℕ) → i ≡ k → toBits binary64 (capped (getD s i nan)) ≤ toBits binary64 x
@@ -68,7 +69,8 @@ none-of-one {s} {k} {x} e = record { each = λ i p q. go i (omega arith) }
 pub none-with : {s : List Float} {a b k : ℕ} {x : Float} → NoneAbove b s a k → x ≡ capped (getD s k nan)
     → NoneAbove (bitOr b (toBits binary64 x)) s a (k + 1)
 none-with {b = b} {k} {x} n e =
-    none-joined (none-larger n (or-first b (toBits binary64 x))) (none-larger (none-of-one e) (or-second b (toBits binary64 x))) (le-of-eq refl)
+    none-joined (none-larger n (or-first b (toBits binary64 x)))
+    (none-larger (none-of-one e) (or-second b (toBits binary64 x))) (le-of-eq refl)
 
 -- only a number is below another
 pub capped-number : (x : Float) → T (not (isNan (capped x)))
@@ -96,7 +98,8 @@ reaches : (k x t : ℕ) → t < 2 ^ 52 → suc x * 2 ^ 52 + t ≤ powerBits k �
 reaches k x t l h = go (ltb (suc x) (1023 + k)) refl
   where
     go : (b : Bool) → ltb (suc x) (1023 + k) ≡ b → (2 ^ 52 + t) * 2 ^ x ≤ 2 ^ (k + 1074)
-    go true e = le-trans (le-of-lt (shl-lt {a = 2 ^ 52 + t} 53 x (omega arith))) (pow-mono (exponents x k (ltb-true _ _ e)))
+    go true e = le-trans (le-of-lt (shl-lt {a = 2 ^ 52 + t} 53 x (omega arith)))
+        (pow-mono (exponents x k (ltb-true _ _ e)))
     go false e =
         let g : 1023 + k ≤ suc x = ltb-false _ _ e in
         let none : t ≡ 0 = omega arith in
@@ -115,15 +118,21 @@ unfolding ofFields
 of-fields k zero t n l h = record { count = t * 2 ^ 0; value = odd-sign 53 false t 0 1074; at-most = small k t l }
 of-fields k (suc x) t n l h =
     rw (ne-eqb (suc x) 2047 (λ e. omega arith))
-    (record { count = (2 ^ 52 + t) * 2 ^ x; value = odd-sign 53 false (2 ^ 52 + t) x 1074; at-most = reaches k x t l h })
+    (record {
+      count = (2 ^ 52 + t) * 2 ^ x;
+      value = odd-sign 53 false (2 ^ 52 + t) x 1074;
+      at-most = reaches k x t l h;
+    })
 
 by-bits : (k : ℕ) (x : Float) → k ≤ 30 → T (fits binary64 x) → toBits binary64 x ≤ powerBits k → UpTo k x
 unfolding ofBits
 by-bits k x n f h =
     let b = toBits binary64 x in
     let l : b < 2 ^ 63 = omega arith in
-    let same : ofBits binary64 b ≡ ofFields binary64 false (b / 2 ^ 52) (b % 2 ^ 52) = rw (lt-leb (2 ^ 63) b l, mod-eq-of-lt l) in
-    subst (UpTo k) (sym same ∙ ofBits-toBits binary64 x f) (of-fields k (b / 2 ^ 52) (b % 2 ^ 52) n (mod-lt b (pow-pos 52)) (rw (div-add-mod' b (2 ^ 52)) h))
+    let same : ofBits binary64 b ≡ ofFields binary64 false (b / 2 ^ 52) (b % 2 ^ 52) = rw
+    (lt-leb (2 ^ 63) b l, mod-eq-of-lt l) in
+    subst (UpTo k) (sym same ∙ ofBits-toBits binary64 x f)
+    (of-fields k (b / 2 ^ 52) (b % 2 ^ 52) n (mod-lt b (pow-pos 52)) (rw (div-add-mod' b (2 ^ 52)) h))
 
 -- ---- what such a number passes
 
@@ -132,7 +141,8 @@ unfolding le lt eq
 low-end k nan n v = absurd v
 low-end k (inf s) n v = absurd v
 low-end k (fin true m e) n v = absurd (true≢false (v .0))
-low-end k (fin false m e) n v = rw (lt-ltb 0 (1 * 2 ^ k * down e + m * up e * 1) (some (2 ^ k) (down e) (m * up e * 1) (mul-pos (pow-pos k) (down-pos e))))
+low-end k (fin false m e) n v = rw (lt-ltb 0 (1 * 2 ^ k * down e + m * up e * 1)
+    (some (2 ^ k) (down e) (m * up e * 1) (mul-pos (pow-pos k) (down-pos e))))
   where
     some : (p d a : ℕ) → 0 < p * d → 0 < 1 * p * d + a
     some p d a h = rw (one-mul p) (omega arith)
@@ -140,7 +150,8 @@ low-end k (fin false m e) n v = rw (lt-ltb 0 (1 * 2 ^ k * down e + m * up e * 1)
 pub up-to-end : (k : ℕ) (x : Float) → UpTo k x → le x (fin false 1 (pos k)) ≡ true
 up-to-end k x u =
     is-true (le x (fin false 1 (pos k)))
-    (le-of-values x (fin false 1 (pos k)) (u .count) (2 ^ 1074) (2 ^ k) 1 (pow-pos 1074) (pow-pos 0) (u .value) (refl, rw (one-mul (2 ^ k)))
+    (le-of-values x (fin false 1 (pos k)) (u .count) (2 ^ 1074) (2 ^ k) 1 (pow-pos 1074) (pow-pos 0) (u .value)
+    (refl, rw (one-mul (2 ^ k)))
     (rw (mul-one (u .count), ← pow-add 2 k 1074) (u .at-most)))
 
 up-to-within : (k : ℕ) (x : Float) → UpTo k x → within k x ≡ true
@@ -172,7 +183,8 @@ all-of : (p : Float → Bool) (s : List Float) → ((i : ℕ) → i < length s �
 all-of p [] h = refl
 all-of p (x ∷ s) h = rw (h 0 (zero-lt-suc _), all-of p s (λ i l. h (suc i) (suc-le-suc l)))
 
-module _ {b : ℕ} (s : List Float) (none : NoneAbove b s 0 (length s)) (fit : (i : ℕ) → T (fits binary64 (getD s i nan))) where
+module _ {b : ℕ} (s : List Float) (none : NoneAbove b s 0 (length s))
+    (fit : (i : ℕ) → T (fits binary64 (getD s i nan))) where
   pub quick-all : b ≤ powerBits 30 → all accepted s ≡ true
   quick-all h = all-of accepted s (λ i l. quick-accepted (getD s i nan) (fit i) (le-trans (none .each i zero-le l) h))
 

@@ -68,10 +68,12 @@ no-rest : (m d c : ℕ) → 0 < c → eqb (m / d * c * d) (m * c) ≡ eqb (m % d
 no-rest m d c p =
     let parts = div-add-mod' m d in
     eqb-iff (m / d * c * d) (m * c) (m % d) 0
-    (λ e. let f : m / d * d ≡ m = eq-of-mul-eq-mul-right c p (m / d * d) m (mul-right-comm (m / d) d c ∙ e) in omega arith)
+    (λ e. let f : m / d * d ≡ m = eq-of-mul-eq-mul-right c p (m / d * d) m (mul-right-comm (m / d) d c ∙ e) in omega
+    arith)
     (λ e. let f : m / d * d ≡ m = omega arith in mul-right-comm (m / d) c d ∙ ap (λ (x : ℕ). x * c) f)
 
-same-whole : (m : ℕ) (e : ℤ) → cut m e ≤ 2 ^ 53 → eq (ofInt binary64 (pos (cut m e))) (fin false m e) ≡ eqb (m * up e % down e) 0
+same-whole : (m : ℕ) (e : ℤ) → cut m e ≤ 2 ^ 53 → eq (ofInt binary64 (pos (cut m e))) (fin false m e)
+    ≡ eqb (m * up e % down e) 0
 unfolding eq ofInt
 same-whole m e h = go (ofInt binary64 (pos (cut m e))) (round-whole binary64 false (cut m e) h)
   where
@@ -98,7 +100,8 @@ small m e q = let l = at-most (m * up e * 1) (2 ^ 24 * down e) _ q in omega arit
 
 cut-small : (m : ℕ) (e : ℤ) → m * up e ≤ 2 ^ 24 * down e → cut m e ≤ 2 ^ 24
 cut-small m e h =
-    le-of-mul-le-mul-right {m = cut m e} {n = 2 ^ 24} {k = down e} (let l = div-add-mod' (m * up e) (down e) in omega arith) (down-pos e)
+    le-of-mul-le-mul-right {m = cut m e} {n = 2 ^ 24} {k = down e}
+    (let l = div-add-mod' (m * up e) (down e) in omega arith) (down-pos e)
 
 eqb-sym : (a b : ℕ) → eqb a b ≡ eqb b a
 eqb-sym a b = eqb-iff a b b a sym sym
@@ -152,8 +155,8 @@ in-float q h = le→leb q (2 ^ 53) h
 
 -- ---- the test
 
--- What the test meets at a number within 2 ^ 24: its whole part can be taken and turned back, and it is a tick if that is equal to
--- the magnitude, and the number is not -0.0.
+-- What the test meets at a number within 2 ^ 24: its whole part can be taken and turned back, and it is a tick if
+-- that is equal to the magnitude, and the number is not -0.0.
 pub record Tried (x : Float) : Type 0 where
   pub low : T (lt (fin true 1 (pos 0)) (magnitudeOf x))
   pub high : T (lt (magnitudeOf x) (fin false 1 (pos 64)))
@@ -161,7 +164,8 @@ pub record Tried (x : Float) : Type 0 where
   pub broken : eq (ofInt binary64 (pos (toUnsigned 64 (magnitudeOf x)))) (magnitudeOf x) ≡ false → tick x ≡ false
   pub zeros : eq (ofInt binary64 (pos (toUnsigned 64 (magnitudeOf x)))) (magnitudeOf x) ≡ true → eq x plusZero ≡ true
       → tick x ≡ lt plusZero (signOf x)
-  pub kept : eq (ofInt binary64 (pos (toUnsigned 64 (magnitudeOf x)))) (magnitudeOf x) ≡ true → eq x plusZero ≡ false → tick x ≡ true
+  pub kept : eq (ofInt binary64 (pos (toUnsigned 64 (magnitudeOf x)))) (magnitudeOf x) ≡ true → eq x plusZero ≡ false
+      → tick x ≡ true
 
 module _ (s : Bool) (m : ℕ) (e : ℤ) (w : le (fin false m e) (fin false 1 (pos 24)) ≡ true) where
   near : cut m e ≤ 2 ^ 24
@@ -181,7 +185,8 @@ module _ (s : Bool) (m : ℕ) (e : ℤ) (w : le (fin false m e) (fin false 1 (po
       rw (← size-within (fin s m e), w, p, q, le-leb (cut m e) (2 ^ 53) (omega arith), and-true t)
 
 -- without a sign it is a tick if it is whole
-pub tick-rest : (m : ℕ) (e : ℤ) → le (fin false m e) (fin false 1 (pos 24)) ≡ true → tick (fin false m e) ≡ eqb (m * up e % down e) 0
+pub tick-rest : (m : ℕ) (e : ℤ) → le (fin false m e) (fin false 1 (pos 24)) ≡ true → tick (fin false m e)
+    ≡ eqb (m * up e % down e) 0
 tick-rest m e w = tick-is false m e w _ _ refl refl ∙ and-true (eqb (m * up e % down e) 0)
 
 pub tried : (x : Float) → le (magnitudeOf x) (fin false 1 (pos 24)) ≡ true → Tried x
@@ -226,7 +231,8 @@ below-either false q h = lt-ltb q (2 ^ 63) (omega arith)
 pub ticked : (x : Float) → tick x ≡ true → Ticked x
 unfolding tick inSigned whole magnitudeOf
 ticked nan e = let broken = and-parts (within 24 nan) false e .1 in let z : _≡_ {A = ℕ} 0 1 = cc in absurd (omega arith)
-ticked (inf s) e = let broken = and-parts (within 24 (inf s)) false e .1 in let z : _≡_ {A = ℕ} 0 1 = cc in absurd (omega arith)
+ticked (inf s) e = let broken = and-parts (within 24 (inf s)) false e .1 in let z : _≡_ {A = ℕ} 0 1 = cc in absurd
+    (omega arith)
 ticked (fin s m e) t =
     let parts = and-parts (within 24 (fin s m e)) _ t in
     let h = near s m e (size-within (fin s m e) ∙ parts .0) in

@@ -1,4 +1,5 @@
--- Of all numbers only -0.0 has the bits of -0.0, and a number is a tick if its magnitude is one and it is not -0.0. Assumes nothing.
+-- Of all numbers only -0.0 has the bits of -0.0, and a number is a tick if its magnitude is one and it is not -0.0.
+-- Assumes nothing.
 use mathlib.Core.Path.{_≡_, refl, sym, ap, _∙_}
 use mathlib.Core.Bool.{Bool, true, false, not, _&&_, true≢false}
 use Prim.Native.Nat.{ℕ, zero, suc, _*_, _^_, _<_}
@@ -20,7 +21,8 @@ not-both : (n d : ℕ) → 0 < n → n * 1 ≡ 0 * 1 * d → ⊥
 not-both n d h e = omega arith
 
 -- a number equal to 0 is one of the two zeros
-pub of-zero : (x : Float) → T (fits binary64 x) → eq x plusZero ≡ true → eqb (toBits binary64 x) 0 ≡ not (eqb (toBits binary64 x) (2 ^ 63))
+pub of-zero : (x : Float) → T (fits binary64 x) → eq x plusZero ≡ true → eqb (toBits binary64 x) 0
+    ≡ not (eqb (toBits binary64 x) (2 ^ 63))
 unfolding eq
 of-zero nan f e = absurd (true≢false (sym e))
 of-zero (inf s) f e = absurd (true≢false (sym e))
@@ -47,14 +49,16 @@ of-other x f e = go (eqb (toBits binary64 x) (2 ^ 63)) refl
     go true h = absurd (true≢false (sym (is (eqb-true _ _ h)) ∙ e))
 
 -- -0.0 by its sign and digits
-minus-zero : (s : Bool) (m : ℕ) (e : ℤ) → T (fits binary64 (fin s m e)) → not (eqb (toBits binary64 (fin s m e)) (2 ^ 63)) ≡ not (s && eqb m 0)
+minus-zero : (s : Bool) (m : ℕ) (e : ℤ) → T (fits binary64 (fin s m e))
+    → not (eqb (toBits binary64 (fin s m e)) (2 ^ 63)) ≡ not (s && eqb m 0)
 minus-zero false zero e f = unfold toBits in rw (zero-mul (up e), zero-mul (2 ^ 1074), zero-div (down e))
 minus-zero true zero e f = unfold toBits in rw (zero-mul (up e), zero-mul (2 ^ 1074), zero-div (down e))
 minus-zero s (suc m) e f =
     let some : eqb (suc m) 0 ≡ false = ne-eqb (suc m) 0 (λ e. omega arith) in
     rw some (sym (of-other (fin s (suc m) e) f (sym (is-zero s (suc m) e) ∙ some)) ∙ sym (any-sign s))
 
-pub tick-parts : (x : Float) → T (fits binary64 x) → tick x ≡ tick (magnitudeOf x) && not (eqb (toBits binary64 x) (2 ^ 63))
+pub tick-parts : (x : Float) → T (fits binary64 x) → tick x
+    ≡ tick (magnitudeOf x) && not (eqb (toBits binary64 x) (2 ^ 63))
 unfolding magnitudeOf
 tick-parts nan f = rw (too-far nan (unfold le lt eq in refl))
 tick-parts (inf s) f = rw (too-far (inf s) (unfold le lt eq in refl), too-far (inf false) (unfold le lt eq in refl))

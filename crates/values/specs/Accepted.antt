@@ -11,7 +11,8 @@ use Rattle.limits.specs.Limits.{tickPower, valuePower}
 abbrev pub within : ℕ → Float → Bool
 within k x = le (fin true 1 (pos k)) x && le x (fin false 1 (pos k))
 
--- Document 01's accepted value: finite, of magnitude at most 1,073,741,824 = 2 ^ 30, and not -0.0, whose only bit is the sign.
+-- Document 01's accepted value: finite, of magnitude at most 1,073,741,824 = 2 ^ 30, and not -0.0, whose only bit is
+-- the sign.
 unfoldable pub accepted : Float → Bool
 accepted x = within valuePower x && not (eqb (toBits binary64 x) (2 ^ 63))
 

@@ -65,7 +65,8 @@ pub fn cap(x: f64) -> f64
     if x < 2147483648.0 { x } else { 2147483648.0 }
 }
 
-// The bits of the numbers of s from index `first` up to `end`, one upon the other: those of none are larger. What is not below 2^31 counts as that.
+// The bits of the numbers of s from index `first` up to `end`, one upon the other: those of none are larger. What is
+// not below 2^31 counts as that.
 pub fn bits_together(s: &[f64], first: usize, end: usize) -> u64
     requires { ⌜ end ≤ length (now s) ⌝ }
     ensures { λ r. ⌜ NoneAbove r (now (s .entry)) first end ⌝ }
@@ -79,7 +80,8 @@ pub fn bits_together(s: &[f64], first: usize, end: usize) -> u64
     together
 }
 
-// Whether a series may hold every number of s. All are looked at, and what was found is kept in two variables: so the loop takes several at a time.
+// Whether a series may hold every number of s. All are looked at, and what was found is kept in two variables: so the
+// loop takes several at a time.
 fn each_accepted(s: &[f64]) -> bool
     ensures { λ r. ⌜ r ≡ all accepted (now (s .entry)) ⌝ }
 {
@@ -94,8 +96,8 @@ fn each_accepted(s: &[f64]) -> bool
     near & (minus_zeros == 0)
 }
 
-// Whether a series may hold every number of s, whose bits together are at hand. If those are at most the bits of 2^30, every number lies from 0.0 to 2^30; most
-// series pass this quick test.
+// Whether a series may hold every number of s, whose bits together are at hand. If those are at most the bits of
+// 2^30, every number lies from 0.0 to 2^30; most series pass this quick test.
 pub fn accepted_by(together: u64, s: &[f64]) -> bool
     requires { ⌜ NoneAbove together (now s) 0 (length (now s)) ⌝ }
     ensures { λ r. ⌜ r ≡ all accepted (now (s .entry)) ⌝ }
@@ -107,8 +109,8 @@ pub fn accepted_by(together: u64, s: &[f64]) -> bool
     }
 }
 
-// Whether a series may hold every number of s. Where its first 16 numbers fail the quick test, as prices on both sides of 0 mostly do, the others are not
-// looked at twice.
+// Whether a series may hold every number of s. Where its first 16 numbers fail the quick test, as prices on both
+// sides of 0 mostly do, the others are not looked at twice.
 pub fn all_accepted(s: &[f64]) -> bool
     ensures { λ r. ⌜ r ≡ all accepted (now (s .entry)) ⌝ }
 {
@@ -136,7 +138,8 @@ fn is_tick_size(x: f64) -> bool
     (size <= LARGEST_TICK) & is_whole(size)
 }
 
-// Whether every number of s, where each lies from 0.0 to 2^24, is a whole tick. All are looked at, so that the loop takes several at a time.
+// Whether every number of s, where each lies from 0.0 to 2^24, is a whole tick. All are looked at, so that the loop
+// takes several at a time.
 fn all_whole(s: &[f64]) -> bool
     requires { ⌜ EachUpTo 24 (now s) ⌝ }
     ensures { λ r. ⌜ r ≡ all tick (now (s .entry)) ⌝ }
@@ -150,7 +153,8 @@ fn all_whole(s: &[f64]) -> bool
     whole
 }
 
-// Whether every number of s is a whole tick, of either sign. All are looked at, so that the loop takes several at a time.
+// Whether every number of s is a whole tick, of either sign. All are looked at, so that the loop takes several at a
+// time.
 fn each_tick(s: &[f64]) -> bool
     ensures { λ r. ⌜ r ≡ all tick (now (s .entry)) ⌝ }
 {
@@ -165,8 +169,8 @@ fn each_tick(s: &[f64]) -> bool
     whole & (minus_zeros == 0)
 }
 
-// Whether every number of s is a whole tick. Where prices have fractions the first one mostly shows it; where all bits together are at most
-// those of 2^24, every number lies from 0.0 to 2^24.
+// Whether every number of s is a whole tick. Where prices have fractions the first one mostly shows it; where all
+// bits together are at most those of 2^24, every number lies from 0.0 to 2^24.
 pub fn all_ticks(s: &[f64]) -> bool
     ensures { λ r. ⌜ r ≡ all tick (now (s .entry)) ⌝ }
 {

@@ -14,8 +14,10 @@ use Rattle.windows.specs.declared.Sixteen.{Sixteen}
 use Rattle.window_means.specs.inner.Storing.{storeEight}
 
 -- eight more stores, of the cells that a line asks
-pub eight-more : {f : Line} {old now : List Float} {k : ℕ} {r : Lanes} → Writing k f old now → Eight f k r → k + 7 < length old
-    → Writing (k + 8) f old (set (set (set (set (set (set (set (set now k (r .lane0)) (k + 1) (r .lane1)) (k + 2) (r .lane2)) (k + 3) (r .lane3))
+pub eight-more : {f : Line} {old now : List Float} {k : ℕ} {r : Lanes} → Writing k f old now → Eight f k r
+    → k + 7 < length old
+    → Writing (k + 8) f old (set (set (set
+    (set (set (set (set (set now k (r .lane0)) (k + 1) (r .lane1)) (k + 2) (r .lane2)) (k + 3) (r .lane3))
     (k + 4) (r .lane4)) (k + 5) (r .lane5)) (k + 6) (r .lane6)) (k + 7) (r .lane7))
 eight-more {k = k} w r h =
     let one = step k (k + 1) w (r .lane0) (omega arith) in
@@ -33,6 +35,9 @@ pub eight-stored : (k : ℕ) {f : Line} {old now next : List Float} {r : Lanes} 
 eight-stored k w r e h = rw e (eight-more w r (omega arith))
 
 -- sixteen more, by two stores of eight
-pub sixteen-stored : (k : ℕ) {f : Line} {old now mid next : List Float} {r : Sixteen} → Writing k f old now → SixteenOf f k r
-    → mid ≡ storeEight now k (r .low) → next ≡ storeEight mid (k + 8) (r .high) → k + 16 ≤ length old → Writing (k + 16) f old next
-sixteen-stored k w r d e h = ends (eight-stored (k + 8) (eight-stored k w (r .low) d (omega arith)) (r .high) e (omega arith)) (omega arith)
+pub sixteen-stored : (k : ℕ) {f : Line} {old now mid next : List Float} {r : Sixteen} → Writing k f old now
+    → SixteenOf f k r
+    → mid ≡ storeEight now k (r .low) → next ≡ storeEight mid (k + 8) (r .high) → k + 16 ≤ length old
+    → Writing (k + 16) f old next
+sixteen-stored k w r d e h = ends (eight-stored (k + 8) (eight-stored k w (r .low) d (omega arith)) (r .high) e
+    (omega arith)) (omega arith)

@@ -25,17 +25,20 @@ use Rattle.exact_ticks.proofs.TickMeans.{tick-line}
 -- 0.0 / n
 zero-over : (n : ℕ) → Window n → over n plusZero ≡ plusZero
 zero-over n w =
-    let whole : Whole binary64 (pos 0) n = record { some = w .some; size = omega arith; divisor = omega (arith, w .narrow) } in
+    let whole : Whole binary64 (pos 0) n =
+    record { some = w .some; size = omega arith; divisor = omega (arith, w .narrow) } in
     rw zero-is at (quotient-zero whole)
 
 -- the mean at every bar is the running sum there over n
-pub run-mean : (s : List Float) (n i : ℕ) → ((j : ℕ) → T (fits binary64 (line s j))) → all tick s ≡ true → Window n → i < length s
+pub run-mean : (s : List Float) (n i : ℕ) → ((j : ℕ) → T (fits binary64 (line s j))) → all tick s ≡ true → Window n
+    → i < length s
     → over n (runs n (line s) i) ≡ mean n (line s) i
 unfolding runs mean
 run-mean s n i floats ticks window l = go (ltb i (n - 1)) (ltb→lt i (n - 1)) (nltb→le i (n - 1))
   where
     go : (t : Bool) → (T t → i < n - 1) → (T (not t) → n - 1 ≤ i) → over n (runs n (line s) i) ≡ mean n (line s) i
-    go true p q = rw (before-bar (n - 1) plusZero _ i (p tt), before-bar (n - 1) plusZero _ i (p tt)) (zero-over n window)
+    go true p q = rw (before-bar (n - 1) plusZero _ i (p tt), before-bar (n - 1) plusZero _ i (p tt))
+        (zero-over n window)
     go false p q =
         let w = tick-line s (λ j l. floats j) ticks in
         let h = q tt in

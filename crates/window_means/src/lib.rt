@@ -59,7 +59,8 @@ fn means_of_eight(series: &[f64], n: usize, from: usize, means: &mut [f64]) -> u
 // Writes the means from bar `from` to the last.
 fn means_by_one(series: &[f64], n: usize, from: usize, means: &mut [f64])
     requires { ⌜ Begun (now series) n from (now means) ⌝ }
-    ensures { λ _. ⌜ Writing (length (now (series .entry))) (mean n (line (now (series .entry)))) (now (means .entry)) (now (means .exit)) ⌝ }
+    ensures { λ _. ⌜ Writing (length (now (series .entry))) (mean n (line (now (series .entry)))) (now (means .entry))
+        (now (means .exit)) ⌝ }
 {
     let mut i = from;
     while i < series.len() {
@@ -71,7 +72,8 @@ fn means_by_one(series: &[f64], n: usize, from: usize, means: &mut [f64])
 // Writes the mean of each bar's window, and 0.0 before the first whole one.
 pub fn write_means(series: &[f64], n: usize, means: &mut [f64])
     requires { ⌜ WindowRoom n (length (now series)) (length (now means)) ⌝ }
-    ensures { λ _. ⌜ Writing (length (now (series .entry))) (mean n (line (now (series .entry)))) (now (means .entry)) (now (means .exit)) ⌝ }
+    ensures { λ _. ⌜ Writing (length (now (series .entry))) (mean n (line (now (series .entry)))) (now (means .entry))
+        (now (means .exit)) ⌝ }
 {
     let first = cells::fill_lead(means, n - 1, series.len(), 0.0);
     let fewer = means_by_sixteen(series, n, first, means);
@@ -79,11 +81,13 @@ pub fn write_means(series: &[f64], n: usize, means: &mut [f64])
     means_by_one(series, n, few, means);
 }
 
-// Writes the means of whole ticks by running sums, which are exact, so that each cell is that of its window summed afresh.
+// Writes the means of whole ticks by running sums, which are exact, so that each cell is that of its window summed
+// afresh.
 pub fn write_means_of_ticks(series: &[f64], n: usize, means: &mut [f64])
     requires { ⌜ WindowRoom n (length (now series)) (length (now means)) ⌝ }
     requires { ⌜ all tick (now series) ≡ true ⌝ }
-    ensures { λ _. ⌜ Writing (length (now (series .entry))) (mean n (line (now (series .entry)))) (now (means .entry)) (now (means .exit)) ⌝ }
+    ensures { λ _. ⌜ Writing (length (now (series .entry))) (mean n (line (now (series .entry)))) (now (means .entry))
+        (now (means .exit)) ⌝ }
 {
     windows::write_sums(series, n, means);
     let count = n as f64;
@@ -94,7 +98,8 @@ pub fn write_means_of_ticks(series: &[f64], n: usize, means: &mut [f64])
     }
 }
 
-// Whether it pays to know that the prices are whole ticks, and they are: where the window is long, running sums are faster.
+// Whether it pays to know that the prices are whole ticks, and they are: where the window is long, running sums are
+// faster.
 pub fn are_long_ticks(series: &[f64], n: usize) -> bool
     ensures { λ r. ⌜ r ≡ longTicks n (now (series .entry)) ⌝ }
 {
@@ -109,7 +114,8 @@ pub fn are_long_ticks(series: &[f64], n: usize) -> bool
 pub fn write_means_by(series: &[f64], n: usize, ticks: bool, means: &mut [f64])
     requires { ⌜ WindowRoom n (length (now series)) (length (now means)) ⌝ }
     requires { ⌜ ticks ≡ longTicks n (now series) ⌝ }
-    ensures { λ _. ⌜ Writing (length (now (series .entry))) (mean n (line (now (series .entry)))) (now (means .entry)) (now (means .exit)) ⌝ }
+    ensures { λ _. ⌜ Writing (length (now (series .entry))) (mean n (line (now (series .entry)))) (now (means .entry))
+        (now (means .exit)) ⌝ }
 {
     if ticks {
         write_means_of_ticks(series, n, means);
@@ -121,7 +127,8 @@ pub fn write_means_by(series: &[f64], n: usize, ticks: bool, means: &mut [f64])
 // Writes the means of prices.
 pub fn write_means_of_prices(series: &[f64], n: usize, means: &mut [f64])
     requires { ⌜ WindowRoom n (length (now series)) (length (now means)) ⌝ }
-    ensures { λ _. ⌜ Writing (length (now (series .entry))) (mean n (line (now (series .entry)))) (now (means .entry)) (now (means .exit)) ⌝ }
+    ensures { λ _. ⌜ Writing (length (now (series .entry))) (mean n (line (now (series .entry)))) (now (means .entry))
+        (now (means .exit)) ⌝ }
 {
     write_means_by(series, n, are_long_ticks(series, n), means);
 }

@@ -21,8 +21,29 @@ pub record Summed (f : Line) (a k : ℕ) (r : Lanes) : Type 0 where
   pub lane7 : Summing minusZero f (a + 7) k (r .lane7)
 
 -- none is summed yet
-pub none-of-eight : {f : Line} {a : ℕ} → Summed f a 0 (record { lane0 = minusZero; lane1 = minusZero; lane2 = minusZero; lane3 = minusZero; lane4 = minusZero; lane5 = minusZero; lane6 = minusZero; lane7 = minusZero })
-none-of-eight = record { lane0 = none-summed; lane1 = none-summed; lane2 = none-summed; lane3 = none-summed; lane4 = none-summed; lane5 = none-summed; lane6 = none-summed; lane7 = none-summed }
+pub none-of-eight : {f : Line} {a : ℕ} → Summed f a 0
+    (record {
+      lane0 = minusZero;
+      lane1 = minusZero;
+      lane2 = minusZero;
+      lane3 = minusZero;
+      lane4 = minusZero;
+      lane5 =
+          minusZero;
+      lane6 = minusZero;
+      lane7 = minusZero;
+    })
+none-of-eight = record {
+  lane0 = none-summed;
+  lane1 = none-summed;
+  lane2 = none-summed;
+  lane3 = none-summed;
+  lane4 =
+      none-summed;
+  lane5 = none-summed;
+  lane6 = none-summed;
+  lane7 = none-summed;
+}
 
 -- one more cell in each
 pub each-added : {f : Line} {a k : ℕ} {r : Lanes} → Summed f a k r → Summed f a (k + 1) (eachPlus f (a + k) r)
@@ -39,7 +60,8 @@ each-added {f} {a} {k} s =
     }
 
 -- the windows' sums at the eight bars from i on, the first of which starts at bar a
-pub eight-sums : (n i a : ℕ) {f : Line} {k : ℕ} {r : Lanes} → Summed f a k r → (k ≡ n) × (a + n ≡ i + 1) → Eight (windowSum n f) i r
+pub eight-sums : (n i a : ℕ) {f : Line} {k : ℕ} {r : Lanes} → Summed f a k r → (k ≡ n) × (a + n ≡ i + 1)
+    → Eight (windowSum n f) i r
 eight-sums n i a s (p, q) =
     record {
       lane0 = window-sum n _ (s .lane0) (omega arith);
@@ -53,7 +75,8 @@ eight-sums n i a s (p, q) =
     }
 
 -- the means at those bars, from the sums
-pub eight-means : (n i : ℕ) (f : Line) {r : Lanes} → Eight (windowSum n f) i r → n ≤ i + 1 → Eight (mean n f) i (eachOver n r)
+pub eight-means : (n i : ℕ) (f : Line) {r : Lanes} → Eight (windowSum n f) i r → n ≤ i + 1
+    → Eight (mean n f) i (eachOver n r)
 eight-means n i f s h =
     record {
       lane0 = mean-of n _ f (s .lane0) (omega arith);

@@ -12,7 +12,8 @@ use Rattle.windows.specs.inner.Runs.{runs}
 
 pub causal-runs : (n : ℕ) → 0 < n → Causal (runs n)
 unfolding runs
-causal-runs n p = causal-from (n - 1) plusZero (λ f g b s l. runningSum-same addDifference n f g b (b + 1 - n) p (omega arith) s)
+causal-runs n p = causal-from (n - 1) plusZero
+    (λ f g b s l. runningSum-same addDifference n f g b (b + 1 - n) p (omega arith) s)
 
 -- the cell of bar i
 pub run-at : {n : ℕ} {f : Line} (i : ℕ) {x : Float} → Running addDifference n f (i + 1) x → n ≤ i + 1 → x ≡ runs n f i

@@ -17,16 +17,19 @@ pub none-summed : {z : Float} {f : Line} {a : ℕ} → Summing z f a 0 z
 unfolding sumFrom
 none-summed = record { is = refl }
 
-pub one-added : {z : Float} {f : Line} {a k : ℕ} {x : Float} → Summing z f a k x → Summing z f a (k + 1) (add binary64 x (f (a + k)))
+pub one-added : {z : Float} {f : Line} {a k : ℕ} {x : Float} → Summing z f a k x
+    → Summing z f a (k + 1) (add binary64 x (f (a + k)))
 unfolding sumFrom
 one-added s = record { is = rw (add-one, s .is) }
 
 -- the cell's bar, written in another way
-pub added-at : {z : Float} {f : Line} {a k : ℕ} {x : Float} (i : ℕ) → Summing z f a k x → a + k ≡ i → Summing z f a (k + 1) (add binary64 x (f i))
+pub added-at : {z : Float} {f : Line} {a k : ℕ} {x : Float} (i : ℕ) → Summing z f a k x → a + k ≡ i
+    → Summing z f a (k + 1) (add binary64 x (f i))
 added-at i s e = rw (← e) (one-added s)
 
 -- the window's sum at bar i, from the sum of its n cells, which start at bar a
-pub window-sum : (n i : ℕ) {f : Line} {a k : ℕ} {x : Float} → Summing minusZero f a k x → (k ≡ n) × (a + n ≡ i + 1) → x ≡ windowSum n f i
+pub window-sum : (n i : ℕ) {f : Line} {a k : ℕ} {x : Float} → Summing minusZero f a k x → (k ≡ n) × (a + n ≡ i + 1)
+    → x ≡ windowSum n f i
 unfolding windowSum
 window-sum n i {f} {a} s (p, q) =
     let start : i + 1 - n ≡ a = omega arith in
@@ -47,7 +50,8 @@ module _ {slide : Float → Float → Float → Float} {f : Line} where
       record { is = rw (e, start, none) }
 
   -- bar i comes in, and bar i - n goes out
-  pub next-running : {n i : ℕ} {x : Float} → Running slide n f i x → n ≤ i → Running slide n f (i + 1) (slide x (f i) (f (i - n)))
+  pub next-running : {n i : ℕ} {x : Float} → Running slide n f i x → n ≤ i
+      → Running slide n f (i + 1) (slide x (f i) (f (i - n)))
   unfolding runningSum recur
   next-running {n} {i} r h =
       let one : i + 1 - n ≡ suc (i - n) = omega arith in
@@ -65,7 +69,8 @@ count-is-float n h = le→leb n (2 ^ 53) (omega arith)
 
 -- ---- no look-ahead
 
-pub sumFrom-same : (z : Float) (f g : Line) (a k : ℕ) → ((j : ℕ) → j < a + k → f j ≡ g j) → sumFrom z f a k ≡ sumFrom z g a k
+pub sumFrom-same : (z : Float) (f g : Line) (a k : ℕ) → ((j : ℕ) → j < a + k → f j ≡ g j) → sumFrom z f a k
+    ≡ sumFrom z g a k
 unfolding sumFrom
 sumFrom-same z f g a zero h = refl
 sumFrom-same z f g a (suc k) h = rw (sumFrom-same z f g a k (λ j l. h j (omega arith)), h (a + k) (omega arith))
@@ -77,7 +82,8 @@ causal-mean n =
     (λ f g b s l. ap (over n) (sumFrom-same minusZero f g (b + 1 - n) n (λ i m. s i (omega arith))))
 
 -- the running sum at bar i, k bars after bar n - 1, needs nothing after it
-pub runningSum-same : (slide : Float → Float → Float → Float) (n : ℕ) (f g : Line) (i k : ℕ) → 0 < n → n + k ≤ i + 1 → Same f g i
+pub runningSum-same : (slide : Float → Float → Float → Float) (n : ℕ) (f g : Line) (i k : ℕ) → 0 < n → n + k ≤ i + 1
+    → Same f g i
     → runningSum slide n f k ≡ runningSum slide n g k
 unfolding runningSum
 runningSum-same slide n f g i k p h s =

@@ -23,8 +23,8 @@ over n x = div binary64 x (ofInt binary64 (pos n))
 unfoldable pub mean : ℕ → Line → Line
 mean n f = fromBar (n - 1) plusZero (λ i. over n (windowSum n f i))
 
--- A running sum of n cells, k bars after bar n - 1: there the first n cells are summed afresh, and then `slide` makes the next sum
--- of the present one, the cell that comes in and the cell that goes out.
+-- A running sum of n cells, k bars after bar n - 1: there the first n cells are summed afresh, and then `slide` makes
+-- the next sum of the present one, the cell that comes in and the cell that goes out.
 unfoldable pub runningSum : (Float → Float → Float → Float) → ℕ → Line → ℕ → Float
 runningSum slide n f = recur (sumFrom minusZero f 0 n) (λ k sum. slide sum (f (n + k)) (f k))
 

@@ -1,4 +1,5 @@
-// Sums and means of windows, each summed afresh from left to right: of one bar, and of eight or sixteen bars side by side.
+// Sums and means of windows, each summed afresh from left to right: of one bar, and of eight or sixteen bars side by
+// side.
 ghost use mathlib.Core.Path.{_≡_};
 ghost use Prim.Native.Nat.{_+_, _≤_};
 ghost use lib.ListN.{length};
@@ -155,7 +156,8 @@ pub fn means_of_sixteen(series: &[f64], n: usize, i: usize) -> Sixteen
 // Writes the running sums from bar n - 1 on, where the first n cells are summed afresh.
 fn slide_sums(series: &[f64], n: usize, sums: &mut [f64])
     requires { ⌜ Opening n (now series) (now sums) ⌝ }
-    ensures { λ _. ⌜ Writing (length (now (series .entry))) (runs n (line (now (series .entry)))) (now (sums .entry)) (now (sums .exit)) ⌝ }
+    ensures { λ _. ⌜ Writing (length (now (series .entry))) (runs n (line (now (series .entry)))) (now (sums .entry))
+        (now (sums .exit)) ⌝ }
 {
     let mut sum = sum_at(series, n, n - 1);
     let mut i = n - 1;
@@ -170,7 +172,8 @@ fn slide_sums(series: &[f64], n: usize, sums: &mut [f64])
 // Writes the running sum of each bar's window, and 0.0 before the first whole one.
 pub fn write_sums(series: &[f64], n: usize, sums: &mut [f64])
     requires { ⌜ WindowRoom n (length (now series)) (length (now sums)) ⌝ }
-    ensures { λ _. ⌜ Writing (length (now (series .entry))) (runs n (line (now (series .entry)))) (now (sums .entry)) (now (sums .exit)) ⌝ }
+    ensures { λ _. ⌜ Writing (length (now (series .entry))) (runs n (line (now (series .entry)))) (now (sums .entry))
+        (now (sums .exit)) ⌝ }
 {
     let first = cells::fill_lead(sums, n - 1, series.len(), 0.0);
     if first < series.len() {

@@ -1,4 +1,5 @@
--- `answer_lead` meets its contract: the answer is that of the table, and all its cells stand before bar n - 1. Assumes nothing.
+-- `answer_lead` meets its contract: the answer is that of the table, and all its cells stand before bar n - 1.
+-- Assumes nothing.
 use mathlib.Core.List.{[], _∷_}
 use Prim.Native.Nat.{_<_}
 use native.Mathlib.Omega.{arith}
@@ -26,7 +27,8 @@ returns c f =
     let a = start .args in
     let r = answered-room _ _ _ _ _ answer (due at-then) in
     let w = answered-windows _ _ (a .n ∷ []) _ _ answer (due at-then) .0 in
-    let none : length (now (a .series)) < a .n = none-fits (length (now (a .series))) (a .n) _ (start .pre) w (r .short) (r .out-long) in
+    let none : length (now (a .series)) < a .n = none-fits (length (now (a .series))) (a .n) _ (start .pre) w
+    (r .short) (r .out-long) in
     all-called (all-bars _ _ _ _ _) answer (due at-then) (lead-only (at-fill .fill-nan .ensures) f (omega arith))
 
 pub answer-lead-spec : {M : Type 1} → statement M
@@ -35,9 +37,13 @@ answer-lead-spec =
     (tie.spec
     (λ c κs. search needs)  -- answer-window-requires
     (λ c κs. search needs)  -- has-cells-requires
-    (λ c. window-room _ _ _ _ (c .before .before .before .answer-window .ensures) (due (c .before)) .window .some)  -- sub-fill-nan
-    (λ c κs. window-room _ _ _ _ (c .before .before .before .answer-window .ensures) (due (c .before)) .room)  -- fill-nan-requires
+    -- sub-fill-nan
+    (λ c. window-room _ _ _ _ (c .before .before .before .answer-window .ensures) (due (c .before)) .window .some)
+    -- fill-nan-requires
+    (λ c κs. window-room _ _ _ _ (c .before .before .before .answer-window .ensures) (due (c .before)) .room)
     (λ c. search needs)  -- same-length
     returns
-    (λ c f. none-called (c .before .before .answer-window .ensures) (no-cells (c .before .before .answer-window .result) (c .before .has-cells .ensures) (c .if1 .left)))  -- returns-2
+    -- returns-2
+    (λ c f. none-called (c .before .before .answer-window .ensures)
+    (no-cells (c .before .before .answer-window .result) (c .before .has-cells .ensures) (c .if1 .left)))
     )

@@ -1,5 +1,5 @@
--- `slide_means` meets its contract: each turn moves the sum on by two bars and writes their means; then at most one bar is left.
--- Assumes nothing.
+-- `slide_means` meets its contract: each turn moves the sum on by two bars and writes their means; then at most one
+-- bar is left. Assumes nothing.
 use Prim.Native.Nat.{_+_, _-_, _≤_}
 use native.Mathlib.Omega.{arith}
 use borrow.Author.Needs.{needs}
@@ -17,7 +17,8 @@ use Rattle.averages.proofs.slide_means.Tie as tie
 
 abbrev Inv-loop : tie.InvT-loop
 Inv-loop series n first out₀ count sum₀ i₀ out sum i =
-    (n ≤ i) × (i ≤ length series) × Writing i (smaLine n (line series)) out₀ out × Running addDifference n (line series) i sum
+    (n ≤ i) × (i ≤ length series) × Writing i (smaLine n (line series)) out₀ out
+    × Running addDifference n (line series) i sum
 
 abbrev μ-loop : tie.MeasureT-loop
 μ-loop series n first out₀ count sum₀ i₀ out sum i = length series - i

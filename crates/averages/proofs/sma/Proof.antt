@@ -15,17 +15,20 @@ use Rattle.averages.proofs.sma.Statement.{statement}
 use Rattle.averages.proofs.sma.Tie as tie
 
 -- the window is whole, and the lengths are in order
-told : (c : tie.Then1) → let a = c .before .before .before .before .args in windowFits (length (now (a .series))) (a .n) (length (now (a .out))) ≡ true
+told : (c : tie.Then1) → let a = c .before .before .before .before .args in windowFits (length (now (a .series)))
+    (a .n) (length (now (a .out))) ≡ true
 told c = sym (c .before .window-fits .ensures) ∙ c .if1 .taken
 
-fits : (c : tie.Then1) → let a = c .before .before .before .before .args in Fits (length (now (a .series))) (a .n) (length (now (a .out)))
+fits : (c : tie.Then1) → let a = c .before .before .before .before .args in Fits (length (now (a .series))) (a .n)
+    (length (now (a .out)))
 fits c = fits-parts _ _ _ (told c)
 
 accepted-by-requires : tie.Need-accepted-by-requires
 accepted-by-requires c κs =
     let at-rest = c .before in
     let first = at-rest .before .sum-first in
-    none-joined (none-larger (first .ensures .bits) (or-first _ _)) (none-larger (at-rest .bits-together .ensures) (or-second (first .result .together) _)) (omega arith)
+    none-joined (none-larger (first .ensures .bits) (or-first _ _))
+    (none-larger (at-rest .bits-together .ensures) (or-second (first .result .together) _)) (omega arith)
 
 write-means-requires : tie.Need-write-means-requires
 write-means-requires c κs =
@@ -41,7 +44,8 @@ returns c =
     let at-fits = at-test .before .before .before .before in
     let a = at-fits .before .before .before .before .args in
     rw (fits-answered accepted (now (a .series)) (a .n) (length (now (a .out))) (told at-fits))
-    (values-pass (now (a .series)) (at-test .accepted-by .ensures) (at-then .if2 .taken) (at-write .write-means .ensures))
+    (values-pass (now (a .series)) (at-test .accepted-by .ensures) (at-then .if2 .taken)
+    (at-write .write-means .ensures))
 
 returns-2 : tie.Need-returns-2
 returns-2 c =

@@ -12,7 +12,8 @@ use Rattle.averages.proofs.sum_first.Statement.{statement}
 use Rattle.averages.proofs.sum_first.Tie as tie
 
 abbrev Inv-loop : tie.InvT-loop
-Inv-loop series n together₀ sum₀ i₀ together sum i = (i ≤ n) × Summing minusZero (line series) 0 i sum × NoneAbove together series 0 i
+Inv-loop series n together₀ sum₀ i₀ together sum i = (i ≤ n) × Summing minusZero (line series) 0 i sum
+    × NoneAbove together series 0 i
 
 abbrev μ-loop : tie.MeasureT-loop
 μ-loop series n together₀ sum₀ i₀ together sum i = n - i

@@ -29,7 +29,8 @@ returns c =
     let at-lead = at-slide .before .before .before .before .before in
     let start = at-lead .before .before .before .before in
     let a = start .args in
-    then-written (first-mean (now (a .series)) (a .n) (at-lead .fill-nan .ensures) (start .pre .is) (omega arith)) (at-slide .slide-means .ensures) (omega arith)
+    then-written (first-mean (now (a .series)) (a .n) (at-lead .fill-nan .ensures) (start .pre .is) (omega arith))
+    (at-slide .slide-means .ensures) (omega arith)
 
 pub write-means-spec : {M : Type 1} → statement M
 write-means-spec =

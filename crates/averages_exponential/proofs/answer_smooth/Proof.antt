@@ -10,10 +10,12 @@ returns c =
     let at-write = c .before .before in
     let at-then = at-write .before .before in
     let at-test = at-then .before in
-    values-pass (now (at-test .before .before .before .before .args .series)) (at-test .accepted-by .ensures) (at-then .if1 .taken) (at-write .write-smooth .ensures)
+    values-pass (now (at-test .before .before .before .before .args .series)) (at-test .accepted-by .ensures)
+    (at-then .if1 .taken) (at-write .write-smooth .ensures)
 
 returns-2 : tie.Need-returns-2
-returns-2 c = values-fail (now (c .before .before .before .before .before .args .series)) (c .before .accepted-by .ensures) (c .if1 .left)
+returns-2 c = values-fail (now (c .before .before .before .before .before .args .series))
+    (c .before .accepted-by .ensures) (c .if1 .left)
 
 pub answer-smooth-spec : {M : Type 1} → statement M
 answer-smooth-spec =

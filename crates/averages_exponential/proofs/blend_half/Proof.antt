@@ -1,4 +1,5 @@
--- `blend_half` meets its contract: the loop blends the first half, and takes no bit of either half away. Assumes nothing.
+-- `blend_half` meets its contract: the loop blends the first half, and takes no bit of either half away. Assumes
+-- nothing.
 use Prim.Native.Nat.{_+_, _-_, _≤_}
 use native.Mathlib.Omega.{arith}
 use borrow.Author.Needs.{needs}

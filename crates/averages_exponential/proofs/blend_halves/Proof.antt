@@ -1,4 +1,5 @@
--- `blend_halves` meets its contract: each turn writes a cell of either half, from the one before it there. Assumes nothing.
+-- `blend_halves` meets its contract: each turn writes a cell of either half, from the one before it there. Assumes
+-- nothing.
 use Prim.Native.Nat.{_+_, _-_, _≤_}
 use native.Mathlib.Omega.{arith}
 use borrow.Author.Needs.{needs}
@@ -23,8 +24,13 @@ abbrev μ-loop : tie.MeasureT-loop
 
 loop-holds : tie.Need-loop-holds Inv-loop μ-loop
 loop-holds c =
-    let pre = c .before .before .pre in
-    (omega arith, one-part _ _ _ (pre .0 .cells) (omega arith), at-bar seeded (omega arith), at-bar (pre .1) (omega arith))
+    let pre = c .before .before .pre in (
+      omega arith,
+      one-part _ _ _ (pre .0 .cells) (omega arith),
+      at-bar seeded (omega arith),
+      at-bar (pre .1)
+          (omega arith),
+    )
 
 loop-again : tie.Need-loop-again Inv-loop μ-loop
 loop-again c =

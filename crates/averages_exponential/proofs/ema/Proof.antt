@@ -1,4 +1,5 @@
--- `ema` meets its contract: the smoothed line from the mean of the first bars on, where the window fits, and else all cells are NaN. Assumes nothing.
+-- `ema` meets its contract: the smoothed line from the mean of the first bars on, where the window fits, and else all
+-- cells are NaN. Assumes nothing.
 use mathlib.Core.Path.{_≡_, sym, _∙_}
 use mathlib.Core.Bool.{true}
 use Prim.Native.Nat.{_-_}
@@ -18,10 +19,12 @@ use Rattle.cells.specs.Recur.{carried}
 use Rattle.averages_exponential.proofs.ema.Tie as tie
 
 -- the window is whole, and the lengths are in order
-told : (c : tie.Then1) → let a = c .before .before .before .before .args in windowFits (length (now (a .series))) (a .n) (length (now (a .out))) ≡ true
+told : (c : tie.Then1) → let a = c .before .before .before .before .args in windowFits (length (now (a .series)))
+    (a .n) (length (now (a .out))) ≡ true
 told c = sym (c .before .window-fits .ensures) ∙ c .if1 .taken
 
-fits : (c : tie.Then1) → let a = c .before .before .before .before .args in Fits (length (now (a .series))) (a .n) (length (now (a .out)))
+fits : (c : tie.Then1) → let a = c .before .before .before .before .args in Fits (length (now (a .series))) (a .n)
+    (length (now (a .out)))
 fits c = fits-parts _ _ _ (told c)
 
 answer-smooth-requires : tie.Need-answer-smooth-requires
@@ -39,7 +42,8 @@ returns c =
     let a = at-fits .before .before .before .args in
     let h = fits (at-sum .before) in
     let seed = mean-of (a .n) (a .n - 1) (line (now (a .series))) (at-sum .sum-first .ensures .sum) (omega arith) in
-    rw (fits-answered accepted (now (a .series)) (a .n) (length (now (a .out))) (told (at-sum .before)), ← seed) (at-smooth .answer-smooth .ensures)
+    rw (fits-answered accepted (now (a .series)) (a .n) (length (now (a .out))) (told (at-sum .before)), ← seed)
+    (at-smooth .answer-smooth .ensures)
 
 returns-2 : tie.Need-returns-2
 unfolding carried
@@ -53,7 +57,8 @@ ema-spec =
     (λ c κs. (fits c .window .some, fits c .inside))  -- sum-first-requires
     (λ c. let h = fits (c .before .before) in count-is-float _ (omega arith))  -- int-to-float-answer-smooth
     (λ c. let h = fits (c .before .before .before) in omega arith)  -- add-answer-smooth
-    (λ c. let h = fits (c .before .before .before .before) in count-is-float _ (omega arith))  -- int-to-float-answer-smooth-2
+    -- int-to-float-answer-smooth-2
+    (λ c. let h = fits (c .before .before .before .before) in count-is-float _ (omega arith))
     (λ c. let h = fits (c .before .before .before .before) in omega arith)  -- sub-answer-smooth
     answer-smooth-requires
     (λ c κs. sym (c .before .before .window-fits .ensures) ∙ c .before .if1 .left)  -- answer-lead-requires

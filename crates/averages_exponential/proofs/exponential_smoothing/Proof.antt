@@ -21,7 +21,8 @@ use Rattle.averages_exponential.proofs.exponential_smoothing.Statement.
 use Rattle.averages_exponential.proofs.exponential_smoothing.Tie as tie
 
 -- the series has a bar, and the lengths are in order
-told : (c : tie.Then1) → let a = c .before .before .before .before .before .args in windowFits (length (now (a .series))) 1 (length (now (a .out))) ≡ true
+told : (c : tie.Then1) → let a = c .before .before .before .before .before .args in windowFits
+    (length (now (a .series))) 1 (length (now (a .out))) ≡ true
 told c = sym (c .before .before .window-fits .ensures) ∙ and-parts _ _ (c .if1 .taken) .0
 
 -- where the check has passed, the answer is that of the rest of the table
@@ -51,8 +52,10 @@ returns c =
     let at-smooth = c .before .before in
     let at-then = at-smooth .before .before .before .before .before in
     let a = at-then .before .before .before .before .before .args in
-    let yes = sym (at-then .before .is-finite .ensures) ∙ and-parts (at-then .before .before .window-fits .result) _ (at-then .if1 .taken) .1 in
-    rw (fits-checked accepted (now (a .series)) 1 (length (now (a .out))) (told at-then), yes, counted-twice) (at-smooth .answer-smooth .ensures)
+    let yes = sym (at-then .before .is-finite .ensures)
+    ∙ and-parts (at-then .before .before .window-fits .result) _ (at-then .if1 .taken) .1 in
+    rw (fits-checked accepted (now (a .series)) 1 (length (now (a .out))) (told at-then), yes, counted-twice)
+    (at-smooth .answer-smooth .ensures)
 
 returns-2 : tie.Need-returns-2
 unfolding exponentialAnswer
@@ -68,7 +71,8 @@ returns-3 c =
     let yes = at-else .before .is-finite .ensures ∙ sym (c .before .is-finite2 .ensures) ∙ c .if2 .taken in
     let no = sym (at-fits .window-fits .ensures) ∙ first-false _ _ (at-else .if1 .left) yes in
     let room = checked-room _ _ _ _ _ (sym (at-check .check .ensures) ∙ at-passed .enum-told2 .given .1) in
-    let few : length (now (a .series)) < 1 = none-fits (length (now (a .series))) 1 _ no (record { some = omega arith; narrow = omega arith }) (room .short) (room .out-long) in
+    let few : length (now (a .series)) < 1 = none-fits (length (now (a .series))) 1 _ no
+    (record { some = omega arith; narrow = omega arith }) (room .short) (room .out-long) in
     let none : length (now (a .series)) ≡ 0 = omega arith in
     counted (rw (rest at-passed, ← c .before .is-finite2 .ensures, c .if2 .taken, none)) none-written
 

@@ -26,7 +26,8 @@ returns c =
     let at-blend = c .before .before in
     let at-lead = at-blend .before .before .before .before in
     let a = at-lead .before .before .before .before .args in
-    then-written (seed-written (now (a .series)) (a .alpha) (a .first) (a .seed) (at-lead .fill-nan .ensures) (omega arith)) (at-blend .blend-halves .ensures) (omega arith)
+    then-written (seed-written (now (a .series)) (a .alpha) (a .first) (a .seed) (at-lead .fill-nan .ensures)
+    (omega arith)) (at-blend .blend-halves .ensures) (omega arith)
 
 pub write-smooth-spec : {M : Type 1} → statement M
 write-smooth-spec =

@@ -37,7 +37,8 @@ abbrev pub Smooth : List Float → Float → ℕ → Float → List Float → Li
 Smooth s alpha first seed old now = Writing (length s) (smoothLine alpha first seed (line s)) old now
 
 -- the first k of those cells stand there, up to the seed or before it, and there is room for the rest
-pub record Smoothing (s : List Float) (alpha : Float) (first : ℕ) (seed : Float) (k : ℕ) (now : List Float) : Type 0 where
-  pub inside : first < length s
-  pub room : length s ≤ length now
-  pub cells : Writing k (smoothLine alpha first seed (line s)) now now
+pub record Smoothing (s : List Float) (alpha : Float) (first : ℕ) (seed : Float) (k : ℕ) (now : List Float) : Type 0
+  where
+    pub inside : first < length s
+    pub room : length s ≤ length now
+    pub cells : Writing k (smoothLine alpha first seed (line s)) now now

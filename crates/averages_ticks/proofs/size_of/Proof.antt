@@ -15,7 +15,8 @@ cast-result : tie.Need-cast-result
 cast-result c =
     let z = c .before .args .z in
     let same = kept z (omega arith) in
-    rw (same, below-zero z (rw same at (c .if1 .taken)), kept (pos (natAbs z)) (omega arith)) (tt, record { fits = omega arith })
+    rw (same, below-zero z (rw same at (c .if1 .taken)), kept (pos (natAbs z)) (omega arith))
+    (tt, record { fits = omega arith })
 
 cast-result-2 : tie.Need-cast-result-2
 cast-result-2 c =

@@ -1,4 +1,5 @@
--- `slide_ticks` meets its contract: each turn takes a tick in, writes the mean, and lets the oldest tick go. Assumes nothing.
+-- `slide_ticks` meets its contract: each turn takes a tick in, writes the mean, and lets the oldest tick go. Assumes
+-- nothing.
 use Prim.Native.Nat.{_+_, _-_, _≤_}
 use native.Mathlib.Omega.{arith}
 use borrow.Author.Needs.{needs, sfits-of}
@@ -30,7 +31,8 @@ use Rattle.averages_ticks.proofs.slide_ticks.Tie as tie
 
 abbrev Inv-loop : tie.InvT-loop
 Inv-loop series n lead out₀ share rest₀ i₀ out rest i =
-    (n ≤ i + 1) × (i ≤ length series) × Writing i (tickMeanLine n (line series)) out₀ out × TickSum series (i + 1 - n) (n - 1) (toZ w64 rest)
+    (n ≤ i + 1) × (i ≤ length series) × Writing i (tickMeanLine n (line series)) out₀ out
+    × TickSum series (i + 1 - n) (n - 1) (toZ w64 rest)
 
 abbrev μ-loop : tie.MeasureT-loop
 μ-loop series n lead out₀ share rest₀ i₀ out rest i = length series - i
@@ -44,7 +46,8 @@ loop-holds c =
 window : (c : tie.After-row-known Inv-loop μ-loop)
     → let at = c .before .before .before in
     let a = at .before .before .before .args in
-    HeldSum (now (a .series)) (at .loop .i + 1 - a .n) (a .n) (toZ w64 (at .loop .rest) +ℤ held (toSigned 63 (line (now (a .series)) (at .loop .i))))
+    HeldSum (now (a .series)) (at .loop .i + 1 - a .n) (a .n)
+    (toZ w64 (at .loop .rest) +ℤ held (toSigned 63 (line (now (a .series)) (at .loop .i))))
 window c =
     let at = c .before .before .before in
     hold-in (at .before .before .before .pre .ticks) (at .loop .i) (at .loop .inv .3) (omega arith)
@@ -61,7 +64,8 @@ rest : (c : tie.After-row-known2 Inv-loop μ-loop)
     let a = at .before .before .before .args in
     let s = now (a .series) in
     HeldSum s (at .loop .i + 1 + 1 - a .n) (a .n - 1)
-    (held (toZ w64 (at .loop .rest) +ℤ held (toSigned 63 (line s (at .loop .i)))) -ℤ held (toSigned 63 (line s (at .loop .i + 1 - a .n))))
+    (held (toZ w64 (at .loop .rest) +ℤ held (toSigned 63 (line s (at .loop .i)))) -ℤ held
+    (toSigned 63 (line s (at .loop .i + 1 - a .n))))
 rest c =
     let at = c .before .before .before .before .before .before in
     hold-out (at .before .before .before .pre .ticks) (window (c .before .before .before) .sum) (omega arith)
@@ -71,7 +75,8 @@ loop-again c =
     let at = c .before .before .before .before .before .before in
     let call = c .before .before .to-tick in
     let cell = toZ-ofZ w64 (call .result) (sfits-of (call .ok)) in
-    let mean = tick-cell (at .before .before .before .args .n) (at .loop .i) (window (c .before .before .before) .sum) (omega arith) in
+    let mean = tick-cell (at .before .before .before .args .n) (at .loop .i) (window (c .before .before .before) .sum)
+    (omega arith) in
     (omega arith, omega arith, one-more (at .loop .inv .2) (rw (cell, call .ensures) mean) (omega arith), rest c .sum)
 
 pub slide-ticks-spec : {M : Type 1} → statement M
@@ -85,7 +90,8 @@ slide-ticks-spec =
     loop-holds
     (λ c. search needs)  -- mul-sum
     (λ c. search needs)  -- shared-slice-read-sum
-    (λ c. castable-at _ (c .before .before .before .before .before .before .pre .ticks) (omega arith))  -- float-to-int-sum
+    -- float-to-int-sum
+    (λ c. castable-at _ (c .before .before .before .before .before .before .pre .ticks) (omega arith))
     (λ c. window c .fits)  -- add-sum
     to-tick-requires
     (λ c. search needs)  -- mul-rest
@@ -94,7 +100,8 @@ slide-ticks-spec =
     (λ c. search needs)  -- sub-rest
     (λ c. search needs)  -- mul-rest-2
     (λ c. search needs)  -- shared-slice-read-rest
-    (λ c. castable-at _ (c .before .before .before .before .before .before .before .before .before .pre .ticks) (omega arith))  -- float-to-int-rest
+    (λ c. castable-at _ (c .before .before .before .before .before .before .before .before .before .pre .ticks)
+    (omega arith))  -- float-to-int-rest
     (λ c. rest c .fits)  -- sub-rest-2
     (λ c. search needs)  -- add-i
     (λ c. search needs)  -- loop-less

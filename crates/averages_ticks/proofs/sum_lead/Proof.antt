@@ -18,7 +18,8 @@ use Rattle.averages_ticks.proofs.sum_lead.Statement.{statement}
 use Rattle.averages_ticks.proofs.sum_lead.Tie as tie
 
 abbrev Inv-loop : tie.InvT-loop
-Inv-loop series first out₀ sum₀ i₀ out sum i = (i ≤ first) × Writing i (λ j. pos 0) out₀ out × TickSum series 0 i (toZ w64 sum)
+Inv-loop series first out₀ sum₀ i₀ out sum i = (i ≤ first) × Writing i (λ j. pos 0) out₀ out
+    × TickSum series 0 i (toZ w64 sum)
 
 abbrev μ-loop : tie.MeasureT-loop
 μ-loop series first out₀ sum₀ i₀ out sum i = first - i
@@ -52,7 +53,8 @@ sum-lead-spec =
     (λ c. search needs)  -- slice-set-of-out
     (λ c. search needs)  -- add-i
     (λ c. search needs)  -- loop-less
-    (λ c. (omega arith, one-more (c .before .before .before .loop .inv .1) refl (omega arith), next c .sum))  -- loop-again
+    -- loop-again
+    (λ c. (omega arith, one-more (c .before .before .before .loop .inv .1) refl (omega arith), next c .sum))
     (λ c. search needs)  -- same-length
     returns
     )

@@ -1,4 +1,5 @@
--- `tick_mean` meets its contract: the answer is that of the table, and where it has cells they are written. Assumes nothing.
+-- `tick_mean` meets its contract: the answer is that of the table, and where it has cells they are written. Assumes
+-- nothing.
 use Prim.Native.Nat.{_<_}
 use borrow.Author.Needs.{needs}
 use Rattle.calls.specs.Answer.{countOf}
@@ -14,7 +15,8 @@ due c = some-cells (c .before .before .answer-tick-window .result) (c .before .h
 returns : tie.Need-returns
 returns c =
     let at-then = c .before .before .before in
-    all-called (all-bars _ _ _ _ _) (at-then .before .before .answer-tick-window .ensures) (due at-then) (c .before .write-tick-means .ensures)
+    all-called (all-bars _ _ _ _ _) (at-then .before .before .answer-tick-window .ensures) (due at-then)
+    (c .before .write-tick-means .ensures)
 
 returns-2 : tie.Need-returns-2
 returns-2 c =
@@ -27,7 +29,8 @@ tick-mean-spec =
     (tie.spec
     (λ c κs. search needs)  -- answer-tick-window-requires
     (λ c κs. search needs)  -- has-cells-requires
-    (λ c κs. tick-room _ _ _ (c .before .before .before .answer-tick-window .ensures) (due (c .before)))  -- write-tick-means-requires
+    -- write-tick-means-requires
+    (λ c κs. tick-room _ _ _ (c .before .before .before .answer-tick-window .ensures) (due (c .before)))
     (λ c. search needs)  -- same-length
     returns
     returns-2

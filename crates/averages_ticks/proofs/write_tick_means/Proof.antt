@@ -35,7 +35,8 @@ write-tick-means-spec =
     (λ c κs. search needs)  -- sum-lead-requires-2
     slide-ticks-requires
     (λ c. search needs)  -- same-length
-    (λ c. lead-cells (c .before .before .before .before .before .args .n) (c .before .sum-lead .ensures) (omega arith))  -- returns
+    -- returns
+    (λ c. lead-cells (c .before .before .before .before .before .args .n) (c .before .sum-lead .ensures) (omega arith))
     (λ c. search needs)  -- same-length-2
     returns-2
     )

@@ -1,4 +1,5 @@
--- Division by a product: a number times 2^38 / (2 * n), rounded up, over 2^38, is its whole part by 2 * n, or one too many. Assumes nothing.
+-- Division by a product: a number times 2^38 / (2 * n), rounded up, over 2^38, is its whole part by 2 * n, or one too
+-- many. Assumes nothing.
 use mathlib.Core.Path.{_≡_}
 use Prim.Native.Nat.{ℕ, _+_, _*_, _/_, _<_, _≤_, _^_}
 use Rattle.limits.specs.Limits.{Window, tickPower}

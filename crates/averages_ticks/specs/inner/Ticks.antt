@@ -1,4 +1,5 @@
--- Sums of whole ticks, as the loops of `tick_mean` make them: one tick in, one out, and an i64 holds them. Assumes nothing.
+-- Sums of whole ticks, as the loops of `tick_mean` make them: one tick in, one out, and an i64 holds them. Assumes
+-- nothing.
 use mathlib.Core.Path.{_≡_}
 use mathlib.Core.Bool.{true}
 use mathlib.Core.List.{List}

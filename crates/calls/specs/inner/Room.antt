@@ -1,4 +1,5 @@
--- The table of refusals in the forms that the checks meet it, and what is known of a call that it let pass. Assumes nothing.
+-- The table of refusals in the forms that the checks meet it, and what is known of a call that it let pass. Assumes
+-- nothing.
 use mathlib.Core.List.{List, [], _∷_}
 use Prim.Native.Nat.{ℕ, _≤_}
 

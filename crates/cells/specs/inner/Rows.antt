@@ -1,4 +1,5 @@
--- Two lines in one slice, one after the other: how a `Writing` goes on in a part `&mut s[a..]` that was lent. Assumes nothing.
+-- Two lines in one slice, one after the other: how a `Writing` goes on in a part `&mut s[a..]` that was lent. Assumes
+-- nothing.
 use Prim.Native.Nat.{ℕ, zero, suc}
 
 module _ {A : Type 0} where

@@ -10,7 +10,8 @@ use Rattle.checks.proofs.cells_due.Tie as tie
 mul-clear : tie.Need-mul-clear
 mul-clear c =
     let start = c .before .before .before .before .before .before in
-    let room : 8 * start .args .bars ≤ length (now (start .args .work)) = search (needs, clear-room (start .args .bars)) in
+    let room : 8 * start .args .bars ≤ length (now (start .args .work)) = search
+    (needs, clear-room (start .args .bars)) in
     search needs
 
 pub cells-due-spec : {M : Type 1} → statement M
@@ -22,7 +23,8 @@ cells-due-spec =
     (λ c. search (needs, refused-due))  -- returns
     (λ c. search (needs, yes-due))  -- returns-2
     mul-clear
-    (λ c κs. search (needs, clear-room (c .before .before .before .before .before .before .args .bars)))  -- clear-requires
+    -- clear-requires
+    (λ c κs. search (needs, clear-room (c .before .before .before .before .before .before .args .bars)))
     (λ c. search needs)  -- same-length
     (λ c. search (needs, not-due))  -- returns-3
     )

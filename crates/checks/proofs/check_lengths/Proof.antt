@@ -1,4 +1,5 @@
--- `check_lengths` meets its contract: at each answer the tests on the way there pick the line of the table. Assumes nothing.
+-- `check_lengths` meets its contract: at each answer the tests on the way there pick the line of the table. Assumes
+-- nothing.
 use borrow.Author.Tests.{le-leb, lt-leb}
 use Rattle.calls.proofs.Room.{slices-one}
 use Rattle.checks.proofs.check_lengths.Statement.{statement}

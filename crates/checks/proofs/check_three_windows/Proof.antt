@@ -12,5 +12,6 @@ check-three-windows-spec =
     (tie.spec
     (λ c κs. search needs)  -- empty-if-requires
     (λ c κs. search needs)  -- unless-refused-requires
-    (λ c. unfold windowed in rw (c .unless-refused .ensures, c .before .empty-if .ensures, and-true, or-false))  -- returns
+    -- returns
+    (λ c. unfold windowed in rw (c .unless-refused .ensures, c .before .empty-if .ensures, and-true, or-false))
     )

@@ -1,4 +1,5 @@
--- `check_three_with_work` meets its contract: the lengths, the work slice last, then the values of each series. Assumes nothing.
+-- `check_three_with_work` meets its contract: the lengths, the work slice last, then the values of each series.
+-- Assumes nothing.
 use borrow.Author.Needs.{needs}
 use Rattle.calls.proofs.Room.{slices-work}
 use Rattle.checks.proofs.Three.{checked-three}

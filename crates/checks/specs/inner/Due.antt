@@ -19,7 +19,8 @@ pub record CellsDue (due : Answer) (l : ℕ) (r : Bool) (work₀ work₁ : List 
   pub work : work₁ ≡ written (cond r 0 (clearedOf due (8 * l))) (λ i. plusZero) work₀
   pub long : length work₁ ≡ length work₀
 
--- what the stages of a rule ask, for a window of n bars: accepted prices, a cell for each of them, and rows of as many work cells
+-- what the stages of a rule ask, for a window of n bars: accepted prices, a cell for each of them, and rows of as
+-- many work cells
 pub record Priced (rows n : ℕ) (s : List Float) (out work : ℕ) : Type 0 where
   pub window : Window n
   pub short : length s ≤ longestSeries

@@ -1,4 +1,5 @@
--- The table of refusals for three series or three outputs, and what is known of three series that it let pass. Assumes nothing.
+-- The table of refusals for three series or three outputs, and what is known of three series that it let pass.
+-- Assumes nothing.
 use mathlib.Core.Path.{_≡_}
 use mathlib.Core.List.{List}
 use Prim.Native.Nat.{ℕ, _*_, _≤_}

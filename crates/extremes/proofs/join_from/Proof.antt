@@ -1,4 +1,5 @@
--- `join_from` meets its contract: each turn joins one bar more to the bars from e on, and these to the window's others. Assumes nothing.
+-- `join_from` meets its contract: each turn joins one bar more to the bars from e on, and these to the window's
+-- others. Assumes nothing.
 use Prim.Native.Nat.{_+_, _-_, _≤_}
 use native.Mathlib.Omega.{arith}
 use borrow.Author.Needs.{needs}
@@ -32,7 +33,8 @@ loop-again c =
     let at = cell .before .before .before in
     let pre = at .before .before .before .before .before .pre in
     let i = at .loop .i + 1 in
-    let on = joins (pre .0 .numbers) (at .loop .inv .2) (one-bar i (cell .of-one2 .ensures)) (from .join .ensures) (omega arith) in
+    let on = joins (pre .0 .numbers) (at .loop .inv .2) (one-bar i (cell .of-one2 .ensures)) (from .join .ensures)
+    (omega arith) in
     let up-to = not-yet i (pre .1) (at .loop .inv .3) (omega arith) in
     let window = meets (pre .0 .numbers) up-to on (c .join2 .ensures) (omega arith) in
     (omega arith, omega arith, on, one-above i _ (at .loop .inv .3) (whole _ window (omega arith)) (omega arith))

@@ -18,8 +18,11 @@ loop-again : tie.Need-loop-again Inv-loop μ-loop
 loop-again c =
     let cell = c .before in
     let at = cell .before .before .before in
-    let start = at .before .before .before .before in
-    (omega arith, joins (start .pre .2) (at .loop .inv .1) (one-bar _ (cell .of-one2 .ensures)) (c .join .ensures) (omega arith))
+    let start = at .before .before .before .before in (
+      omega arith,
+      joins (start .pre .2) (at .loop .inv .1) (one-bar _ (cell .of-one2 .ensures)) (c .join .ensures)
+          (omega arith),
+    )
 
 pub range-of-spec : {M : Type 1} → statement M
 range-of-spec =

@@ -8,7 +8,8 @@ use Rattle.extremes.proofs.write_block.Tie as tie
 returns : tie.Need-returns
 returns c =
     let second = c .before .before in
-    replaced-again (second .before .before .before .before .write-up-to .ensures) (second .join-from .ensures) (omega arith)
+    replaced-again (second .before .before .before .before .write-up-to .ensures) (second .join-from .ensures)
+    (omega arith)
 
 pub write-block-spec : {M : Type 1} → statement M
 write-block-spec =

@@ -11,7 +11,8 @@ use Rattle.extremes.proofs.write_blocks.Tie as tie
 
 abbrev Inv-loop : tie.InvT-loop
 Inv-loop cells n rows₀ e₀ rows e =
-    (n ≤ e + 1) × (length cells + length cells ≤ length rows₀) × Replacing (length cells) 0 (min e (length cells)) (Whole cells n) rows₀ rows
+    (n ≤ e + 1) × (length cells + length cells ≤ length rows₀)
+    × Replacing (length cells) 0 (min e (length cells)) (Whole cells n) rows₀ rows
 
 abbrev μ-loop : tie.MeasureT-loop
 μ-loop cells n rows₀ e₀ rows e = length cells - e

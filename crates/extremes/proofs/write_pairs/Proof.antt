@@ -11,7 +11,8 @@ use Rattle.extremes.proofs.write_pairs.Statement.{statement}
 use Rattle.extremes.proofs.write_pairs.Tie as tie
 
 abbrev Inv-loop : tie.InvT-loop
-Inv-loop cells n rows₀ bars i₀ rows i = (n ≤ i + 1) × Replacing (length cells) 0 (min i (length cells)) (Whole cells n) rows₀ rows
+Inv-loop cells n rows₀ bars i₀ rows i = (n ≤ i + 1)
+    × Replacing (length cells) 0 (min i (length cells)) (Whole cells n) rows₀ rows
 
 abbrev μ-loop : tie.MeasureT-loop
 μ-loop cells n rows₀ bars i₀ rows i = length cells - i
@@ -23,7 +24,8 @@ loop-again c =
     let at = first .before .before .before in
     let given = at .before .before .before .pre .1 .given in
     let i = at .loop .i in
-    let window = pairs (given .numbers) (one-bar _ (first .of-one .ensures)) (one-bar i (second .of-one2 .ensures)) (c .join .ensures) (omega arith) in
+    let window = pairs (given .numbers) (one-bar _ (first .of-one .ensures)) (one-bar i (second .of-one2 .ensures))
+    (c .join .ensures) (omega arith) in
     (omega arith, one-above i _ (at .loop .inv .1) (whole _ window (omega arith)) (omega arith))
 
 pub write-pairs-spec : {M : Type 1} → statement M

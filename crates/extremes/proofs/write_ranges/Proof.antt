@@ -23,14 +23,16 @@ returns c =
     let after = c .before .before in
     let lead = after .before .before .before .before .before in
     let first = lead .before .before in
-    rows-written (replaced-again (lead .write-lead .ensures) (after .write-blocks .ensures) (omega arith)) (first .before .before .before .pre .room)
+    rows-written (replaced-again (lead .write-lead .ensures) (after .write-blocks .ensures) (omega arith))
+    (first .before .before .before .pre .room)
 
 returns-2 : tie.Need-returns-2
 returns-2 c =
     let after = c .before .before in
     let lead = after .before .before .before .before .before in
     let first = lead .before .before in
-    rows-written (replaced-again (lead .write-lead .ensures) (after .write-pairs .ensures) (omega arith)) (first .before .before .before .pre .room)
+    rows-written (replaced-again (lead .write-lead .ensures) (after .write-pairs .ensures) (omega arith))
+    (first .before .before .before .pre .room)
 
 pub write-ranges-spec : {M : Type 1} → statement M
 write-ranges-spec =

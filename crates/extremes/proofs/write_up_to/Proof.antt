@@ -12,7 +12,8 @@ use Rattle.extremes.proofs.write_up_to.Tie as tie
 
 abbrev Inv-loop : tie.InvT-loop
 Inv-loop cells n e last rows₀ bars i₀ best₀ rows i best =
-    (e ≤ i) × (i ≤ last) × UpTo cells n e i best × Replacing (length cells) (i + 1) (last + 1) (UpTo cells n e) rows₀ rows
+    (e ≤ i) × (i ≤ last) × UpTo cells n e i best
+    × Replacing (length cells) (i + 1) (last + 1) (UpTo cells n e) rows₀ rows
 
 abbrev μ-loop : tie.MeasureT-loop
 μ-loop cells n e last rows₀ bars i₀ best₀ rows i best = i - e
@@ -24,7 +25,8 @@ loop-again c =
     let start = at .before .before .before .before in (
       omega arith,
       omega arith,
-      joins (start .pre .numbers) (one-bar _ (cell .of-one .ensures)) (at .loop .inv .2) (c .join .ensures) (omega arith),
+      joins (start .pre .numbers) (one-bar _ (cell .of-one .ensures)) (at .loop .inv .2) (c .join .ensures)
+          (omega arith),
       one-below _ _ (at .loop .inv .3) (at .loop .inv .2) (omega arith),
     )
 

@@ -1,5 +1,5 @@
--- The best of neighbouring cells, put together from the best of its parts: of numbers `pickOf` picks the same in any grouping.
--- Assumes nothing.
+-- The best of neighbouring cells, put together from the best of its parts: of numbers `pickOf` picks the same in any
+-- grouping. Assumes nothing.
 use mathlib.Core.Path.{_≡_}
 use mathlib.Core.Bool.{Bool, false}
 use Prim.Native.Nat.{ℕ, _-_, _<_, _≤_}

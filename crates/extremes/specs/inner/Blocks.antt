@@ -32,7 +32,8 @@ pub record Begun (s : List Float) (n : ℕ) (now : List Float) : Type 0 where
   pub given : Room s n (length now)
   pub lead : Replacing (length s) 0 (min (n - 1) (length s)) (Whole s n) now now
 
--- the windows of n bars that end at bars e to `last` of s all reach over bar e, and rows of `room` cells in all hold two cells for each
+-- the windows of n bars that end at bars e to `last` of s all reach over bar e, and rows of `room` cells in all hold
+-- two cells for each
 pub record Windows (s : List Float) (n e last room : ℕ) : Type 0 where
   pub full : n ≤ e + 1
   pub order : e ≤ last

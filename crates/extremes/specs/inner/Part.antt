@@ -1,5 +1,5 @@
--- Two rows of a slice, the highest of bar i in cell i and the lowest in cell bars + i: a part of the bars written anew, from either end.
--- Assumes nothing.
+-- Two rows of a slice, the highest of bar i in cell i and the lowest in cell bars + i: a part of the bars written
+-- anew, from either end. Assumes nothing.
 use mathlib.Core.Path.{_≡_}
 use mathlib.Core.List.{List}
 use Prim.Native.Nat.{ℕ, _+_, _<_, _≤_}

@@ -1,4 +1,5 @@
--- The highest and the lowest of neighbouring cells together: what holds of the best of either kind holds of both. Assumes nothing.
+-- The highest and the lowest of neighbouring cells together: what holds of the best of either kind holds of both.
+-- Assumes nothing.
 use mathlib.Core.Bool.{true, false}
 use Prim.Native.Nat.{ℕ}
 use lib.Ieee.{Float}

@@ -16,7 +16,8 @@ number : (c : tie.Else1) → isNan (c .before .before .args .x) ≡ false
 number c = sym (c .before .is-nan .ensures) ∙ c .if1 .left
 
 -- the test of the highest bit said s
-signed : (c : tie.Else1) (s : Bool) → leb (2 ^ 63) (toBits binary64 (c .before .before .args .x)) ≡ s → one s ≡ signOf (c .before .before .args .x)
+signed : (c : tie.Else1) (s : Bool) → leb (2 ^ 63) (toBits binary64 (c .before .before .args .x)) ≡ s → one s
+    ≡ signOf (c .before .before .args .x)
 signed c s e =
     let at-start = c .before .before in
     rw (sign-is _ (number c), ← highest-bit _ (subst T (sym (at-start .good .0 .1)) tt) (number c), e)

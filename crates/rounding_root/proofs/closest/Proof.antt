@@ -1,4 +1,5 @@
--- `closest` meets its contract: a guess that passed the test is closest, and so is what the search finds. Assumes nothing.
+-- `closest` meets its contract: a guess that passed the test is closest, and so is what the search finds. Assumes
+-- nothing.
 use native.Mathlib.Omega.{arith}
 use borrow.Author.Needs.{needs}
 use lib.Ieee.{ofBits}

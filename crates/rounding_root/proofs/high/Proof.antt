@@ -1,4 +1,5 @@
--- `high` meets its contract: the halves make the square, and no number on the way has more than 64 bits. Assumes nothing.
+-- `high` meets its contract: the halves make the square, and no number on the way has more than 64 bits. Assumes
+-- nothing.
 use native.Mathlib.Omega.{arith}
 use borrow.Author.Needs.{needs}
 use Rattle.rounding_root.proofs.Halves.{Small, small, by-halves}

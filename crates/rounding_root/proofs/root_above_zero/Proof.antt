@@ -1,4 +1,5 @@
--- `root_above_zero` meets its contract: the field of the exponent tells an infinity, a subnormal and a normal number apart. Assumes nothing.
+-- `root_above_zero` meets its contract: the field of the exponent tells an infinity, a subnormal and a normal number
+-- apart. Assumes nothing.
 use mathlib.Core.Path.{sym, _∙_, subst}
 use native.Mathlib.Omega.{arith}
 use borrow.Author.Needs.{needs}

@@ -1,4 +1,5 @@
--- `root_of` meets its contract: the closest whole root is the digits of the nearest float, and half the exponent its field. Assumes nothing.
+-- `root_of` meets its contract: the closest whole root is the digits of the nearest float, and half the exponent its
+-- field. Assumes nothing.
 use mathlib.Core.Path.{sym, _∙_}
 use native.Mathlib.Omega.{arith}
 use borrow.Author.Needs.{needs}
@@ -19,7 +20,8 @@ returns c =
     let even = evened (a .p) (a .e) (c .before .before .pre .0) in
     let square = even .square in
     let rooted = c .closest .ensures in
-    written _ _ (rooted .digits) (omega arith) ∙ sym (nearest-is _ _ _ (even .same) (omega arith) (omega arith) (rooted .closest))
+    written _ _ (rooted .digits) (omega arith)
+    ∙ sym (nearest-is _ _ _ (even .same) (omega arith) (omega arith) (rooted .closest))
 
 pub root-of-spec : {M : Type 1} → statement M
 root-of-spec =

@@ -1,4 +1,5 @@
--- `double_sma_positions` meets its contract: the answer is the table's, and where it has cells they are written. Assumes nothing.
+-- `double_sma_positions` meets its contract: the answer is the table's, and where it has cells they are written.
+-- Assumes nothing.
 use mathlib.Core.Path.{sym, _∙_}
 use Prim.Native.Nat.{_<_}
 use borrow.Author.Needs.{needs}
@@ -14,7 +15,8 @@ due c = some-cells (c .before .before .answer-double .result) (c .before .has-ce
 returns : tie.Need-returns
 returns c =
     let at-then = c .before .before .before .before in
-    all-called (double-bars _ _ _ _) (at-then .before .before .answer-double .ensures) (due at-then) (c .before .before .write-double .ensures)
+    all-called (double-bars _ _ _ _) (at-then .before .before .answer-double .ensures) (due at-then)
+    (c .before .before .write-double .ensures)
 
 returns-2 : tie.Need-returns-2
 returns-2 c =
@@ -27,7 +29,8 @@ double-sma-positions-spec =
     (tie.spec
     (λ c κs. search needs)  -- answer-double-requires
     (λ c κs. search needs)  -- has-cells-requires
-    (λ c κs. double-ready _ _ _ _ (c .before .before .before .answer-double .ensures) (due (c .before)))  -- write-double-requires
+    -- write-double-requires
+    (λ c κs. double-ready _ _ _ _ (c .before .before .before .answer-double .ensures) (due (c .before)))
     (λ c. search needs)  -- same-length
     returns
     returns-2

@@ -13,5 +13,10 @@ answer-double-spec =
     (λ c κs. search needs)  -- check-two-windows-requires
     (λ c κs. search needs)  -- and-then-requires
     (λ c. unfold doubleAnswer in
-    rw (c .and-then .ensures, c .before .check-two-windows .ensures, c .before .before .unless-refused .ensures, c .before .before .before .check .ensures))  -- returns
+    rw (
+      c .and-then .ensures,
+      c .before .check-two-windows .ensures,
+      c .before .before .unless-refused .ensures,
+      c .before .before .before .check .ensures,
+    ))  -- returns
     )

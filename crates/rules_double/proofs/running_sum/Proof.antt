@@ -32,6 +32,9 @@ running-sum-spec =
     (λ c. search needs)  -- shared-slice-read-sum-2
     (λ c. search needs)  -- add-j
     (λ c. search needs)  -- loop-less
-    (λ c. (omega arith, omega arith, next-running (c .before .before .before .loop .inv .2) (omega arith)))  -- loop-again
-    (λ c. let reached : c .before .loop .j ≡ c .before .before .before .before .args .i = omega arith in rw (← reached) (c .before .loop .inv .2))  -- returns
+    -- loop-again
+    (λ c. (omega arith, omega arith, next-running (c .before .before .before .loop .inv .2) (omega arith)))
+    -- returns
+    (λ c. let reached : c .before .loop .j
+    ≡ c .before .before .before .before .args .i = omega arith in rw (← reached) (c .before .loop .inv .2))
     )

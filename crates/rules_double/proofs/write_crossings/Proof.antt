@@ -27,8 +27,14 @@ abbrev μ-loop : tie.MeasureT-loop
 loop-holds : tie.Need-loop-holds Inv-loop μ-loop
 loop-holds c =
     let m = c .before .before .before .before .args .m in
-    let bar : m - 1 + 1 ≡ m = omega arith in
-    (omega arith, omega arith, search needs, rw bar (c .before .running-sum .ensures), rw bar (c .running-sum2 .ensures))
+    let bar : m - 1 + 1 ≡ m = omega arith in (
+      omega arith,
+      omega arith,
+      search needs,
+      rw bar (c .before .running-sum .ensures),
+      rw bar
+          (c .running-sum2 .ensures),
+    )
 
 loop-again : tie.Need-loop-again Inv-loop μ-loop
 loop-again c =
@@ -44,7 +50,8 @@ loop-again c =
 returns : tie.Need-returns Inv-loop μ-loop
 returns c =
     let inv = c .before .before .loop .inv in
-    ends (one-more (inv .2) (c .cross2 .ensures ∙ double-at _ (inv .3) (inv .4) (omega arith)) (omega arith)) (omega arith)
+    ends (one-more (inv .2) (c .cross2 .ensures ∙ double-at _ (inv .3) (inv .4) (omega arith)) (omega arith))
+    (omega arith)
 
 pub write-crossings-spec : {M : Type 1} → statement M
 write-crossings-spec =

@@ -1,5 +1,5 @@
--- `write_against_middles` meets its contract: each turn reads a mean that still stands and its range, and writes the bar's cell.
--- Assumes nothing.
+-- `write_against_middles` meets its contract: each turn reads a mean that still stands and its range, and writes the
+-- bar's cell. Assumes nothing.
 use mathlib.Core.Path.{_∙_}
 use Prim.Native.Nat.{_-_, _*_, _≤_, min}
 use native.Mathlib.Omega.{arith}
@@ -34,7 +34,8 @@ loop-again c =
     let low-is = read-back _ nan (pre .1 .1) (omega arith) ∙ beside-second _ _ _ i in (
       omega arith,
       omega arith,
-      one-more (at .loop .inv .2) (c .against-middle .ensures ∙ mid-at _ _ _ mean-is high-is low-is (omega arith)) (omega arith),
+      one-more (at .loop .inv .2) (c .against-middle .ensures ∙ mid-at _ _ _ mean-is high-is low-is (omega arith))
+          (omega arith),
     )
 
 pub write-against-middles-spec : {M : Type 1} → statement M
@@ -61,5 +62,6 @@ write-against-middles-spec =
     (λ c. search needs)  -- loop-less
     loop-again
     (λ c. search needs)  -- same-length
-    (λ c. lead-then (c .before .before .before .before .fill-lead .ensures) (c .before .loop .inv .2) (omega arith))  -- returns
+    -- returns
+    (λ c. lead-then (c .before .before .before .before .fill-lead .ensures) (c .before .loop .inv .2) (omega arith))
     )

@@ -15,7 +15,8 @@ write-ranges-requires : tie.Need-write-ranges-requires
 write-ranges-requires c κs =
     let means = c .before .before .before .before in
     let pre = means .before .before .before .before .before .pre in
-    means-room (now (means .before .before .before .before .before .args .series)) (pre .window) (pre .short) (pre .values) (means .write-means-of-prices .ensures) (omega arith) (omega arith)
+    means-room (now (means .before .before .before .before .before .args .series)) (pre .window) (pre .short)
+    (pre .values) (means .write-means-of-prices .ensures) (omega arith) (omega arith)
 
 returns : tie.Need-returns
 returns c =
@@ -23,8 +24,11 @@ returns c =
     let means = ranges .before .before .before .before .before .write-means-of-prices .ensures in
     let pre = ranges .before .before .before .before .before .before .before .before .before .before .pre in
     let high = causal-extreme larger _ (pre .window .some) in
-    let low = causal-extreme smaller _ (pre .window .some) in
-    (means, both-through means (omega arith) (extreme larger _) (extreme smaller _) high low (ranges .write-ranges .ensures))
+    let low = causal-extreme smaller _ (pre .window .some) in (
+      means,
+      both-through means (omega arith) (extreme larger _) (extreme smaller _) high low
+          (ranges .write-ranges .ensures),
+    )
 
 pub write-ranges-spec : {M : Type 1} → statement M
 write-ranges-spec =
@@ -32,7 +36,8 @@ write-ranges-spec =
     (tie.spec
     (λ c κs. search needs)  -- write-means-of-prices-requires
     (λ c. search needs)  -- slice-reshare-prefix-write-ranges
-    (λ c. sym (part-long (c .before .before .before .write-means-of-prices .ensures) (omega arith)))  -- slice-aggregate-write-ranges
+    -- slice-aggregate-write-ranges
+    (λ c. sym (part-long (c .before .before .before .write-means-of-prices .ensures) (omega arith)))
     write-ranges-requires
     (λ c. search needs)  -- same-length
     (λ c. search needs)  -- same-length-2

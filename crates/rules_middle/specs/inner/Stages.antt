@@ -1,4 +1,5 @@
--- How the stages of a rule fit together: what they ask of each other, and a cell from what the stages before it wrote. Assumes nothing.
+-- How the stages of a rule fit together: what they ask of each other, and a cell from what the stages before it
+-- wrote. Assumes nothing.
 use mathlib.Core.List.{List}
 use Prim.Native.Nat.{ℕ, _+_}
 use lib.ListN.{length}

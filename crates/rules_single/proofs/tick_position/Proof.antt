@@ -12,7 +12,8 @@ returns : tie.Need-returns
 returns c =
     let floats = c .before .before .before .before .before .before .before .before .before in
     let pre = floats .before .pre in
-    c .against-mean .ensures ∙ rw (c .before .mean-at .ensures) (by-average (pre .0) (floats .shared-slice-known .given) _ (omega arith) (omega arith))
+    c .against-mean .ensures ∙ rw (c .before .mean-at .ensures)
+    (by-average (pre .0) (floats .shared-slice-known .given) _ (omega arith) (omega arith))
 
 returns-2 : tie.Need-returns-2
 unfolding ofBits neg
@@ -36,8 +37,10 @@ tick-position-spec =
     (tie.spec
     (λ c. search needs)  -- mul-scaled
     (λ c. search needs)  -- shared-slice-read-scaled
-    (λ c. let l = c .before .before .before .pre .0 .narrow in record { fits = omega (arith, mul-le-mul l l) })  -- mul-scaled-2
-    (λ c. let l = c .before .before .before .before .pre .0 .narrow in whole-is-float _ (omega (arith, mul-le-mul l l)))  -- int-to-float-scaled
+    -- mul-scaled-2
+    (λ c. let l = c .before .before .before .pre .0 .narrow in record { fits = omega (arith, mul-le-mul l l) })
+    -- int-to-float-scaled
+    (λ c. let l = c .before .before .before .before .pre .0 .narrow in whole-is-float _ (omega (arith, mul-le-mul l l)))
     (λ c. search needs)  -- add-total
     (λ c. search needs)  -- mul-total
     (λ c. search needs)  -- shared-slice-read-total

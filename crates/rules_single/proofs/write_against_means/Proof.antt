@@ -1,4 +1,5 @@
--- `write_against_means` meets its contract: each turn reads a mean that still stands and writes the bar's cell. Assumes nothing.
+-- `write_against_means` meets its contract: each turn reads a mean that still stands and writes the bar's cell.
+-- Assumes nothing.
 use mathlib.Core.Path.{_∙_}
 use Prim.Native.Nat.{_-_, _*_, _≤_, min}
 use native.Mathlib.Omega.{arith}
@@ -26,8 +27,12 @@ loop-again c =
     let at = c .before .before .before .before in
     let lead = at .before .before .before in
     let means = lead .before .before .before .before .pre .means in
-    let mean-is = still (at .loop .i) means (lead .fill-lead .ensures .lead) (at .loop .inv .2) (omega arith) in
-    (omega arith, omega arith, one-more (at .loop .inv .2) (c .against-mean .ensures ∙ single-at _ _ _ mean-is (omega arith)) (omega arith))
+    let mean-is = still (at .loop .i) means (lead .fill-lead .ensures .lead) (at .loop .inv .2) (omega arith) in (
+      omega arith,
+      omega arith,
+      one-more (at .loop .inv .2)
+          (c .against-mean .ensures ∙ single-at _ _ _ mean-is (omega arith)) (omega arith),
+    )
 
 pub write-against-means-spec : {M : Type 1} → statement M
 write-against-means-spec =
@@ -50,5 +55,6 @@ write-against-means-spec =
     (λ c. search needs)  -- loop-less
     loop-again
     (λ c. search needs)  -- same-length
-    (λ c. lead-then (c .before .before .before .before .fill-lead .ensures) (c .before .loop .inv .2) (omega arith))  -- returns
+    -- returns
+    (λ c. lead-then (c .before .before .before .before .fill-lead .ensures) (c .before .loop .inv .2) (omega arith))
     )

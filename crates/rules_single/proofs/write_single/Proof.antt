@@ -1,5 +1,5 @@
--- `write_single` meets its contract: by exact sums where the prices are whole ticks and the window is long, and else by means.
--- Assumes nothing.
+-- `write_single` meets its contract: by exact sums where the prices are whole ticks and the window is long, and else
+-- by means. Assumes nothing.
 use native.Mathlib.Omega.{arith}
 use borrow.Author.Needs.{needs}
 use denote.Ref.{now}
@@ -12,7 +12,8 @@ write-single-of-ticks-requires c κs =
     let test = c .before .before in
     let asked = test .before .before in
     let start = asked .before .before .before .before in
-    let ticks = known-ticks (start .args .n) (now (start .args .series)) (asked .are-long-ticks .ensures) (test .if2 .taken) in
+    let ticks = known-ticks (start .args .n) (now (start .args .series)) (asked .are-long-ticks .ensures)
+    (test .if2 .taken) in
     (search needs, (omega arith, ticks))
 
 pub write-single-spec : {M : Type 1} → statement M

@@ -19,7 +19,8 @@ write-against-means-requires : tie.Need-write-against-means-requires
 write-against-means-requires c κs =
     let second = c .before .before .before in
     let first = second .before .before .before .before .before in
-    let doubled = through (first .write-means-by .ensures) (omega arith) (mean _) (causal-mean _) (second .write-means .ensures) in
+    let doubled = through (first .write-means-by .ensures) (omega arith) (mean _) (causal-mean _)
+    (second .write-means .ensures) in
     record { window = search needs; room = search needs; means = stands doubled }
 
 returns : tie.Need-returns
@@ -38,7 +39,8 @@ write-single-of-means-spec =
     (tie.spec
     (λ c κs. search needs)  -- write-means-by-requires
     (λ c. search needs)  -- slice-reshare-prefix-write-means
-    (λ c. sym (part-long (c .before .before .before .write-means-by .ensures) (omega arith)))  -- slice-aggregate-write-means
+    -- slice-aggregate-write-means
+    (λ c. sym (part-long (c .before .before .before .write-means-by .ensures) (omega arith)))
     write-means-requires
     write-against-means-requires
     (λ c. search needs)  -- same-length

@@ -1,5 +1,5 @@
--- `write_single_of_ticks` meets its contract: the window sums in `out`, the means and the sums of those sums in two rows, and the positions.
--- Assumes nothing.
+-- `write_single_of_ticks` meets its contract: the window sums in `out`, the means and the sums of those sums in two
+-- rows, and the positions. Assumes nothing.
 use mathlib.Core.Path.{sym}
 use native.Mathlib.Omega.{arith}
 use borrow.Author.Needs.{needs}
@@ -31,9 +31,18 @@ write-tick-positions-requires c κs =
     let means = totals .before .before .before .before .before in
     let sums = means .before .before .before .before in
     let pre = sums .before .before .before .before .before .pre in
-    let second = through (sums .write-sums .ensures) (omega arith) (runs _) (causal-runs _ (pre .0 .window .some)) (totals .write-sums2 .ensures) in
-    let rows = lent-on (means .write-means-of-ticks .ensures) second (omega arith) in
-    (record { some = pre .0 .window .some; narrow = pre .1 .0; ticks = pre .1 .1; room = omega (arith, rows .long); rows = stands rows }, omega arith)
+    let second = through (sums .write-sums .ensures) (omega arith) (runs _) (causal-runs _ (pre .0 .window .some))
+    (totals .write-sums2 .ensures) in
+    let rows = lent-on (means .write-means-of-ticks .ensures) second (omega arith) in (
+      record {
+        some = pre .0 .window .some;
+        narrow = pre .1 .0;
+        ticks = pre .1 .1;
+        room = omega (arith, rows .long);
+        rows = stands rows;
+      },
+      omega arith,
+    )
 
 returns : tie.Need-returns
 returns c =
@@ -42,9 +51,13 @@ returns c =
     let means = totals .before .before .before .before .before in
     let sums = means .before .before .before .before in
     let pre = sums .before .before .before .before .before .pre in
-    let second = through (sums .write-sums .ensures) (omega arith) (runs _) (causal-runs _ (pre .0 .window .some)) (totals .write-sums2 .ensures) in
-    let rows = lent-on (means .write-means-of-ticks .ensures) second (omega arith) in
-    (then-written (sums .write-sums .ensures) (cells .write-tick-positions .ensures) (omega arith), touched-more (touched rows) (omega arith))
+    let second = through (sums .write-sums .ensures) (omega arith) (runs _) (causal-runs _ (pre .0 .window .some))
+    (totals .write-sums2 .ensures) in
+    let rows = lent-on (means .write-means-of-ticks .ensures) second (omega arith) in (
+      then-written (sums .write-sums .ensures) (cells .write-tick-positions .ensures) (omega arith),
+      touched-more
+          (touched rows) (omega arith),
+    )
 
 pub write-single-of-ticks-spec : {M : Type 1} → statement M
 write-single-of-ticks-spec =

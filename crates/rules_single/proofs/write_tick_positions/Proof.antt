@@ -34,7 +34,13 @@ write-tick-positions-spec =
     (λ c. search needs)  -- slice-write-out
     (λ c. search needs)  -- add-i
     (λ c. search needs)  -- loop-less
-    (λ c. (omega arith, omega arith, one-more (c .before .before .loop .inv .2) (c .tick-position .ensures) (omega arith)))  -- loop-again
+    (λ c. (
+      omega arith,
+      omega arith,
+      one-more (c .before .before .loop .inv .2) (c .tick-position .ensures)
+          (omega arith),
+    ))  -- loop-again
     (λ c. search needs)  -- same-length
-    (λ c. lead-then (c .before .before .before .before .fill-lead .ensures) (c .before .loop .inv .2) (omega arith))  -- returns
+    -- returns
+    (λ c. lead-then (c .before .before .before .before .fill-lead .ensures) (c .before .loop .inv .2) (omega arith))
     )

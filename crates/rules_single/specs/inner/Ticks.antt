@@ -22,7 +22,8 @@ tie scaled total = eq scaled total || eq total plusZero
 
 -- the means of s, and the sums of its last n window sums, in two rows
 abbrev pub Totals : ℕ → List Float → List Float → List Float → Type 0
-Totals n s old now = Writing (length s + length s) (beside (length s) (mean n (line s)) (runs n (runs n (line s)))) old now
+Totals n s old now = Writing (length s + length s) (beside (length s) (mean n (line s)) (runs n (runs n (line s))))
+    old now
 
 -- whole ticks and a window, and those rows in `now`
 pub record TickRows (n : ℕ) (s now : List Float) : Type 0 where

@@ -1,5 +1,5 @@
--- `ultimate_smoother` meets its contract: each answer is a line of the table, and the cells are those of the period's line.
--- Assumes nothing.
+-- `ultimate_smoother` meets its contract: each answer is a line of the table, and the cells are those of the period's
+-- line. Assumes nothing.
 use mathlib.Core.Path.{_≡_, refl, sym, _∙_}
 use mathlib.Core.Bool.{Bool, true, false}
 use native.Mathlib.Omega.{arith}
@@ -22,17 +22,26 @@ use Rattle.smoother.proofs.ultimate_smoother.Tie as tie
 rest : (c : tie.After-enum-told2)
     → let a = c .before .before .before .before .before .args in
     smootherAnswer (now (a .price)) (a .period) (length (now (a .out)))
-    ≡ unless (finite (a .period)) ParameterNotFinite (unless (isPeriod (a .period)) WindowTooLong (Cells (length (now (a .price)))))
+    ≡ unless (finite (a .period)) ParameterNotFinite
+    (unless (isPeriod (a .period)) WindowTooLong (Cells (length (now (a .price)))))
 unfolding smootherAnswer
 rest c = rw (← c .before .before .check .ensures, c .enum-told2 .given .1)
 
 -- the period is finite, and whole from 0 to 512 as the test says
 parameter : (c : tie.After-is-period) (r : Bool) → c .is-period .result ≡ r
     → let a = c .before .before .before .before .before .before .before .before .args in
-    smootherAnswer (now (a .price)) (a .period) (length (now (a .out))) ≡ unless r WindowTooLong (Cells (length (now (a .price))))
+    smootherAnswer (now (a .price)) (a .period) (length (now (a .out)))
+    ≡ unless r WindowTooLong (Cells (length (now (a .price))))
 parameter c r e =
     let at-test = c .before in
-    rw (rest (at-test .before .before), ← at-test .before .is-finite .ensures, at-test .if1 .taken, ← c .is-period .ensures, e)
+    rw (
+      rest (at-test .before .before),
+      ← at-test .before .is-finite .ensures,
+      at-test .if1 .taken,
+      ←
+          c .is-period .ensures,
+      e,
+    )
 
 -- the period can be cut to its whole part
 whole : (c : tie.Then2) → Cut (c .before .before .before .before .before .before .before .before .before .args .period)

@@ -1,4 +1,5 @@
--- `write_smooth` meets its contract: the cells of the formula stand on the first four, which are copied. Assumes nothing.
+-- `write_smooth` meets its contract: the cells of the formula stand on the first four, which are copied. Assumes
+-- nothing.
 use native.Mathlib.Omega.{arith}
 use borrow.Author.Needs.{needs}
 use Rattle.cells.proofs.Written.{stands, then-written}
@@ -11,7 +12,8 @@ returns-2 c =
     let at-steps = c .before .before in
     let at-period = at-steps .before .before in
     let at-copy = at-period .before .before .before in
-    then-written (at-copy .copy2 .ensures) (rw (← at-period .of-period .ensures) (at-steps .write-steps .ensures)) (omega arith)
+    then-written (at-copy .copy2 .ensures) (rw (← at-period .of-period .ensures) (at-steps .write-steps .ensures))
+    (omega arith)
 
 pub write-smooth-spec : {M : Type 1} → statement M
 write-smooth-spec =

@@ -22,8 +22,12 @@ loop-again : tie.Need-loop-again Inv-loop μ-loop
 loop-again c =
     let at = c .before .before .before .before .before .before .before .loop in
     let last = read-back (at .i - 1) nan (at .inv .2) (omega arith) in
-    let before-last = read-back (at .i - 2) nan (at .inv .2) (omega arith) in
-    (omega arith, omega arith, one-more (at .inv .2) (rw (c .step .ensures, last, before-last) (smooth-next _ _ (at .i) (at .inv .0))) (omega arith))
+    let before-last = read-back (at .i - 2) nan (at .inv .2) (omega arith) in (
+      omega arith,
+      omega arith,
+      one-more (at .inv .2)
+          (rw (c .step .ensures, last, before-last) (smooth-next _ _ (at .i) (at .inv .0))) (omega arith),
+    )
 
 pub write-steps-spec : {M : Type 1} → statement M
 write-steps-spec =

@@ -17,7 +17,8 @@ int-to-float-result : tie.Need-int-to-float-result
 unfolding inFloat
 int-to-float-result c =
     let at-cut = c .before in
-    le→leb (at-cut .truncating-f64-to-u64 .result) (2 ^ 53) (omega (arith, at-cut .truncating-f64-to-u64 .ensures, small (at-cut .before) .small))
+    le→leb (at-cut .truncating-f64-to-u64 .result) (2 ^ 53)
+    (omega (arith, at-cut .truncating-f64-to-u64 .ensures, small (at-cut .before) .small))
 
 returns : tie.Need-returns
 unfolding isPeriod ofBits

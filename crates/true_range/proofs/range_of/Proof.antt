@@ -9,7 +9,12 @@ unfolding trueRange
 returns c =
     let at-first = c .before in
     let at-below = at-first .before in
-    rw (c .larger-of2 .ensures, at-first .larger-of .ensures, at-below .magnitude2 .ensures, at-below .before .magnitude .ensures)
+    rw (
+      c .larger-of2 .ensures,
+      at-first .larger-of .ensures,
+      at-below .magnitude2 .ensures,
+      at-below .before .magnitude .ensures,
+    )
 
 pub range-of-spec : {M : Type 1} → statement M
 range-of-spec =

@@ -1,4 +1,5 @@
--- `true_range` meets its contract: the answer is the check's, and the lengths that it let pass give the cells room. Assumes nothing.
+-- `true_range` meets its contract: the answer is the check's, and the lengths that it let pass give the cells room.
+-- Assumes nothing.
 use mathlib.Core.Path.{_≡_, sym, _∙_}
 use mathlib.Core.List.{[]}
 use borrow.Author.Needs.{needs}
@@ -17,7 +18,8 @@ room : (c : tie.After-enum-told2)
     Three (now (a .high)) (now (a .low)) (now (a .close-prev)) (length (now (a .out))) []
     × (Cells (length (now (a .high))) ≡ c .before .before .check-three .result)
 room c =
-    let found = checked-three-room _ _ _ _ _ _ _ (sym (c .before .before .check-three .ensures) ∙ c .enum-told2 .given .1) in
+    let found = checked-three-room _ _ _ _ _ _ _
+    (sym (c .before .before .check-three .ensures) ∙ c .enum-told2 .given .1) in
     (found .0, found .1 ∙ sym (c .enum-told2 .given .1))
 
 returns-2 : tie.Need-returns-2

@@ -18,8 +18,12 @@ abbrev μ-loop : tie.MeasureT-loop
 
 loop-again : tie.Need-loop-again Inv-loop μ-loop
 loop-again c =
-    let at = c .before .before .before .before .before .loop in
-    (omega arith, omega arith, one-more (at .inv .2) (c .range-of .ensures ∙ range-next _ _ _ (at .i) (at .inv .0)) (omega arith))
+    let at = c .before .before .before .before .before .loop in (
+      omega arith,
+      omega arith,
+      one-more (at .inv .2) (c .range-of .ensures ∙ range-next _ _ _ (at .i) (at .inv .0))
+          (omega arith),
+    )
 
 pub write-rest-spec : {M : Type 1} → statement M
 write-rest-spec =

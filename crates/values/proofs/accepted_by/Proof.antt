@@ -8,7 +8,8 @@ use Rattle.values.proofs.accepted_by.Statement.{statement}
 use Rattle.values.proofs.accepted_by.Tie as tie
 
 returns : tie.Need-returns
-returns c = sym (quick-all (now (c .before .before .args .s)) (c .before .before .pre) (c .before .shared-slice-known .given) (omega arith))
+returns c = sym (quick-all (now (c .before .before .args .s)) (c .before .before .pre)
+    (c .before .shared-slice-known .given) (omega arith))
 
 pub accepted-by-spec : {M : Type 1} → statement M
 accepted-by-spec =

@@ -8,7 +8,8 @@ use Rattle.values.proofs.all_accepted.Tie as tie
 accepted-by-requires : tie.Need-accepted-by-requires
 accepted-by-requires c κs =
     let head = c .before .before .bits-together in
-    none-joined (none-larger (head .ensures) (or-first _ _)) (none-larger (c .bits-together2 .ensures) (or-second (head .result) _)) (omega arith)
+    none-joined (none-larger (head .ensures) (or-first _ _))
+    (none-larger (c .bits-together2 .ensures) (or-second (head .result) _)) (omega arith)
 
 pub all-accepted-spec : {M : Type 1} → statement M
 all-accepted-spec =

@@ -1,4 +1,5 @@
--- `all_ticks` meets its contract: the first number decides, or the quick test, or each number is tested. Assumes nothing.
+-- `all_ticks` meets its contract: the first number decides, or the quick test, or each number is tested. Assumes
+-- nothing.
 use mathlib.Core.Path.{sym}
 use native.Mathlib.Omega.{arith}
 use borrow.Author.Needs.{needs}
@@ -12,10 +13,16 @@ use Rattle.values.proofs.all_ticks.Tie as tie
 all-whole-requires : tie.Need-all-whole-requires
 all-whole-requires c κs =
     let known = c .before .before .before .before in
-    quick-up-to (now (known .before .before .before .args .s)) (c .before .bits-together .ensures) (known .shared-slice-known2 .given) 24 (omega arith) (omega arith)
+    quick-up-to (now (known .before .before .before .args .s)) (c .before .bits-together .ensures)
+    (known .shared-slice-known2 .given) 24 (omega arith) (omega arith)
 
 returns-4 : tie.Need-returns-4
-returns-4 c = rw (all-next tick (now (c .before .before .before .before .before .args .s)) 0 (omega arith), ← c .before .is-tick .ensures, c .if2 .left)
+returns-4 c = rw (
+  all-next tick (now (c .before .before .before .before .before .args .s)) 0 (omega arith),
+  ←
+      c .before .is-tick .ensures,
+  c .if2 .left,
+)
 
 pub all-ticks-spec : {M : Type 1} → statement M
 all-ticks-spec =

@@ -27,7 +27,8 @@ loop-again c =
     let in-loop = c .before .before in
     let at = in-loop .before .loop in
     let start = in-loop .before .before .before in
-    let is : c .is-whole .result ≡ tick (getD (now (start .args .s)) (at .i) nan) = c .is-whole .ensures ∙ whole-tick _ (start .pre (at .i) (in-loop .loop-test .taken)) in
+    let is : c .is-whole .result ≡ tick (getD (now (start .args .s)) (at .i) nan) = c .is-whole .ensures
+    ∙ whole-tick _ (start .pre (at .i) (in-loop .loop-test .taken)) in
     (search needs, rw (at .inv .1, all-next tick _ _ (in-loop .loop-test .taken), ← is) (and-assoc (at .whole) _ _))
 
 pub all-whole-spec : {M : Type 1} → statement M
@@ -43,5 +44,6 @@ all-whole-spec =
     (λ c. search needs)  -- add-i
     (λ c. search needs)  -- loop-less
     loop-again
-    (λ c. rw (c .before .loop .inv .1, all-none tick _ _ (c .loop-test .left)) (sym (and-true (c .before .loop .whole))))  -- returns
+    (λ c. rw (c .before .loop .inv .1, all-none tick _ _ (c .loop-test .left))
+    (sym (and-true (c .before .loop .whole))))  -- returns
     )

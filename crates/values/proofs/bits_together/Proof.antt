@@ -1,4 +1,5 @@
--- `bits_together` meets its contract: no bit is taken away, so nothing becomes larger than what is kept. Assumes nothing.
+-- `bits_together` meets its contract: no bit is taken away, so nothing becomes larger than what is kept. Assumes
+-- nothing.
 use Prim.Native.Nat.{_-_, _≤_}
 use native.Mathlib.Omega.{arith}
 use borrow.Author.Needs.{needs}

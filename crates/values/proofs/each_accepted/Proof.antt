@@ -20,15 +20,20 @@ abbrev μ-loop : tie.MeasureT-loop
 μ-loop s near₀ zeros₀ i₀ near zeros i = length s - i
 
 -- a value's two tests
-parts : (x : Float) (near : Bool) (bits : ℕ) → near ≡ within valuePower x → eqb bits 0 ≡ not (eqb (toBits binary64 x) (2 ^ 63)) → accepted x ≡ near && eqb bits 0
+parts : (x : Float) (near : Bool) (bits : ℕ) → near ≡ within valuePower x → eqb bits 0
+    ≡ not (eqb (toBits binary64 x) (2 ^ 63)) → accepted x ≡ near && eqb bits 0
 unfolding accepted
 parts x near bits p q = rw (p, q)
 
 loop-again : tie.Need-loop-again Inv-loop μ-loop
 loop-again c =
     let at-near = c .before .before in
-    let at = at-near .before .before .before .loop in
-    (omega arith, one-tested (at-near .is-near .result) (c .minus-zero-bits .result) (at .inv .1) (parts _ _ (c .minus-zero-bits .result) (at-near .is-near .ensures) (c .minus-zero-bits .ensures)) (omega arith))
+    let at = at-near .before .before .before .loop in (
+      omega arith,
+      one-tested (at-near .is-near .result) (c .minus-zero-bits .result) (at .inv .1)
+          (parts _ _ (c .minus-zero-bits .result) (at-near .is-near .ensures) (c .minus-zero-bits .ensures))
+          (omega arith),
+    )
 
 pub each-accepted-spec : {M : Type 1} → statement M
 each-accepted-spec =

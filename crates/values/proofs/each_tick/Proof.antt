@@ -21,15 +21,20 @@ abbrev μ-loop : tie.MeasureT-loop
 μ-loop s whole₀ zeros₀ i₀ whole zeros i = length s - i
 
 -- a value's two tests
-parts : (x : Float) (t : Bool) (bits : ℕ) → T (fits binary64 x) → t ≡ tick (magnitudeOf x) → eqb bits 0 ≡ not (eqb (toBits binary64 x) (2 ^ 63))
+parts : (x : Float) (t : Bool) (bits : ℕ) → T (fits binary64 x) → t ≡ tick (magnitudeOf x) → eqb bits 0
+    ≡ not (eqb (toBits binary64 x) (2 ^ 63))
     → tick x ≡ t && eqb bits 0
 parts x t bits f p q = tick-parts x f ∙ rw (p, q)
 
 loop-again : tie.Need-loop-again Inv-loop μ-loop
 loop-again c =
     let at-size = c .before .before in
-    let at = at-size .before .before .before .loop in
-    (omega arith, one-tested (at-size .is-tick-size .result) (c .minus-zero-bits .result) (at .inv .1) (parts _ _ (c .minus-zero-bits .result) (at-size .before .shared-slice-known2 .given _) (at-size .is-tick-size .ensures) (c .minus-zero-bits .ensures)) (omega arith))
+    let at = at-size .before .before .before .loop in (
+      omega arith,
+      one-tested (at-size .is-tick-size .result) (c .minus-zero-bits .result) (at .inv .1)
+          (parts _ _ (c .minus-zero-bits .result) (at-size .before .shared-slice-known2 .given _)
+          (at-size .is-tick-size .ensures) (c .minus-zero-bits .ensures)) (omega arith),
+    )
 
 pub each-tick-spec : {M : Type 1} → statement M
 each-tick-spec =

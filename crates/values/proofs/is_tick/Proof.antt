@@ -27,7 +27,8 @@ int-to-float-if2 c = rw (part (c .before)) (within (c .before .before) .back)
 -- what the second test found, of the number alone
 found : (c : tie.After-row-known) (t : Bool)
     → let x = c .before .before .before .before .args .x in
-    eq (ofInt binary64 (pos (c .before .truncating-f64-to-u64 .result))) (c .before .before .before .magnitude .result) ≡ t
+    eq (ofInt binary64 (pos (c .before .truncating-f64-to-u64 .result)))
+    (c .before .before .before .magnitude .result) ≡ t
     → eq (ofInt binary64 (pos (toUnsigned 64 (magnitudeOf x)))) (magnitudeOf x) ≡ t
 found c t e = rw (part (c .before), c .before .before .before .magnitude .ensures) at e
 
@@ -35,13 +36,15 @@ returns : tie.Need-returns
 unfolding ofBits
 returns c =
     let at-whole = c .before .before in
-    rw (c .sign .ensures) (sym (within (at-whole .before .before .before) .zeros (found (at-whole .before) _ (at-whole .if2 .taken)) (c .before .if3 .taken)))
+    rw (c .sign .ensures) (sym (within (at-whole .before .before .before) .zeros
+    (found (at-whole .before) _ (at-whole .if2 .taken)) (c .before .if3 .taken)))
 
 returns-2 : tie.Need-returns-2
 unfolding ofBits
 returns-2 c =
     let at-whole = c .before in
-    sym (within (at-whole .before .before .before) .kept (found (at-whole .before) _ (at-whole .if2 .taken)) (c .if3 .left))
+    sym (within (at-whole .before .before .before) .kept (found (at-whole .before) _ (at-whole .if2 .taken))
+    (c .if3 .left))
 
 pub is-tick-spec : {M : Type 1} → statement M
 is-tick-spec =

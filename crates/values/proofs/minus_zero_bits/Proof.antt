@@ -1,4 +1,5 @@
--- `minus_zero_bits` meets its contract: of the two zeros only -0.0 has a bit, and of all numbers only -0.0 has its bits. Assumes nothing.
+-- `minus_zero_bits` meets its contract: of the two zeros only -0.0 has a bit, and of all numbers only -0.0 has its
+-- bits. Assumes nothing.
 use mathlib.Core.Path.{_≡_, sym, subst}
 use mathlib.Core.Bool.{true, not}
 use lib.Dec.{T}

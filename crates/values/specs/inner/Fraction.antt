@@ -1,5 +1,5 @@
--- Why a fraction shows beside 2 ^ 52: from there to 2 ^ 53 every number is whole, so what 2 ^ 52 was added to and taken from comes back
--- only if it is whole. Assumes nothing.
+-- Why a fraction shows beside 2 ^ 52: from there to 2 ^ 53 every number is whole, so what 2 ^ 52 was added to and
+-- taken from comes back only if it is whole. Assumes nothing.
 use mathlib.Core.Bool.{Bool, false}
 use lib.IntN.{pos}
 use lib.Ieee.{Float, fin, binary64, add, sub, eq}

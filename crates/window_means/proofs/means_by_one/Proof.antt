@@ -11,7 +11,8 @@ use Rattle.window_means.proofs.means_by_one.Statement.{statement}
 use Rattle.window_means.proofs.means_by_one.Tie as tie
 
 abbrev Inv-loop : tie.InvT-loop
-Inv-loop series n from means₀ i₀ means i = (from ≤ i) × (i ≤ length series) × Writing i (mean n (line series)) means₀ means
+Inv-loop series n from means₀ i₀ means i = (from ≤ i) × (i ≤ length series)
+    × Writing i (mean n (line series)) means₀ means
 
 abbrev μ-loop : tie.MeasureT-loop
 μ-loop series n from means₀ i₀ means i = length series - i
@@ -28,7 +29,8 @@ means-by-one-spec =
     (λ c. search needs)  -- slice-write-means
     (λ c. search needs)  -- add-i
     (λ c. search needs)  -- loop-less
-    (λ c. (omega arith, omega arith, one-more (c .before .before .loop .inv .2) (c .mean-at .ensures) (omega arith)))  -- loop-again
+    -- loop-again
+    (λ c. (omega arith, omega arith, one-more (c .before .before .loop .inv .2) (c .mean-at .ensures) (omega arith)))
     (λ c. search needs)  -- same-length
     (λ c. ends (c .before .loop .inv .2) (omega arith))  -- returns
     )

@@ -11,7 +11,8 @@ use Rattle.window_means.proofs.means_by_sixteen.Statement.{statement}
 use Rattle.window_means.proofs.means_by_sixteen.Tie as tie
 
 abbrev Inv-loop : tie.InvT-loop
-Inv-loop series n from means₀ i₀ means i = (from ≤ i) × (i ≤ length series) × Writing i (mean n (line series)) means₀ means
+Inv-loop series n from means₀ i₀ means i = (from ≤ i) × (i ≤ length series)
+    × Writing i (mean n (line series)) means₀ means
 
 abbrev μ-loop : tie.MeasureT-loop
 μ-loop series n from means₀ i₀ means i = length series - i
@@ -21,8 +22,12 @@ loop-again c =
     let second = c .before .before in
     let first = second .before .before .before .before in
     let sixteen = first .before .before in
-    let sums = sixteen .before .before .loop .inv in
-    (omega arith, omega arith, sixteen-stored _ (sums .2) (sixteen .means-of-sixteen .ensures) (first .store-eight .ensures) (second .store-eight2 .ensures) (omega arith))
+    let sums = sixteen .before .before .loop .inv in (
+      omega arith,
+      omega arith,
+      sixteen-stored _ (sums .2) (sixteen .means-of-sixteen .ensures)
+          (first .store-eight .ensures) (second .store-eight2 .ensures) (omega arith),
+    )
 
 pub means-by-sixteen-spec : {M : Type 1} → statement M
 means-by-sixteen-spec =

@@ -24,7 +24,8 @@ returns c =
     let eight = one .before .before .before .before in
     let sixteen = eight .before .before .before .before in
     let lead = sixteen .before .before .before .before in
-    let so-far = then-written (lead .fill-lead .ensures .lead) (sixteen .means-by-sixteen .ensures .means) (omega arith) in
+    let so-far = then-written (lead .fill-lead .ensures .lead) (sixteen .means-by-sixteen .ensures .means)
+    (omega arith) in
     let further = then-written so-far (eight .means-of-eight .ensures .means) (omega arith) in
     then-written further (one .means-by-one .ensures) (omega arith)
 

@@ -1,4 +1,5 @@
--- `write_means_by` meets its contract: by running sums where the prices are whole ticks, and else afresh. Assumes nothing.
+-- `write_means_by` meets its contract: by running sums where the prices are whole ticks, and else afresh. Assumes
+-- nothing.
 use borrow.Author.Needs.{needs}
 use denote.Ref.{now}
 use Rattle.window_means.proofs.Ticks.{known-ticks}

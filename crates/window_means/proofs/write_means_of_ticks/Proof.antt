@@ -29,8 +29,10 @@ loop-again c =
     let known = sums .before .before .before in
     let start = known .before in
     let i = at .loop .i in
-    let sum-is = not-yet i (at .loop .inv .1) (omega arith) ∙ read-back i nan (sums .write-sums .ensures) (omega arith) in
-    let cell = ap (over _) sum-is ∙ run-mean (now (start .args .series)) _ i (known .shared-slice-known .given) (start .pre .1) (start .pre .0 .window) (omega arith) in
+    let sum-is = not-yet i (at .loop .inv .1) (omega arith)
+    ∙ read-back i nan (sums .write-sums .ensures) (omega arith) in
+    let cell = ap (over _) sum-is ∙ run-mean (now (start .args .series)) _ i (known .shared-slice-known .given)
+    (start .pre .1) (start .pre .0 .window) (omega arith) in
     (omega arith, one-more (at .loop .inv .1) cell (omega arith))
 
 returns : tie.Need-returns Inv-loop μ-loop

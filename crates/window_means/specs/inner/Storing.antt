@@ -12,7 +12,8 @@ use Rattle.limits.specs.Limits.{Window}
 -- the eight lanes, stored from cell i on
 abbrev pub storeEight : List Float → ℕ → Lanes → List Float
 storeEight cells i r =
-    set (set (set (set (set (set (set (set cells i (r .lane0)) (i + 1) (r .lane1)) (i + 2) (r .lane2)) (i + 3) (r .lane3))
+    set (set (set (set (set (set (set (set cells i (r .lane0)) (i + 1) (r .lane1)) (i + 2) (r .lane2)) (i + 3)
+    (r .lane3))
     (i + 4) (r .lane4)) (i + 5) (r .lane5)) (i + 6) (r .lane6)) (i + 7) (r .lane7)
 
 -- the means before bar `from`, which is past the lead, stand in `now`, which has room for the rest

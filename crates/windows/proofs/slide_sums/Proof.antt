@@ -16,7 +16,8 @@ use Rattle.windows.proofs.slide_sums.Tie as tie
 
 abbrev Inv-loop : tie.InvT-loop
 Inv-loop series n sums₀ sum₀ i₀ sums sum i =
-    (n ≤ i + 1) × (i < length series) × Writing i (runs n (line series)) sums₀ sums × Running addDifference n (line series) (i + 1) sum
+    (n ≤ i + 1) × (i < length series) × Writing i (runs n (line series)) sums₀ sums
+    × Running addDifference n (line series) (i + 1) sum
 
 abbrev μ-loop : tie.MeasureT-loop
 μ-loop series n sums₀ sum₀ i₀ sums sum i = length series - i
@@ -28,8 +29,13 @@ loop-holds c =
 
 loop-again : tie.Need-loop-again Inv-loop μ-loop
 loop-again c =
-    let inv = c .before .before .before .loop .inv in
-    (omega arith, omega arith, one-more (inv .2) (run-at _ (inv .3) (omega arith)) (omega arith), next-running (inv .3) (omega arith))
+    let inv = c .before .before .before .loop .inv in (
+      omega arith,
+      omega arith,
+      one-more (inv .2) (run-at _ (inv .3) (omega arith)) (omega arith),
+      next-running
+          (inv .3) (omega arith),
+    )
 
 returns : tie.Need-returns Inv-loop μ-loop
 returns c =

@@ -9,7 +9,8 @@ use Rattle.windows.proofs.sums_of_sixteen.Statement.{statement}
 use Rattle.windows.proofs.sums_of_sixteen.Tie as tie
 
 abbrev Inv-loop : tie.InvT-loop
-Inv-loop series n i at up low₀ high₀ k₀ low high k = (k ≤ n) × Summed (line series) at k low × Summed (line series) up k high
+Inv-loop series n i at up low₀ high₀ k₀ low high k = (k ≤ n) × Summed (line series) at k low
+    × Summed (line series) up k high
 
 abbrev μ-loop : tie.MeasureT-loop
 μ-loop series n i at up low₀ high₀ k₀ low high k = n - k

@@ -32,11 +32,34 @@ pub record Eight (line : Line) (i : ℕ) (r : Lanes) : Type 0 where
 
 -- each lane divided by the window's length
 abbrev pub eachOver : ℕ → Lanes → Lanes
-eachOver n r = record { lane0 = over n (r .lane0); lane1 = over n (r .lane1); lane2 = over n (r .lane2); lane3 = over n (r .lane3); lane4 = over n (r .lane4); lane5 = over n (r .lane5); lane6 = over n (r .lane6); lane7 = over n (r .lane7) }
+eachOver n r = record {
+  lane0 = over n (r .lane0);
+  lane1 = over n (r .lane1);
+  lane2 = over n (r .lane2);
+  lane3 = over
+      n (r .lane3);
+  lane4 = over n (r .lane4);
+  lane5 = over n (r .lane5);
+  lane6 = over n (r .lane6);
+  lane7 = over n
+      (r .lane7);
+}
 
 -- each lane with one more cell: the eight cells from a on
 abbrev pub eachPlus : Line → ℕ → Lanes → Lanes
-eachPlus f a r = record { lane0 = add binary64 (r .lane0) (f a); lane1 = add binary64 (r .lane1) (f (a + 1)); lane2 = add binary64 (r .lane2) (f (a + 2)); lane3 = add binary64 (r .lane3) (f (a + 3)); lane4 = add binary64 (r .lane4) (f (a + 4)); lane5 = add binary64 (r .lane5) (f (a + 5)); lane6 = add binary64 (r .lane6) (f (a + 6)); lane7 = add binary64 (r .lane7) (f (a + 7)) }
+eachPlus f a r = record {
+  lane0 = add binary64 (r .lane0) (f a);
+  lane1 = add binary64 (r .lane1) (f (a + 1));
+  lane2 =
+      add binary64 (r .lane2) (f (a + 2));
+  lane3 = add binary64 (r .lane3) (f (a + 3));
+  lane4 = add binary64 (r .lane4)
+      (f (a + 4));
+  lane5 = add binary64 (r .lane5) (f (a + 5));
+  lane6 = add binary64 (r .lane6) (f (a + 6));
+  lane7 = add
+      binary64 (r .lane7) (f (a + 7));
+}
 
 -- the cells of a line at the sixteen bars from i on
 pub record SixteenOf (line : Line) (i : ℕ) (r : Sixteen) : Type 0 where

@@ -1,4 +1,5 @@
--- `Coefficients::of_period` meets its contract: period 0 computes, and the constant tables are the recorded bits. Assumes nothing.
+-- `Coefficients::of_period` meets its contract: period 0 computes, and the constant tables are the recorded bits.
+-- Assumes nothing.
 use mathlib.Core.Path.{_∙_}
 use native.Mathlib.Omega.{arith}
 use borrow.Author.Needs.{needs}
@@ -13,7 +14,8 @@ pub of-period-spec : {M : Type 1} → statement M
 of-period-spec =
     tie.close
     (tie.spec
-    (λ c. unfold coefficients ofPair a1Of b1Of ofBits add sub mul div neg in rw (c .before .before .if1 .taken))  -- returns
+    -- returns
+    (λ c. unfold coefficients ofPair a1Of b1Of ofBits add sub mul div neg in rw (c .before .before .if1 .taken))
     (λ c. search needs)  -- sub-of-pair
     (λ c. search needs)  -- mul-of-pair
     (λ c. search needs)  -- array-read-of-pair
@@ -21,5 +23,6 @@ of-period-spec =
     (λ c. search needs)  -- mul-of-pair-2
     (λ c. search needs)  -- array-read-of-pair-2
     (λ c κs. search needs)  -- of-pair-requires
-    (λ c. unfold a1Table a1Bits b1Table b1Bits in c .of-pair .ensures ∙ at-index (c .before .before .args .period) (omega arith))  -- returns-2
+    (λ c. unfold a1Table a1Bits b1Table b1Bits in c .of-pair .ensures
+    ∙ at-index (c .before .before .args .period) (omega arith))  -- returns-2
     )
