@@ -4,8 +4,8 @@
  *
  * The call. A series has a value for each bar; bars count from 0. A call is answered or refused.
  * Answered: refusal is 0, and the first count cells of the output are written. The count is the
- * series' length, or 0 where that length is 0 or a window is 0. No cell depends on a later bar,
- * unless a function says so.
+ * series' length, or 0 where that length is 0 or a window, an integer parameter, is 0. No cell
+ * depends on a later bar, unless a function says so.
  * Refused: refusal says why, count is 0, and no cell changes.
  *
  * A cell left alone keeps its value: every cell from the count on, and every cell of a refused
