@@ -1,25 +1,36 @@
 /*
- * Tegbalowu as C functions: averages and positions of a price series, each proved to give its definition's cells.
+ * Tegbalowu as C functions: averages and positions of a price series. Each function is proved to
+ * give the cells of its definition.
  *
- * A call is answered or refused. Answered: refusal is 0 and count says how many of the output's first
- * cells were written; every later cell is as it was. Refused: refusal says why, count is 0 and no cell
- * was written. Any arguments are allowed; the first refusal that applies is given:
+ * The call. A series has a value for each bar; bars count from 0. A call is answered or refused.
+ * Answered: refusal is 0, and the first count cells of the output are written. The count is the
+ * series' length, or 0 where that length is 0 or a window, an integer parameter, is 0. No cell
+ * depends on a later bar, unless a function says so.
+ * Refused: refusal says why, count is 0, and no cell changes.
+ *
+ * A cell left alone keeps its value: every cell from the count on, and every cell of a refused
+ * call. The proofs know one NaN only, so this is proved up to the bits inside a NaN; that those
+ * bits stay is compared, not proved.
+ *
+ * Any arguments are allowed. The first refusal that applies is given:
  *
  *   1  a series longer than 65,536
  *   2  series of unequal length
  *   3  an output shorter than the series
  *   4  a work slice shorter than 8 times the series
  *   5  a value that is not accepted: accepted are finite values of magnitude at most 1,073,741,824,
- *      other than -0.0; tick_mean also wants whole values within 16,777,216
+ *      other than -0.0; tick_mean takes whole values within 16,777,216 only
  *   6  an f64 parameter that is not finite
- *   7  a window above 4,096, or a smoother period not whole from 0 to 512
- *   9  double_sma_positions: n at least m
+ *   7  a window above 4,096, or a smoother period that is not whole from 0 to 512
+ *   9  double_sma_positions: n is not below m
  *
- * A series of length 0 or a window of 0 is answered with count 0.
+ * A work slice is lent for the call's own use. Its first 8 * series_len cells hold +0.0 after an
+ * answered call, and the others keep their values.
  *
- * A pointer is not null, is aligned for its type, and is to as many cells as the length after it says.
- * An output or a work slice overlaps nothing else that is lent. Nothing is kept after the call, so calls
- * that write to different memory may run at the same time.
+ * What the caller must see to, since nothing checks it: a pointer is not null, also where the
+ * length after it is 0; it is aligned for its type and points to as many cells as that length says;
+ * an output or a work slice overlaps nothing else that is lent. Nothing is kept after the call, so
+ * calls that write to different memory may run at the same time.
  *
  * Link with libcapi.a, which `rt staticlib capi` writes to target/staticlib/.
  */
@@ -38,38 +49,70 @@ typedef struct {
     uint64_t count;
 } tegbalowu_answer;
 
-/* The mean of the last n values; NaN before bar n-1. */
+/* Averages and other series. */
+
+/*
+ * The mean of the last n values, from bar n-1 on; NaN before. Refusals 1, 3, 5, 7.
+ */
 tegbalowu_answer tegbalowu_sma(const double *series, size_t series_len, size_t n, double *out, size_t out_len);
 
-/* The exponential average with factor 2 / (period + 1), from the mean of the first values at bar period-1; NaN earlier. */
+/*
+ * The exponential average: k times the value plus 1 - k times the cell before, where k is
+ * 2 / (period + 1). It starts at bar period-1 with the mean of the values so far; NaN before.
+ * Refusals 1, 3, 5, 7.
+ */
 tegbalowu_answer tegbalowu_ema(const double *series, size_t series_len, size_t period, double *out, size_t out_len);
 
-/* alpha times the value plus 1 - alpha times the cell before; the first cell is the first value. */
+/*
+ * alpha times the value plus 1 - alpha times the cell before, from bar 1 on; bar 0 is the value.
+ * Refusals 1, 3, 5, 6.
+ */
 tegbalowu_answer tegbalowu_exponential_smoothing(const double *series, size_t series_len, double alpha, double *out,
                                                  size_t out_len);
 
-/* The mean of the last n whole ticks to a whole tick, half away from zero; 0 before bar n-1. */
+/*
+ * The mean of the last n whole ticks, rounded to a whole tick, half away from zero, from bar n-1
+ * on; 0 before. Refusals 1, 3, 5, 7.
+ */
 tegbalowu_answer tegbalowu_tick_mean(const double *series, size_t series_len, size_t n, int64_t *out, size_t out_len);
 
-/* Ehlers' ultimate smoother: the first four cells copy the input. The period is whole, from 0 to 512; with 0 every later cell is NaN. */
+/*
+ * Ehlers' ultimate smoother, from bar 4 on; bars 0 to 3 copy the input. With period 0 every cell
+ * from bar 4 on is NaN. Refusals 1, 3, 5, 6, 7.
+ */
 tegbalowu_answer tegbalowu_ultimate_smoother(const double *price, size_t price_len, double period, double *out,
                                              size_t out_len);
 
-/* Wilder's true range; bar 0 is high less low. Three series of one length; close_prev[i] is the close before bar i. */
+/*
+ * Wilder's true range, from bar 1 on; bar 0 is high less low. close_prev[i] is the close before bar
+ * i, and close_prev[0] is not used, though it is checked. Refusals 1, 2, 3, 5.
+ */
 tegbalowu_answer tegbalowu_true_range(const double *high, size_t high_len, const double *low, size_t low_len,
                                       const double *close_prev, size_t close_prev_len, double *out, size_t out_len);
 
-/* Positions: +1, -1 or 0 for each bar. The work slice holds +0.0 in its first 8 * series_len cells afterwards. */
+/*
+ * Positions: +1 long, -1 short, 0 flat. A sign is +1 for +0.0 and above, so a tie is +1. Before the
+ * first bar that is named the cells are 0.
+ */
 
-/* One average: the sign of price less the doubly averaged price, from bar 2n-2. */
+/*
+ * One average: the sign of the price less the doubly averaged price, from bar 2n-2 on; 0 where that
+ * average is 0. Refusals 1, 3, 4, 5, 7.
+ */
 tegbalowu_answer tegbalowu_single_sma_positions(const double *series, size_t series_len, size_t n, double *out,
                                                 size_t out_len, double *work, size_t work_len);
 
-/* Two averages: the sign of the short average less the long one, from bar m-1; a tie is +1. n is below m. */
+/*
+ * Double: the sign of the average of the last n values less that of the last m, from bar m-1 on.
+ * Refusals 1, 3, 5, 7, 9.
+ */
 tegbalowu_answer tegbalowu_double_sma_positions(const double *series, size_t series_len, size_t n, size_t m,
                                                 double *out, size_t out_len);
 
-/* The middle: the sign of the mean less half of the highest plus the lowest mean, from bar 2n-2. */
+/*
+ * Middle: the sign of the mean of the last n values less half of the highest plus the lowest of the
+ * last n such means, from bar 2n-2 on; 0 where either is 0. Refusals 1, 3, 4, 5, 7.
+ */
 tegbalowu_answer tegbalowu_mid_positions(const double *series, size_t series_len, size_t n, double *out,
                                          size_t out_len, double *work, size_t work_len);
 
