@@ -1,4 +1,4 @@
--- What each average answers and writes. Assumes nothing.
+-- sma has no look-ahead. Assumes nothing.
 use mathlib.Core.Path.{ap}
 use Prim.Native.Nat.{ℕ, _+_, _-_, _<_}
 use native.Mathlib.Omega.{arith}

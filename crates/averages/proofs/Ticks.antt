@@ -1,4 +1,4 @@
--- On whole ticks a window's sum is exact, however it is made, and a mean is one rounding. Assumes nothing.
+-- On whole ticks each cell of sma is one rounding of its window's mean. Assumes nothing.
 use mathlib.Core.Path.{_≡_}
 use Prim.Native.Nat.{ℕ, _+_, _-_, _<_, _≤_, _^_}
 use native.Mathlib.Omega.{arith}

@@ -18,29 +18,26 @@ ghost use Rattle.averages.specs.Sma.{smaLine, SmaCall};
 ghost use Rattle.averages.specs.inner.Stages.{Sliding, First, Summed};
 
 // What is found on the way through a series: the bits of the prices together, and a sum or a cell.
-pub struct Found {
-    pub together: u64,
-    pub last: f64,
+pub struct Pass {
+    pub bits: u64,
+    pub value: f64,
 }
 
 // The sum of the first n prices, and their bits. An addition waits for the one before it, and the bits are gathered
 // meanwhile.
-pub fn sum_first(series: &[f64], n: usize) -> Found
+pub fn sum_first(series: &[f64], n: usize) -> Pass
     requires { ⌜ (0 < n) × (n ≤ length (now series)) ⌝ }
     ensures { λ r. ⌜ First (now (series .entry)) n r ⌝ }
 {
-    let mut together = 0;
+    let mut bits = 0;
     let mut sum = -0.0;
     let mut i = 0;
     while i < n {
         sum = sum + series[i];
-        together = together | f64::to_bits(values::cap(series[i]));
+        bits = bits | f64::to_bits(values::cap(series[i]));
         i += 1;
     }
-    Found {
-        together,
-        last: sum,
-    }
+    Pass { bits, value: sum }
 }
 
 // Writes the running means from bar n on, two bars a turn: the new price less the old one is added to the sum in one
@@ -54,9 +51,9 @@ fn slide_means(series: &[f64], n: usize, first: f64, out: &mut [f64])
     let mut sum = first;
     let mut i = n;
     while i + 2 <= series.len() {
-        let half = sum + (series[i] - series[i - n]);
-        sum = half + (series[i + 1] - series[i + 1 - n]);
-        out[i] = half / count;
+        let next = sum + (series[i] - series[i - n]);
+        sum = next + (series[i + 1] - series[i + 1 - n]);
+        out[i] = next / count;
         out[i + 1] = sum / count;
         i += 2;
     }
@@ -106,10 +103,10 @@ pub fn sma(series: &[f64], n: usize, out: &mut [f64]) -> Answer
     if checks::window_fits(series.len(), n, out.len()) {
         let sum = sum_first(series, n);
         if values::accepted_by(
-            sum.together | values::bits_together(series, n, series.len()),
+            sum.bits | values::bits_together(series, n, series.len()),
             series,
         ) {
-            write_means(series, n, sum.last, out);
+            write_means(series, n, sum.value, out);
             Answer::Cells(series.len())
         } else {
             Answer::Refused(Refusal::ValueNotAccepted)

@@ -1,4 +1,4 @@
--- What each average answers and writes. Assumes nothing.
+-- The step of an exponential average, and a line of such steps from a seed. Assumes nothing.
 use Prim.Native.Nat.{ℕ}
 use lib.Ieee.{Float, nan, binary64, add, sub, mul}
 use Rattle.cells.specs.Line.{Line}

@@ -1,4 +1,4 @@
--- What each average answers and writes. Assumes nothing.
+-- exponential_smoothing: what it answers and writes. Assumes nothing.
 use mathlib.Core.List.{List, [], _∷_}
 use Prim.Native.Nat.{ℕ}
 use lib.ListN.{length}

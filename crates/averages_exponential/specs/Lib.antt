@@ -1,4 +1,4 @@
--- The exponential averages: the laws of their loops.
+-- The exponential averages: what each of them is.
 pub mod Blend
 pub mod Cases
 pub mod Ema

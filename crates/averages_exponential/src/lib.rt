@@ -1,5 +1,5 @@
 // The exponential averages: each cell blends its price with the cell before it.
-use averages::Found;
+use averages::Pass;
 use calls::Answer;
 use calls::Refusal;
 ghost use mathlib.Core.Path.{_≡_};
@@ -25,23 +25,23 @@ fn blended(alpha: f64, last: f64, x: f64) -> f64
 
 // The cell half way through the bars after the seed, and the bits of all prices. A cell waits for the one before it,
 // and the bits are gathered meanwhile.
-fn blend_half(series: &[f64], alpha: f64, first: usize, seed: Found) -> Found
-    requires { ⌜ Seeded (now series) first (seed .together) ⌝ }
-    ensures { λ r. ⌜ HalfWay (now (series .entry)) alpha first (seed .last) r ⌝ }
+fn blend_half(series: &[f64], alpha: f64, first: usize, seed: Pass) -> Pass
+    requires { ⌜ Seeded (now series) first (seed .bits) ⌝ }
+    ensures { λ r. ⌜ HalfWay (now (series .entry)) alpha first (seed .value) r ⌝ }
 {
     let half = (series.len() - first - 1) / 2;
     let low = first + 1;
     let high = low + half;
-    let mut together = seed.together | f64::to_bits(values::cap(series[series.len() - 1]));
-    let mut last = seed.last;
+    let mut bits = seed.bits | f64::to_bits(values::cap(series[series.len() - 1]));
+    let mut last = seed.value;
     let mut i = 0;
     while i < half {
-        together = together | f64::to_bits(values::cap(series[low + i]));
-        together = together | f64::to_bits(values::cap(series[high + i]));
+        bits = bits | f64::to_bits(values::cap(series[low + i]));
+        bits = bits | f64::to_bits(values::cap(series[high + i]));
         last = blended(alpha, last, series[low + i]);
         i += 1;
     }
-    Found { together, last }
+    Pass { bits, value: last }
 }
 
 // Writes the blended cells after bar `first`, where the seed stands: both halves side by side, the second from the
@@ -81,15 +81,15 @@ fn write_smooth(series: &[f64], alpha: f64, first: usize, seed: f64, middle: f64
 
 // The answer of a smoothed line whose lengths are in order: it writes nothing before the bits of all prices are at
 // hand.
-fn answer_smooth(series: &[f64], alpha: f64, first: usize, seed: Found, out: &mut [f64]) -> Answer
-    requires { ⌜ Seeded (now series) first (seed .together) × (length (now series) ≤ length (now out)) ⌝ }
+fn answer_smooth(series: &[f64], alpha: f64, first: usize, seed: Pass, out: &mut [f64]) -> Answer
+    requires { ⌜ Seeded (now series) first (seed .bits) × (length (now series) ≤ length (now out)) ⌝ }
     ensures { λ r. ⌜ Call (unless (all accepted (now (series .entry))) ValueNotAccepted
         (Cells (length (now (series .entry)))))
-        (smoothLine alpha first (seed .last) (line (now (series .entry)))) (now (out .entry)) r (now (out .exit)) ⌝ }
+        (smoothLine alpha first (seed .value) (line (now (series .entry)))) (now (out .entry)) r (now (out .exit)) ⌝ }
 {
     let half = blend_half(series, alpha, first, seed);
-    if values::accepted_by(half.together, series) {
-        write_smooth(series, alpha, first, seed.last, half.last, out);
+    if values::accepted_by(half.bits, series) {
+        write_smooth(series, alpha, first, seed.value, half.value, out);
         Answer::Cells(series.len())
     } else {
         Answer::Refused(Refusal::ValueNotAccepted)
@@ -102,9 +102,9 @@ pub fn ema(series: &[f64], n: usize, out: &mut [f64]) -> Answer
 {
     if checks::window_fits(series.len(), n, out.len()) {
         let sum = averages::sum_first(series, n);
-        let seed = Found {
-            together: sum.together,
-            last: sum.last / (n as f64),
+        let seed = Pass {
+            bits: sum.bits,
+            value: sum.value / (n as f64),
         };
         answer_smooth(series, 2.0 / ((n + 1) as f64), n - 1, seed, out)
     } else {
@@ -117,9 +117,9 @@ pub fn exponential_smoothing(series: &[f64], alpha: f64, out: &mut [f64]) -> Ans
     ensures { λ r. ⌜ ExponentialSmoothingCall (now (series .entry)) alpha (now (out .entry)) r (now (out .exit)) ⌝ }
 {
     if checks::window_fits(series.len(), 1, out.len()) & values::is_finite(alpha) {
-        let seed = Found {
-            together: f64::to_bits(values::cap(series[0])),
-            last: series[0],
+        let seed = Pass {
+            bits: f64::to_bits(values::cap(series[0])),
+            value: series[0],
         };
         return answer_smooth(series, alpha, 0, seed, out);
     }

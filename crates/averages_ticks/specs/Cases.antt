@@ -1,4 +1,4 @@
--- The averages at small series, and answers at their edges, computed from the definitions. Assumes nothing.
+-- `tick_mean` at small series, computed from the definition. Assumes nothing.
 use mathlib.Core.Bool.{true, false}
 use mathlib.Core.List.{[], _∷_, map}
 use mathlib.Core.Path.{_≡_, refl}

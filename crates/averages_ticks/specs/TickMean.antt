@@ -1,4 +1,4 @@
--- What each average answers and writes. Assumes nothing.
+-- tick_mean, our own: what it answers and writes, on whole numbers. Assumes nothing.
 use mathlib.Core.List.{List, [], _∷_}
 use Prim.Native.Nat.{ℕ, suc, _+_, _-_, _*_, _/_}
 use lib.IntN.{ℤ, pos, negsuc, negℤ}

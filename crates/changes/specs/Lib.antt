@@ -1,1 +1,2 @@
+-- Changes from bar to bar.
 pub mod Changes

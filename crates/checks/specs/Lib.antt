@@ -1,2 +1,2 @@
--- What is known of a call with three series.
+-- What is known of a call once it is checked.
 pub mod inner

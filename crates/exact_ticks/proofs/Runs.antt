@@ -1,4 +1,4 @@
--- The one-average rule on whole ticks, decided by whole numbers, which running sums give exactly. Assumes nothing.
+-- Running sums of whole numbers are exact, and whole numbers in turn. Assumes nothing.
 use mathlib.Core.Path.{_≡_, refl, sym, ap}
 use mathlib.Core.Bool.{Bool, true, false, not}
 use Prim.Native.Nat.{ℕ, zero, suc, _+_, _-_, _*_, _^_, _<_, _≤_, zero-le}

@@ -1,4 +1,4 @@
--- The means of whole ticks, from running sums. Assumes nothing.
+-- A series of whole ticks as a line of whole numbers. Assumes nothing.
 use mathlib.Core.Path.{_≡_, sym}
 use mathlib.Core.Bool.{true}
 use mathlib.Core.List.{List}

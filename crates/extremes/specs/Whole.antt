@@ -1,4 +1,4 @@
--- The middle rule on whole ticks. Assumes nothing.
+-- The highest and the lowest of the last n whole numbers. Assumes nothing.
 use mathlib.Core.Bool.{cond}
 use Prim.Native.Nat.{ℕ, zero, suc, _+_, _-_}
 use lib.IntN.{ℤ}

@@ -20,7 +20,7 @@ pub struct HighLow {
 }
 
 // The larger of two, the first of equals.
-fn larger_of(x: f64, y: f64) -> f64
+pub fn larger_of(x: f64, y: f64) -> f64
     ensures { λ r. ⌜ r ≡ larger x y ⌝ }
 {
     if x < y { y } else { x }

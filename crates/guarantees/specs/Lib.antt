@@ -1,5 +1,4 @@
 -- What a user gets, as theorems about the definitions that the contracts cite. Each statement stands under one
--- sentence.
 pub mod FromC
 pub mod Leaves
 pub mod NoLookAhead

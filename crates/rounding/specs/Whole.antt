@@ -1,5 +1,4 @@
--- Integers as differences of natural numbers: z is `above z` - `below z`, one of which is 0. What is linear in the
--- parts is then plain arithmetic. Beside them the sum of a run of integers. Assumes nothing.
+-- Whole numbers: their sign, and sums of runs of them. Assumes nothing.
 use mathlib.Core.Bool.{Bool, true, false}
 use Prim.Native.Nat.{ℕ, zero, suc, _+_}
 use lib.IntN.{ℤ, pos, negsuc, _+ℤ_}

@@ -1,5 +1,4 @@
--- Sums, means and extremes of accepted prices are finite: their magnitudes stay within whole bounds, which rounding
--- does not cross. Assumes nothing.
+-- The averages of the double rule are finite. Assumes nothing.
 use Prim.Native.Nat.{ℕ, _+_, _-_, _^_, _<_, _≤_}
 use native.Mathlib.Omega.{arith}
 use Rattle.cells.specs.Line.{Line}

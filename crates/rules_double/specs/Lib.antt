@@ -1,3 +1,4 @@
+-- The double rule: what it answers and writes.
 pub mod Cases
 pub mod Double
 pub mod inner

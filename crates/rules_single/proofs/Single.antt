@@ -1,5 +1,4 @@
--- The three rules of the sheet: what each answers and writes. A position is the sign of a difference: +1 for +0.0 and
--- above, -1 for -0.0 and below. Assumes nothing.
+-- The one-average rule: no look-ahead, and a cell from what the stages before it wrote. Assumes nothing.
 use mathlib.Core.Path.{_≡_}
 use Prim.Native.Nat.{ℕ, _-_, _*_, _≤_}
 use lib.Ieee.{Float}

@@ -1,4 +1,4 @@
--- The ultimate smoother, and true range.
+-- The ultimate smoother: what it answers and writes.
 pub mod Cases
 pub mod Smoother
 pub mod inner

@@ -1,4 +1,4 @@
-// The ultimate smoother, and true range.
+// The ultimate smoother: its step, its cells and the entry point.
 use calls::Answer;
 use calls::Refusal;
 use smoother_table::Coefficients;

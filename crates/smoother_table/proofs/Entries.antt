@@ -1,4 +1,4 @@
--- The coefficients of Ehlers' ultimate smoother, made from a period. Assumes nothing.
+-- The tables begin at period 1. Assumes nothing.
 use mathlib.Core.Path.{_≡_}
 use Prim.Native.Nat.{ℕ, zero, suc, _-_, _<_}
 use native.Mathlib.Nat.{not-suc-le-zero}

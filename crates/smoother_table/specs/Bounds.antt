@@ -1,5 +1,4 @@
--- What holds of the recorded numbers at every period from 1 to 512: 0 < a1 < 1, |b1| is at most 2 * a1, and a1 rises.
--- Each is one test over the whole table, which is computed, and a law that reads it at one period. Assumes nothing.
+-- What is said of one period's recorded numbers: 0 < a1 < 1, and |b1| is at most 2 * a1. Assumes nothing.
 use mathlib.Core.Path.{_≡_}
 use mathlib.Core.Bool.{Bool, true, _&&_}
 use lib.Ieee.{Float, binary64, mul, lt, le}

@@ -1,4 +1,4 @@
--- Wilder's true range: what `true_range` writes. Assumes nothing.
+-- True range: no look-ahead, and the cells after bar 0 as the code finds them. Assumes nothing.
 use mathlib.Core.Path.{_≡_, refl}
 use Prim.Native.Nat.{ℕ, zero, suc, _<_}
 use native.Mathlib.Nat.{not-suc-le-zero, le-refl}

@@ -1,23 +1,12 @@
-// True range: how its cells are made and written.
-// The ultimate smoother, and true range.
+// True range: how its cells are made and written, and the entry point.
 use calls::Answer;
-use calls::Refusal;
-use smoother_table::Coefficients;
 ghost use mathlib.Core.Path.{_≡_};
 ghost use mathlib.Core.List.{[]};
 ghost use Prim.Native.Nat.{_<_};
 ghost use lib.ListN.{length};
 ghost use Rattle.checks.specs.inner.Three.{Three};
-ghost use Rattle.extremes.specs.Extreme.{larger};
 ghost use Rattle.true_range.specs.TrueRange.{trueRange, TrueRangeCall};
 ghost use Rattle.true_range.specs.inner.Ranging.{Ranging};
-
-// The larger of two, the first of equals.
-fn larger_of(x: f64, y: f64) -> f64
-    ensures { λ r. ⌜ r ≡ larger x y ⌝ }
-{
-    if x < y { y } else { x }
-}
 
 // The true range of a bar, from the close before it.
 pub fn range_of(high: f64, low: f64, before: f64) -> f64
@@ -25,7 +14,7 @@ pub fn range_of(high: f64, low: f64, before: f64) -> f64
 {
     let above = rounding::magnitude(high - before);
     let below = rounding::magnitude(low - before);
-    larger_of(larger_of(high - low, above), below)
+    extremes::larger_of(extremes::larger_of(high - low, above), below)
 }
 
 // Writes the cell of bar 0, which has no close before it.

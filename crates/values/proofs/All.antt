@@ -1,4 +1,4 @@
--- Which numbers a series may hold. Assumes nothing.
+-- Tests of every element of a list, and of two tests together. Assumes nothing.
 use mathlib.Core.Bool.{Bool, true, false, _&&_, true≢false}
 use mathlib.Core.List.{List, [], _∷_}
 use mathlib.Core.Path.{_≡_, refl, sym}

@@ -2,7 +2,7 @@
 use mathlib.Core.Path.{_≡_, refl, sym, _∙_, subst}
 use mathlib.Core.Bool.{Bool, true, false, not, cond, true≢false}
 use mathlib.Core.List.{List, [], _∷_}
-use Prim.Native.Nat.{ℕ, zero, suc, _+_, _*_, _/_, _%_, _^_, _<_, _≤_, zero-le, suc-le-suc}
+use Prim.Native.Nat.{ℕ, zero, suc, _+_, _*_, _/_, _%_, _^_, _<_, _≤_, zero-le, suc-le-suc, _-_}
 use native.Mathlib.Nat.{
   le-trans,
   lt-of-lt-of-le,
@@ -29,7 +29,8 @@ use lib.Ieee.Exact.{HasValue, odd-sign}
 use lib.Ieee.Fits.{down-pos}
 use lib.Ieee.Order.{le-of-values}
 use Rattle.values.specs.Accepted.{within, accepted, all}
-use Rattle.values.specs.inner.Quick.{EachUpTo, NoneAbove, UpTo, capped}
+use Rattle.values.specs.inner.Quick.{EachUpTo, NoneAbove, UpTo, capped, bitsFrom, BitsOf}
+use Rattle.cells.specs.Line.{Line, line}
 
 pub or-first : (a b : ℕ) → a ≤ bitOr a b
 or-first a b = omega (arith, or-add-and a b, and-le-r a b)
@@ -71,6 +72,32 @@ pub none-with : {s : List Float} {a b k : ℕ} {x : Float} → NoneAbove b s a k
 none-with {b = b} {k} {x} n e =
     none-joined (none-larger n (or-first b (toBits binary64 x)))
     (none-larger (none-of-one e) (or-second b (toBits binary64 x))) (le-of-eq refl)
+
+-- ---- gathered bit by bit
+
+pub no-bits : {f : Line} {a k : ℕ} → k ≡ 0 → BitsOf f a k 0
+unfolding bitsFrom
+no-bits e = record { is = rw e }
+
+pub more-bits : {f : Line} {a b k : ℕ} {x : Float} (i l : ℕ) → BitsOf f a k b → x ≡ capped (f i)
+    → (a + k ≡ i) × (suc k ≡ l) → BitsOf f a l (bitOr b (toBits binary64 x))
+unfolding bitsFrom
+more-bits i l g c (p, q) = record { is = rw (g .is, c, ← p, ← q) }
+
+none-in : (s : List Float) (a k : ℕ) → NoneAbove (bitsFrom (line s) a k) s a (a + k)
+unfolding bitsFrom
+none-in s a zero = none-yet (omega arith)
+none-in s a (suc k) =
+    let next : a + suc k ≡ a + k + 1 = omega arith in
+    rw next (none-with (none-in s a k) refl)
+
+-- so none of them is larger
+pub bits-above : (s : List Float) (a e : ℕ) {b : ℕ} → BitsOf (line s) a (e - a) b → NoneAbove b s a e
+bits-above s a e g = rw (g .is) (none-within a e (none-in s a (e - a)) (omega arith))
+
+-- and of the first n
+pub bits-first : (s : List Float) (n : ℕ) {b : ℕ} → BitsOf (line s) 0 n b → NoneAbove b s 0 n
+bits-first s n g = rw (g .is) (none-within 0 n (none-in s 0 n) (omega arith))
 
 -- only a number is below another
 pub capped-number : (x : Float) → T (not (isNan (capped x)))

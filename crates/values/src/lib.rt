@@ -5,15 +5,16 @@ use limits::LARGEST_VALUE;
 use limits::LARGEST_VALUE_BITS;
 ghost use mathlib.Core.Path.{_≡_};
 ghost use mathlib.Core.Bool.{not};
-ghost use Prim.Native.Nat.{_^_, _≤_};
+ghost use Prim.Native.Nat.{_^_, _≤_, _-_};
 ghost use lib.Dec.{eqb};
 ghost use lib.ListN.{length};
 ghost use lib.Ieee.{binary64, toBits};
 ghost use Rattle.values.specs.Accepted.{within, accepted, tick, finite, all};
 ghost use Rattle.rounding.specs.Leaves.{magnitudeOf};
-ghost use Rattle.values.specs.inner.Quick.{capped, NoneAbove, EachUpTo};
+ghost use Rattle.values.specs.inner.Quick.{capped, NoneAbove, EachUpTo, BitsOf};
 ghost use Rattle.values.specs.inner.Fraction.{comesBack};
 ghost use Rattle.limits.specs.Limits.{valuePower};
+ghost use Rattle.cells.specs.Line.{line};
 
 // Whether x lies within 2^30. A NaN does not.
 fn is_near(x: f64) -> bool
@@ -65,11 +66,11 @@ pub fn cap(x: f64) -> f64
     if x < 2147483648.0 { x } else { 2147483648.0 }
 }
 
-// The bits of the numbers of s from index `first` up to `end`, one upon the other: those of none are larger. What is
+// The bits of the numbers of s from index `first` up to `end`, one upon the other (OR), so that none has larger ones. What is
 // not below 2^31 counts as that.
 pub fn bits_together(s: &[f64], first: usize, end: usize) -> u64
     requires { ⌜ end ≤ length (now s) ⌝ }
-    ensures { λ r. ⌜ NoneAbove r (now (s .entry)) first end ⌝ }
+    ensures { λ r. ⌜ BitsOf (line (now (s .entry))) first (end - first) r ⌝ }
 {
     let mut together = 0;
     let mut i = first;

@@ -1,4 +1,4 @@
--- The one-average rule on whole ticks, decided by whole numbers, which running sums give exactly. Assumes nothing.
+-- Running sums of every bar's window: no look-ahead, and one cell. Assumes nothing.
 use mathlib.Core.Path.{_≡_}
 use Prim.Native.Nat.{ℕ, _+_, _-_, _<_, _≤_}
 use native.Mathlib.Omega.{arith}

@@ -6,7 +6,7 @@ use borrow.Author.Needs.{needs}
 use denote.Ref.{now}
 use lib.ListN.{length}
 use Rattle.values.specs.Accepted.{accepted}
-use Rattle.values.proofs.Quick.{or-first, or-second, none-larger, none-joined}
+use Rattle.values.proofs.Quick.{or-first, or-second, none-larger, none-joined, bits-above, bits-first}
 use Rattle.calls.specs.inner.Fits.{windowFits, Fits}
 use Rattle.calls.proofs.Room.{fits-parts, fits-answered}
 use Rattle.averages.specs.Sma.{smaLine}
@@ -27,8 +27,9 @@ accepted-by-requires : tie.Need-accepted-by-requires
 accepted-by-requires c κs =
     let at-rest = c .before in
     let first = at-rest .before .sum-first in
-    none-joined (none-larger (first .ensures .bits) (or-first _ _))
-    (none-larger (at-rest .bits-together .ensures) (or-second (first .result .together) _)) (omega arith)
+    let a = at-rest .before .before .before .before .before .before .args in
+    none-joined {k = a .n} (none-larger (bits-first _ (a .n) (first .ensures .bits)) (or-first _ _))
+    (none-larger (bits-above _ _ _ (at-rest .bits-together .ensures)) (or-second (first .result .bits) _)) (omega arith)
 
 write-means-requires : tie.Need-write-means-requires
 write-means-requires c κs =

@@ -33,7 +33,7 @@ abbrev μ-loop : tie.MeasureT-loop
 loop-holds : tie.Need-loop-holds Inv-loop μ-loop
 loop-holds c =
     let start = c .before .before .before .before in
-    let together = start .args .seed .together in (
+    let together = start .args .seed .bits in (
       omega arith,
       none-within _ _ (none-larger (start .pre .bits) (or-first _ _)) (omega arith),
       none-yet (omega arith),

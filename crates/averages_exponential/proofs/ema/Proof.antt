@@ -9,7 +9,7 @@ use denote.Ref.{now}
 use lib.ListN.{length}
 use lib.Ieee.{ofBits}
 use Rattle.values.specs.Accepted.{accepted}
-use Rattle.values.proofs.Quick.{none-within}
+use Rattle.values.proofs.Quick.{none-within, bits-first}
 use Rattle.calls.specs.inner.Fits.{windowFits, Fits}
 use Rattle.calls.proofs.Room.{fits-parts, fits-answered}
 use Rattle.cells.specs.Line.{line}
@@ -31,7 +31,7 @@ answer-smooth-requires : tie.Need-answer-smooth-requires
 answer-smooth-requires c κs =
     let at-sum = c .before .before .before .before in
     let h = fits (at-sum .before) in
-    (record { inside = omega arith; bits = none-within _ _ (at-sum .sum-first .ensures .bits) (omega arith) }, h .room)
+    (record { inside = omega arith; bits = none-within _ _ (bits-first _ _ (at-sum .sum-first .ensures .bits)) (omega arith) }, h .room)
 
 returns : tie.Need-returns
 unfolding ofBits

@@ -7,7 +7,7 @@ use lib.Ieee.{Float}
 use Rattle.values.specs.inner.Quick.{NoneAbove}
 use Rattle.cells.specs.Line.{Line, line}
 use Rattle.cells.specs.Written.{Writing}
-use Rattle.averages.specs.declared.Found.{Found}
+use Rattle.averages.specs.declared.Pass.{Pass}
 use Rattle.averages_exponential.specs.Blend.{smoothLine}
 
 -- x is the cell before bar i: what the loop that blends keeps
@@ -28,9 +28,9 @@ abbrev pub Middle : List Float → Float → ℕ → Float → Float → Type 0
 Middle s alpha first seed x = Blending alpha first seed (line s) (first + 1 + half (length s) first) x
 
 -- that cell, and the bits of all bars
-pub record HalfWay (s : List Float) (alpha : Float) (first : ℕ) (seed : Float) (r : Found) : Type 0 where
-  pub middle : Middle s alpha first seed (r .last)
-  pub bits : NoneAbove (r .together) s 0 (length s)
+pub record HalfWay (s : List Float) (alpha : Float) (first : ℕ) (seed : Float) (r : Pass) : Type 0 where
+  pub middle : Middle s alpha first seed (r .value)
+  pub bits : NoneAbove (r .bits) s 0 (length s)
 
 -- every cell of a smoothed line is written to `now`
 abbrev pub Smooth : List Float → Float → ℕ → Float → List Float → List Float → Type 0

@@ -1,6 +1,4 @@
--- Lines. A line has a cell for every bar, counted from 0: a series is one, and so is what a call computes of it. An
--- operator on lines is causal if no cell needs anything after its own bar; what is built of causal operators is
--- causal. Assumes nothing.
+-- A value written before a line's first bar. Assumes nothing.
 use mathlib.Core.Path.{_≡_}
 use mathlib.Core.List.{List}
 use Prim.Native.Nat.{ℕ, min}

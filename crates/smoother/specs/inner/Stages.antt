@@ -1,4 +1,4 @@
--- The ultimate smoother of John Ehlers: what `ultimate_smoother` answers and writes. Assumes nothing.
+-- What the functions under `ultimate_smoother` ask of each other. Assumes nothing.
 use mathlib.Core.List.{List}
 use Prim.Native.Nat.{_≤_}
 use lib.ListN.{length}

@@ -1,4 +1,4 @@
--- Wilder's true range: what `true_range` writes. Assumes nothing.
+-- What the functions under `true_range` ask of each other. Assumes nothing.
 use mathlib.Core.List.{List}
 use Prim.Native.Nat.{ℕ}
 use lib.Ieee.{Float}

@@ -6,14 +6,14 @@ use borrow.Author.Needs.{needs}
 use denote.Ref.{now}
 use Rattle.values.specs.Accepted.{tick}
 use Rattle.values.proofs.All.{all-next, all-none}
-use Rattle.values.proofs.Quick.{quick-up-to}
+use Rattle.values.proofs.Quick.{quick-up-to, bits-above}
 use Rattle.values.proofs.all_ticks.Statement.{statement}
 use Rattle.values.proofs.all_ticks.Tie as tie
 
 all-whole-requires : tie.Need-all-whole-requires
 all-whole-requires c κs =
     let known = c .before .before .before .before in
-    quick-up-to (now (known .before .before .before .args .s)) (c .before .bits-together .ensures)
+    quick-up-to (now (known .before .before .before .args .s)) (bits-above _ _ _ (c .before .bits-together .ensures))
     (known .shared-slice-known2 .given) 24 (omega arith) (omega arith)
 
 returns-4 : tie.Need-returns-4

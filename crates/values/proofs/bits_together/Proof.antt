@@ -1,18 +1,25 @@
--- `bits_together` meets its contract: no bit is taken away, so nothing becomes larger than what is kept. Assumes
--- nothing.
+-- `bits_together` meets its contract: each turn adds one number's bits. Assumes nothing.
+use mathlib.Core.Path.{_≡_}
 use Prim.Native.Nat.{_-_, _≤_}
 use native.Mathlib.Omega.{arith}
 use borrow.Author.Needs.{needs}
-use Rattle.values.specs.inner.Quick.{NoneAbove}
-use Rattle.values.proofs.Quick.{capped-number, none-yet, none-within, none-with}
+use Rattle.values.specs.inner.Quick.{BitsOf}
+use Rattle.values.proofs.Quick.{capped-number, more-bits, no-bits}
 use Rattle.values.proofs.bits_together.Statement.{statement}
+use Rattle.cells.specs.Line.{line}
 use Rattle.values.proofs.bits_together.Tie as tie
 
 abbrev Inv-loop : tie.InvT-loop
-Inv-loop s first end together₀ i₀ together i = (first ≤ i) × NoneAbove together s first i
+Inv-loop s first end together₀ i₀ together i = (first ≤ i) × (i - first ≤ end - first) × BitsOf (line s) first (i - first) together
 
 abbrev μ-loop : tie.MeasureT-loop
 μ-loop s first end together₀ i₀ together i = end - i
+
+returns : tie.Need-returns Inv-loop μ-loop
+returns c =
+    let a = c .before .before .before .args in
+    let all : c .before .loop .i - a .first ≡ a .end - a .first = omega arith in
+    rw (← all) (c .before .loop .inv .2)
 
 pub bits-together-spec : {M : Type 1} → statement M
 bits-together-spec =
@@ -20,13 +27,13 @@ bits-together-spec =
     (tie.spec
     Inv-loop
     μ-loop
-    (λ c. (omega arith, none-yet (omega arith)))  -- loop-holds
+    (λ c. (omega arith, omega arith, no-bits (omega arith)))  -- loop-holds
     (λ c. search needs)  -- mul-cap
     (λ c. search needs)  -- shared-slice-read-cap
     (λ c κs. search needs)  -- cap-requires
     (λ c. rw (c .cap .ensures) (capped-number _))  -- float-to-bits-together
     (λ c. search needs)  -- add-i
     (λ c. search needs)  -- loop-less
-    (λ c. (omega arith, none-with (c .before .before .before .loop .inv .1) (c .cap .ensures)))  -- loop-again
-    (λ c. none-within _ _ (c .before .loop .inv .1) (omega arith))  -- returns
+    (λ c. (omega arith, omega arith, more-bits _ _ (c .before .before .before .loop .inv .2) (c .cap .ensures) (omega arith)))  -- loop-again
+    returns
     )

@@ -1,4 +1,4 @@
--- The one-average rule on whole ticks, decided by whole numbers, which running sums give exactly. Assumes nothing.
+-- Running sums of every bar's window. Assumes nothing.
 use mathlib.Core.List.{List}
 use Prim.Native.Nat.{ℕ, _+_, _-_, _<_, _≤_}
 use lib.ListN.{length}

@@ -1,4 +1,4 @@
--- Sums and means of the last n cells, and running sums. Every operation is rounded once. Assumes nothing.
+-- What the loops that sum a window or slide a sum keep. Assumes nothing.
 use mathlib.Core.Path.{_≡_}
 use Prim.Native.Nat.{ℕ, _-_}
 use lib.Ieee.{Float}
