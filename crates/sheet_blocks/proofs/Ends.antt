@@ -8,7 +8,11 @@ use lib.Ieee.{Float}
 use Rattle.sheet_lines.specs.declared.Request.{Request}
 use Rattle.sheet_lines.specs.Printed.{lastLine}
 use Rattle.sheet_requests.specs.Answer.{oneMore}
-use Rattle.sheet_requests.specs.Sheet.{waiting, collecting, stopped, broken, lines, ending, outcome}
+use Rattle.sheet_requests.specs.Sheet.{State, waiting, collecting, stopped, broken, lines, ending, outcome}
+use Rattle.sheet_blocks.specs.declared.Sheet.{Sheet}
+use Rattle.sheet_blocks.specs.declared.Status.{Status}
+use Rattle.sheet_blocks.specs.Whole.{last}
+use Rattle.sheet_blocks.specs.inner.Block.{Finished}
 use Rattle.sheet_blocks.proofs.Lines.{short-line, outcome-stopped}
 use Rattle.sheet_blocks.proofs.Strict.{header-reader, price-reader}
 
@@ -34,3 +38,8 @@ pub cut-collecting : (k : ℕ) (r : Request) (prices : List Float) (rest : List 
 unfolding outcome lines ending
 cut-collecting k r prices [] h = refl
 cut-collecting k r prices (b ∷ rest) h = short-line (price-reader k r prices) b rest [] (omega arith)
+
+-- where nothing is printed last, no byte is
+pub nothing-last : {status : Status} {sheet : Sheet} {kept : ℕ} {text : List ℕ} → ((state : State) (rest : List ℕ) → last status state rest ≡ [])
+    → Finished status sheet kept 0 text
+nothing-last h = record { within = omega arith; is = λ series rest e. rw (h _ rest) }

@@ -43,6 +43,14 @@ pub struct Run {
     pub whole: bool,
 }
 
+// How the program stands: it reads on; all is read, to the end of the input or to a line that broke its columns; or a read or a write failed.
+pub enum Status {
+    Reading,
+    Done,
+    ReadFailed,
+    WriteFailed,
+}
+
 // Reads prices from `at` on until the request has all or too few bytes are left.
 pub fn read_prices(block: &[u8], at: usize, request: Request, got: usize, series: &mut [f64]) -> Run
     requires { ⌜ (at + 13 ≤ length (now block)) × (got < request .bars) × (request .bars ≤ length (now series)) ⌝ }
@@ -296,10 +304,10 @@ fn print_cut(text: &mut [u8], counts: Counts)
     sheet_lines::print_last(text, 19, all.refused);
 }
 
-// Prints what is left to print where the input has ended, with `kept` bytes that are too few for a line, and gives how many bytes.
-pub fn finish(sheet: Sheet, kept: usize, text: &mut [u8]) -> usize
+// Prints what the end of the input gives, with `kept` bytes that are too few for a line, and gives how many bytes.
+fn print_end(sheet: Sheet, kept: usize, text: &mut [u8]) -> usize
     requires { ⌜ (kept < due (sheet .stage)) × (32 ≤ length (now text)) ⌝ }
-    ensures { λ r. ⌜ Finished sheet kept r (now (text .exit)) ⌝ }
+    ensures { λ r. ⌜ Finished Status.Done sheet kept r (now (text .exit)) ⌝ }
 {
     let stage = sheet.stage;
     let counts = sheet.counts;
@@ -321,5 +329,18 @@ pub fn finish(sheet: Sheet, kept: usize, text: &mut [u8]) -> usize
             sheet_lines::print_last(text, 0, counts.refused);
             13
         }
+    }
+}
+
+// Prints what is printed last, and gives how many bytes: none where not all was read and written, so that no last line follows a failed read.
+pub fn finish(status: Status, sheet: Sheet, kept: usize, text: &mut [u8]) -> usize
+    requires { ⌜ (kept < due (sheet .stage)) × (32 ≤ length (now text)) ⌝ }
+    ensures { λ r. ⌜ Finished status sheet kept r (now (text .exit)) ⌝ }
+{
+    match status {
+        Status::Done => print_end(sheet, kept, text),
+        Status::Reading => 0,
+        Status::ReadFailed => 0,
+        Status::WriteFailed => 0,
     }
 }
