@@ -9,6 +9,16 @@ use Rattle.cells.specs.Line.{Line, plusZero}
 use Rattle.sheet_columns.specs.Print.{printField}
 use Rattle.sheet_lines.specs.declared.Request.{Request}
 
+-- the bytes of an answer's first line, of a position's line and of the last line, each with its line feed; src/lib.rt has constants of the same numbers
+abbrev pub headBytes : ℕ
+headBytes = 19
+
+abbrev pub positionBytes : ℕ
+positionBytes = 5
+
+abbrev pub lastBytes : ℕ
+lastBytes = 13
+
 -- desk in 4 columns, rule in 4, refusal in 4, count in 6
 unfoldable pub headLine : ℕ → ℕ → ℕ → ℕ → List ℕ
 headLine desk rule refusal count =
