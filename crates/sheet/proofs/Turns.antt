@@ -33,7 +33,7 @@ kept-few {sheet} b = omega (arith, b .few, due-few (sheet .stage))
 pub record Progress (c : Carried) (block : List ℕ) (series : List Float) : Type 0 where
   pub input : List ℕ
   pub out : List ℕ
-  pub reached : Reached input out (stateOf (c .place .sheet .stage) (c .place .sheet .counts .refused) series) (slice (c .place .at) (c .end) block)
+  pub reached : Reached input out (stateOf (c .place .sheet .stage) (c .place .sheet .counts) series) (slice (c .place .at) (c .end) block)
 
 pub first-carrying : {c : Carried} → First c → Carrying c
 first-carrying f =
@@ -45,7 +45,7 @@ first-carrying f =
 
 pub none-come : {c : Carried} {block : List ℕ} {series : List Float} → First c → Progress c block series
 none-come {c} {block} {series} f =
-    record { input = []; out = []; reached = rw (f .stage, f .refused, f .at, f .end) (reached-none refl) }
+    record { input = []; out = []; reached = rw (f .stage, f .counts, f .at, f .end) (reached-none refl) }
 
 pub more-come : {p q : Carried} {block block′ : List ℕ} {series series′ : List Float} {text : List ℕ}
     → Progress p block series → Turned p block series q block′ series′ text → Progress q block′ series′

@@ -9,13 +9,21 @@ use sheet_blocks::Place;
 use sheet_blocks::Sheet;
 use sheet_blocks::Stage;
 use sheet_blocks::Status;
+use sheet_blocks::TEXT_ROOM;
+use sheet_lines::MOST_BARS;
+use sheet_requests::WORK_CELLS;
 ghost use mathlib.Core.Path.{_≡_};
 ghost use Prim.Native.Nat.{_≤_, _+_, _-_};
 ghost use lib.ListN.{length, take};
-ghost use Rattle.sheet_blocks.specs.inner.Block.{Finished};
+ghost use Rattle.sheet_blocks.specs.inner.Block.{cutBytes, Finished};
 ghost use Rattle.sheet.specs.Run.{inputOf, came, statusOf, goesOn, Ran};
 ghost use Rattle.sheet.specs.inner.Buffers.{Buffers};
 ghost use Rattle.sheet.specs.inner.Turn.{First, Carrying, Turned};
+
+// The most bytes that are in the block, and the bytes that it may print.
+const BLOCK_BYTES: usize = 65536;
+
+const TEXT_BYTES: usize = BLOCK_BYTES + TEXT_ROOM;
 
 // What a read answered: so many bytes came, the input has ended, or it could not be read.
 enum Input {
@@ -67,7 +75,8 @@ fn read_some(room: &mut [u8]) -> Input
 // Reads once behind the first `kept` bytes of the block, which stay.
 fn read_on(block: &mut [u8], kept: usize) -> Input
     requires { ⌜ kept ≤ length (now block) ⌝ }
-    ensures { λ r. ⌜ (kept + came r ≤ length (now (block .entry))) × (take kept (now (block .exit)) ≡ take kept (now (block .entry))) ⌝ }
+    ensures { λ r. ⌜ (kept + came r ≤ length (now (block .entry)))
+        × (take kept (now (block .exit)) ≡ take kept (now (block .entry))) ⌝ }
 {
     read_some(&mut block[kept..])
 }
@@ -145,7 +154,8 @@ fn turn(
     text: &mut [u8],
 ) -> Carried
     requires { ⌜ Carrying carried × Buffers (now block) (now series) (now out) (now work) (now text) ⌝ }
-    ensures { λ r. ⌜ Turned carried (now (block .entry)) (now (series .entry)) r (now (block .exit)) (now (series .exit)) (now (text .exit)) ⌝ }
+    ensures { λ r. ⌜ Turned carried (now (block .entry)) (now (series .entry)) r (now (block .exit)) (now (series .exit)) (now (text .exit))
+        × (now (work .exit) ≡ now (work .entry)) ⌝ }
 {
     let place = carried.place;
     let kept = cells::keep(block, place.at, carried.end);
@@ -182,7 +192,7 @@ fn first() -> Carried
 
 // Writes what is printed last: nothing where not all was read and written.
 fn close(carried: Carried, text: &mut [u8]) -> Output
-    requires { ⌜ Carrying carried × (32 ≤ length (now text)) ⌝ }
+    requires { ⌜ Carrying carried × (cutBytes ≤ length (now text)) ⌝ }
     ensures { λ r. ⌜ Finished (statusOf (carried .output .taken) (carried .input) (carried .place .sheet .stage)) (carried .place .sheet)
         (carried .end - carried .place .at) (r .bytes) (now (text .exit)) ⌝ }
 {
@@ -218,10 +228,10 @@ fn run(
 }
 
 fn main() {
-    let mut block = [0u8; 65536];
-    let mut series = [0.0; 512];
-    let mut out = [0.0; 512];
-    let mut work = [0.0; 4096];
-    let mut text = [0u8; 69632];
+    let mut block = [0u8; BLOCK_BYTES];
+    let mut series = [0.0; MOST_BARS];
+    let mut out = [0.0; MOST_BARS];
+    let mut work = [0.0; WORK_CELLS];
+    let mut text = [0u8; TEXT_BYTES];
     run(&mut block, &mut series, &mut out, &mut work, &mut text);
 }

@@ -11,6 +11,7 @@ use lib.ListN.{length, take, drop, getD, take-append-drop, length-drop}
 use lib.Seq.{slice, drop-drop, take-all, take-suc, take-append-le}
 use Rattle.sheet_lines.specs.Header.{columned}
 use Rattle.sheet_lines.proofs.Places.{take-drop}
+use Rattle.sheet_requests.specs.declared.Counts.{Counts}
 use Rattle.sheet_blocks.specs.inner.Place.{finally}
 use Rattle.sheet_requests.specs.Sheet.{lengthen, lines, State, stopped, Step, broken, step, ending, outcome}
 
@@ -68,28 +69,28 @@ first-line b (c ∷ rest) = before b (eqb b 10) refl (first-line c rest)
 
 -- ---- what a state prints from there on
 
-pub outcome-stopped : (k : ℕ) (rest : List (List ℕ)) → outcome (stopped k) rest ≡ ending (stopped k)
+pub outcome-stopped : (counts : Counts) (rest : List (List ℕ)) → outcome (stopped counts) rest ≡ ending (stopped counts)
 unfolding outcome
-outcome-stopped k [] = refl
-outcome-stopped k (line ∷ rest) = outcome-stopped k rest
+outcome-stopped counts [] = refl
+outcome-stopped counts (line ∷ rest) = outcome-stopped counts rest
 
 -- nothing that follows a broken line is read
-pub finally-broken : (k : ℕ) (rest other : List (List ℕ)) → finally (broken k) rest ≡ finally (broken k) other
-finally-broken k rest other = rw (outcome-stopped _ rest, outcome-stopped _ other)
+pub finally-broken : (counts : Counts) (rest other : List (List ℕ)) → finally (broken counts) rest ≡ finally (broken counts) other
+finally-broken counts rest other = rw (outcome-stopped _ rest, outcome-stopped _ other)
 
 -- A state whose lines have w columns: its step is made of what `read` finds, and a line that is not clean breaks it.
-pub record Reader {A : Type 0} (s : State) (w k : ℕ) (read : List ℕ → A) (then : A → Step) : Type 0 where
+pub record Reader {A : Type 0} (s : State) (w : ℕ) (counts : Counts) (read : List ℕ → A) (then : A → Step) : Type 0 where
   pub bad : A
   pub steps : (line : List ℕ) → step s line ≡ then (read line)
   pub strict : (line : List ℕ) → clean w line ≡ false → read line ≡ bad
-  pub breaks : then bad ≡ broken k
+  pub breaks : then bad ≡ broken counts
 
-module _ {A : Type 0} {s : State} {w k : ℕ} {read : List ℕ → A} {then : A → Step} (reader : Reader s w k read then) where
+module _ {A : Type 0} {s : State} {w : ℕ} {counts : Counts} {read : List ℕ → A} {then : A → Step} (reader : Reader s w counts read then) where
   -- an unclean first line
-  unclean : {bytes : List ℕ} (f : First bytes) (rest : List (List ℕ)) → clean w (f .first) ≡ false → outcome s (lines bytes) ≡ finally (broken k) rest
+  unclean : {bytes : List ℕ} (f : First bytes) (rest : List (List ℕ)) → clean w (f .first) ≡ false → outcome s (lines bytes) ≡ finally (broken counts) rest
   unfolding outcome
   unclean f rest e =
-      rw (f .is, reader .steps (f .first), reader .strict (f .first) e, reader .breaks) (finally-broken k (f .others) rest)
+      rw (f .is, reader .steps (f .first), reader .strict (f .first) e, reader .breaks) (finally-broken counts (f .others) rest)
 
   -- a line that is clean is whole and unbroken
   clean-true : (line : List ℕ) → clean w line ≡ true → (length line ≡ w + 1) × (getD line w 0 ≡ 10) × (noFeed (take w line) ≡ true)
@@ -156,7 +157,7 @@ module _ {A : Type 0} {s : State} {w k : ℕ} {read : List ℕ → A} {then : A 
       next-line (drop at block) more room ∙ rw (take-drop at (w + 1) block, drop-drop (w + 1) at block)
 
   -- bytes that are too few for a line break it
-  pub short-line : (b : ℕ) (bytes : List ℕ) (rest : List (List ℕ)) → length (b ∷ bytes) ≤ w → outcome s (lines (b ∷ bytes)) ≡ finally (broken k) rest
+  pub short-line : (b : ℕ) (bytes : List ℕ) (rest : List (List ℕ)) → length (b ∷ bytes) ≤ w → outcome s (lines (b ∷ bytes)) ≡ finally (broken counts) rest
   short-line b bytes rest h =
       let f = first-line b bytes in
       let short : length (f .first) ≡ w + 1 → ⊥ = λ e. omega (arith, f .short) in

@@ -12,53 +12,54 @@ use Rattle.sheet_columns.specs.declared.Price.{Price}
 use Rattle.sheet_columns.specs.declared.Price.the-variants.{Ticks, Unpriced}
 use Rattle.sheet_lines.specs.declared.Request.{Request}
 use Rattle.sheet_lines.specs.Header.{readPriceLine}
+use Rattle.sheet_requests.specs.declared.Counts.{Counts}
 use Rattle.sheet_requests.specs.Sheet.{collecting, broken, settled, gathered, priced, lines, outcome}
 use Rattle.sheet_blocks.specs.inner.Place.{finally}
 use Rattle.sheet_blocks.proofs.Lines.{finally-broken, line-at}
 use Rattle.sheet_blocks.proofs.Strict.{price-reader}
 
-module _ (k : ℕ) (r : Request) (series : List Float) (got : ℕ) (h : got ≤ length series) where
+module _ (counts : Counts) (r : Request) (series : List Float) (got : ℕ) (h : got ≤ length series) where
   -- some price is missing: the request waits for it
-  pub waits : (got ≡ r .bars → ⊥) → gathered k r (take got series) ≡ record { prints = []; state = collecting k r (take got series) }
+  pub waits : (got ≡ r .bars → ⊥) → gathered counts r (take got series) ≡ record { prints = []; state = collecting counts r (take got series) }
   unfolding gathered
   waits e = rw (length-take-le got series h, ne-eqb _ _ e)
 
   -- all are there
-  pub all-there : got ≡ r .bars → gathered k r (take got series) ≡ settled k r (take (r .bars) series)
+  pub all-there : got ≡ r .bars → gathered counts r (take got series) ≡ settled counts r (take (r .bars) series)
   unfolding gathered
   all-there e = rw (length-take-le got series h, eq-eqb _ _ e, e)
 
 -- The prices from `got` to i are those of the lines from `at` to `place`, of any request that has room for `end` prices.
 pub record Gathering (block : List ℕ) (at end got : ℕ) (old : List Float) (place i : ℕ) (now : List Float) : Type 0 where
-  pub same : (r : Request) → end ≤ r .bars → (k : ℕ) (more : List ℕ)
-      → outcome (collecting k r (take got old)) (lines (drop at block ++ more)) ≡ finally (gathered k r (take i now)) (lines (drop place block ++ more))
+  pub same : (r : Request) → end ≤ r .bars → (counts : Counts) (more : List ℕ)
+      → outcome (collecting counts r (take got old)) (lines (drop at block ++ more)) ≡ finally (gathered counts r (take i now)) (lines (drop place block ++ more))
   pub pace : place ≡ at + 13 * (i - got)
   pub long : length now ≡ length old
 
 module _ {block : List ℕ} {at end got : ℕ} {old : List Float} where
   pub none-gathered : (got < end) × (end ≤ length old) → Gathering block at end got old at got old
   none-gathered (h, l) =
-      record { same = λ r e k more. rw (waits k r old got (omega arith) (λ z. omega arith)); pace = omega arith; long = refl }
+      record { same = λ r e counts more. rw (waits counts r old got (omega arith) (λ z. omega arith)); pace = omega arith; long = refl }
 
   module _ {place i : ℕ} {now : List Float} {read : Price} (w : Gathering block at end got old place i now)
       (is : read ≡ readPriceLine (slice place (place + 13) block))
       (fit : (place + 13 ≤ length block) × (got ≤ i) × (i < end) × (end ≤ length old)) where
     -- what the next line is read as
-    next : (r : Request) → end ≤ r .bars → (k : ℕ) (more : List ℕ) → outcome (collecting k r (take got old)) (lines (drop at block ++ more))
-        ≡ finally (priced k r (take i now) read) (lines (drop (place + 13) block ++ more))
-    next r e k more =
+    next : (r : Request) → end ≤ r .bars → (counts : Counts) (more : List ℕ) → outcome (collecting counts r (take got old)) (lines (drop at block ++ more))
+        ≡ finally (priced counts r (take i now) read) (lines (drop (place + 13) block ++ more))
+    next r e counts more =
         let (p, q, h, l) = fit in
-        rw (w .same r e k more, waits k r now i (omega (arith, w .long)) (λ z. omega arith), is) (line-at (price-reader k r (take i now)) block more place p)
+        rw (w .same r e counts more, waits counts r now i (omega (arith, w .long)) (λ z. omega arith), is) (line-at (price-reader counts r (take i now)) block more place p)
 
     pub one-gathered : {x : Float} → read ≡ Ticks x → Gathering block at end got old (place + 13) (i + 1) (set now i x)
     one-gathered {x} t =
         let (p, q, h, l) = fit in
         record {
-          same = λ r e k more. next r e k more ∙ rw (t, add-one, take-suc-set now i x (omega (arith, w .long)));
+          same = λ r e counts more. next r e counts more ∙ rw (t, add-one, take-suc-set now i x (omega (arith, w .long)));
           pace = omega (arith, w .pace);
           long = length-set now i x ∙ w .long;
         }
 
-    pub one-broken : read ≡ Unpriced → (r : Request) → end ≤ r .bars → (k : ℕ) (more : List ℕ)
-        → outcome (collecting k r (take got old)) (lines (drop at block ++ more)) ≡ finally (broken k) (lines (drop place block ++ more))
-    one-broken t r e k more = next r e k more ∙ rw t (finally-broken k _ _)
+    pub one-broken : read ≡ Unpriced → (r : Request) → end ≤ r .bars → (counts : Counts) (more : List ℕ)
+        → outcome (collecting counts r (take got old)) (lines (drop at block ++ more)) ≡ finally (broken counts) (lines (drop place block ++ more))
+    one-broken t r e counts more = next r e counts more ∙ rw t (finally-broken counts _ _)

@@ -26,6 +26,7 @@ use Rattle.sheet_lines.specs.declared.Request.{Request}
 use Rattle.sheet_lines.specs.declared.Header.{Header}
 use Rattle.sheet_lines.specs.declared.Header.the-variants.{Malformed}
 use Rattle.sheet_lines.specs.Header.{columned, given, requestOf, readHeader, readPriceLine}
+use Rattle.sheet_requests.specs.declared.Counts.{Counts}
 use Rattle.sheet_requests.specs.Sheet.{waiting, collecting, begun, priced}
 use Rattle.sheet_lines.proofs.Places.{take-drop}
 use Rattle.sheet_blocks.proofs.Lines.{noFeed, clean, Reader}
@@ -129,8 +130,9 @@ price-strict line e = unclean-read (columned 12 line) (noFeed (take 12 line)) _ 
 
 -- ---- the two states that read
 
-pub header-reader : (k : ℕ) → Reader (waiting k) 26 k readHeader (begun k)
-header-reader k = record { bad = Malformed; steps = λ line. refl; strict = header-strict; breaks = refl }
+pub header-reader : (counts : Counts) → Reader (waiting counts) 26 counts readHeader (begun counts)
+header-reader counts = record { bad = Malformed; steps = λ line. refl; strict = header-strict; breaks = refl }
 
-pub price-reader : (k : ℕ) (r : Request) (prices : List Float) → Reader (collecting k r prices) 12 k readPriceLine (priced k r prices)
-price-reader k r prices = record { bad = Unpriced; steps = λ line. refl; strict = price-strict; breaks = refl }
+pub price-reader : (counts : Counts) (r : Request) (prices : List Float)
+    → Reader (collecting counts r prices) 12 counts readPriceLine (priced counts r prices)
+price-reader counts r prices = record { bad = Unpriced; steps = λ line. refl; strict = price-strict; breaks = refl }

@@ -4,6 +4,7 @@ use mathlib.Core.List.{List, [], _++_, append-assoc, append-nil}
 use Prim.Native.Nat.{ℕ}
 use lib.ListN.{take, drop}
 use lib.Ieee.{Float}
+use Rattle.sheet_requests.specs.Counts.{noneRefused}
 use Rattle.sheet_requests.specs.Sheet.{State, waiting, lines, outcome}
 use Rattle.sheet_requests.specs.Sheet as requests
 use Rattle.sheet_blocks.specs.declared.Place.{Place}
@@ -13,14 +14,14 @@ use Rattle.sheet_blocks.specs.inner.Place.{stateOf}
 use Rattle.sheet_blocks.specs.inner.Block.{Fed}
 
 -- before the first byte
-pub reached-none : {state : State} → state ≡ waiting 0 → Reached [] [] state []
+pub reached-none : {state : State} → state ≡ waiting noneRefused → Reached [] [] state []
 unfolding requests.sheet
 reached-none e = record { same = λ more. rw e }
 
 -- the next bytes of the input come behind those kept; their text is written, and what is left is kept
 pub reached-block : {input out kept : List ℕ} {sheet : Sheet} {series : List Float} {q : Place} {series′ : List Float} {text : List ℕ} (new : List ℕ)
-    → Reached input out (stateOf (sheet .stage) (sheet .counts .refused) series) kept → Fed sheet (kept ++ new) series q series′ text
-    → Reached (input ++ new) (out ++ take (q .filled) text) (stateOf (q .sheet .stage) (q .sheet .counts .refused) series′) (drop (q .at) (kept ++ new))
+    → Reached input out (stateOf (sheet .stage) (sheet .counts) series) kept → Fed sheet (kept ++ new) series q series′ text
+    → Reached (input ++ new) (out ++ take (q .filled) text) (stateOf (q .sheet .stage) (q .sheet .counts) series′) (drop (q .at) (kept ++ new))
 reached-block {input} {out} {kept} new w fed =
     record { same = λ more. rw (append-assoc input new more, w .same (new ++ more), ← append-assoc kept new more, fed .same more, append-assoc) }
 

@@ -1,4 +1,5 @@
 -- `run` meets its contract: the turns are counted down, and each of them reads on. Assumes nothing.
+use mathlib.Core.Path.{_∙_}
 use mathlib.Core.List.{[]}
 use native.Mathlib.Omega.{arith}
 use borrow.Author.Count.{falls-down}
@@ -27,9 +28,18 @@ loop-again : tie.Need-loop-again Inv-loop μ-loop
 loop-again c =
     let turn = c .before .before .before .before .before .before .before .before .before .before in
     let kept = turn .turn .kept in
+    let (turned, clear) = turn .turn .ensures in
     let inv = turn .before .before .before .before .before .before .before .before .before .before .loop .inv in
     let buffers = inv .1 in
-    (turn .turn .ensures .carrying, search needs, more-come (inv .2) (turn .turn .ensures))
+    let lent = buffers .lent in (
+      turned .carrying,
+      record {
+        block-long = search needs;
+        lent = record { series-long = search needs; out-long = search needs; work-clear = clear ∙ lent .work-clear };
+        text-long = search needs;
+      },
+      more-come (inv .2) turned,
+    )
 
 returns : tie.Need-returns Inv-loop μ-loop
 returns c =

@@ -21,17 +21,13 @@ feed-requires c κs =
     let start = read .before .before .before .before .before .before .before .before .before .before .before .before .before .before .before in
     let lent = start .pre .1 in (
       start .pre .0 .between .sound,
-      record {
-        series-long = lent .series-long;
-        out-long = lent .out-long;
-        work-long = lent .work-long;
-        text-long = rw (length-take-le _ _ (within read)) (omega (arith, within read, lent .text-long, lent .block-long));
-      },
+      lent .lent,
+      rw (length-take-le _ _ (within read)) (omega (arith, within read, lent .text-long, lent .block-long)),
     )
 
 -- what is left is in what was fed, and what was printed in the text
 left : (c : tie.After-feed) → c .feed .result .at ≤ c .before .before .before .before .before .before .before .before .before .before .before .before .before .keep .result + c .before .before .before .before .before .before .count-of .result
-left c = rw (length-take-le _ _ (within (c .before .before .before .before .before .before))) at (c .feed .ensures .well .within)
+left c = rw (length-take-le _ _ (within (c .before .before .before .before .before .before))) at (c .feed .ensures .0 .well .within)
 
 write-text-requires : tie.Need-write-text-requires
 write-text-requires c κs =
@@ -42,7 +38,7 @@ write-text-requires c κs =
       arith,
       left feed,
       within read,
-      feed .feed .ensures .well .room,
+      feed .feed .ensures .0 .well .room,
       feed .feed .kept .1 .1 .1 .1 .1 .0,
       lent .block-long,
       lent .text-long,
@@ -55,17 +51,20 @@ returns c =
     let read = count .before .before .before in
     let keep = read .before .before .before .before in
     let start = keep .before .before .before .before .before .before .before .before in
-    record {
-      kept = rw (← keep .keep .ensures .count) (read .read-on .ensures .1 ∙ keep .keep .ensures .bytes);
-      end = rw (count .count-of .ensures, keep .keep .ensures .count);
-      fed = feed .feed .ensures;
-      written = c .write-text .ensures;
-      carrying = record {
-        between = record { sound = feed .feed .ensures .well .sound; few = rw (length-take-le _ _ (within count)) at (feed .feed .ensures .few) };
-        some = left feed;
-        within = omega (arith, within count, start .pre .1 .block-long);
-      };
-    }
+    let (fed, clear) = feed .feed .ensures in (
+      record {
+        kept = rw (← keep .keep .ensures .count) (read .read-on .ensures .1 ∙ keep .keep .ensures .bytes);
+        end = rw (count .count-of .ensures, keep .keep .ensures .count);
+        fed = fed;
+        written = c .write-text .ensures;
+        carrying = record {
+          between = record { sound = fed .well .sound; few = rw (length-take-le _ _ (within count)) at (fed .few) };
+          some = left feed;
+          within = omega (arith, within count, start .pre .1 .block-long);
+        };
+      },
+      clear,
+    )
 
 pub turn-spec : {M : Type 1} → statement M
 turn-spec =

@@ -1,20 +1,21 @@
 -- What is carried from turn to turn, and what a turn does. Assumes nothing.
 use mathlib.Core.Path.{_≡_}
-use mathlib.Core.Bool.{true}
 use mathlib.Core.List.{List}
 use Prim.Native.Nat.{ℕ, _+_, _-_, _≤_}
 use lib.ListN.{take}
 use lib.Seq.{slice}
 use lib.Ieee.{Float}
+use Rattle.sheet_requests.specs.Counts.{noneRefused}
 use Rattle.sheet_blocks.specs.declared.Stage.the-variants.{Waiting}
 use Rattle.sheet_blocks.specs.inner.Block.{Fed, Between}
 use Rattle.sheet.specs.declared.Carried.{Carried}
 use Rattle.sheet.specs.Run.{came}
+use Rattle.sheet.specs.inner.Buffers.{blockBytes}
 
 -- nothing was read yet
 pub record First (c : Carried) : Type 0 where
   pub stage : c .place .sheet .stage ≡ Waiting
-  pub refused : c .place .sheet .counts .refused ≡ 0
+  pub counts : c .place .sheet .counts ≡ noneRefused
   pub at : c .place .at ≡ 0
   pub end : c .end ≡ 0
 
@@ -22,7 +23,7 @@ pub record First (c : Carried) : Type 0 where
 pub record Carrying (c : Carried) : Type 0 where
   pub between : Between (c .place .sheet) (c .end - c .place .at)
   pub some : c .place .at ≤ c .end
-  pub within : c .end ≤ 65536
+  pub within : c .end ≤ blockBytes
 
 -- A turn: the bytes that were left stand at the front of the block, so many came behind them, all of them are fed, and the text is handed over.
 pub record Turned (p : Carried) (block : List ℕ) (series : List Float) (q : Carried) (block′ : List ℕ) (series′ : List Float) (text : List ℕ) : Type 0 where

@@ -11,8 +11,8 @@ returns c =
     let print = c .before .before in
     let test = print .before .before in
     record {
-      within = omega (arith, print .print-last .kept .0, test .before .before .before .before .before .pre .1);
-      is = λ series rest e. print .print-last .ensures .text ∙ rw (test .before .enum-told .given .1, ends-waiting _ rest (e ∙ test .if1 .taken));
+      within = omega (arith, print .print .kept .1 .0, test .before .before .before .before .before .pre .1);
+      is = λ series rest e. print .print .ensures .text ∙ rw (test .before .enum-told .given .1, ends-waiting _ rest (e ∙ test .if1 .taken));
     }
 
 returns-2 : tie.Need-returns-2
@@ -40,8 +40,8 @@ returns-4 : tie.Need-returns-4
 returns-4 c =
     let print = c .before .before in
     record {
-      within = omega (arith, print .print-last2 .kept .0, print .before .before .before .before .before .before .pre .1);
-      is = λ series rest e. print .print-last2 .ensures .text ∙ rw (print .before .before .enum-told3 .given .1, ends-stopped _ rest);
+      within = omega (arith, print .print2 .kept .1 .0, print .before .before .before .before .before .before .pre .1);
+      is = λ series rest e. print .print2 .ensures .text ∙ rw (print .before .before .enum-told3 .given .1, ends-stopped _ rest);
     }
 
 pub print-end-spec : {M : Type 1} → statement M
@@ -49,12 +49,12 @@ print-end-spec =
     tie.close
     (tie.spec
     (λ c. search needs)  -- enum-told
-    (λ c κs. search needs)  -- print-last-requires
+    (λ c κs. search needs)  -- print-requires
     (λ c κs. search needs)  -- print-cut-requires
     (λ c. search needs)  -- enum-told-2
     (λ c κs. search needs)  -- print-cut-requires-2
     (λ c. search needs)  -- enum-told-3
-    (λ c κs. search needs)  -- print-last-requires-2
+    (λ c κs. search needs)  -- print-requires-2
     (λ c. search needs)  -- same-length
     returns
     (λ c. search needs)  -- same-length-2
