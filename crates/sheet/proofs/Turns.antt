@@ -18,7 +18,7 @@ use Rattle.sheet_blocks.specs.inner.Block.{Fed, Between}
 use Rattle.sheet_blocks.proofs.Whole.{reached-none, reached-block, reached-end}
 use Rattle.sheet.specs.declared.Carried.{Carried}
 use Rattle.sheet.specs.Run.{Ran}
-use Rattle.sheet.specs.inner.Turn.{First, Carrying, Turned}
+use Rattle.sheet.specs.inner.Turn.{start, Carrying, Turned}
 
 due-few : (stage : Stage) → due stage ≤ 27
 due-few Waiting = omega arith
@@ -35,17 +35,12 @@ pub record Progress (c : Carried) (block : List ℕ) (series : List Float) : Typ
   pub out : List ℕ
   pub reached : Reached input out (stateOf (c .place .sheet .stage) (c .place .sheet .counts) series) (slice (c .place .at) (c .end) block)
 
-pub first-carrying : {c : Carried} → First c → Carrying c
-first-carrying f =
-    record {
-      between = record { sound = rw (f .stage) tt; few = rw (f .stage, f .at, f .end) (omega arith) };
-      some = omega (arith, f .at);
-      within = omega (arith, f .end);
-    }
+pub start-carrying : Carrying start
+start-carrying =
+    record { between = record { sound = tt; few = omega arith }; some = omega arith; within = omega arith }
 
-pub none-come : {c : Carried} {block : List ℕ} {series : List Float} → First c → Progress c block series
-none-come {c} {block} {series} f =
-    record { input = []; out = []; reached = rw (f .stage, f .counts, f .at, f .end) (reached-none refl) }
+pub none-come : (block : List ℕ) (series : List Float) → Progress start block series
+none-come block series = record { input = []; out = []; reached = reached-none refl }
 
 pub more-come : {p q : Carried} {block block′ : List ℕ} {series series′ : List Float} {text : List ℕ}
     → Progress p block series → Turned p block series q block′ series′ text → Progress q block′ series′

@@ -18,7 +18,7 @@ ghost use lib.ListN.{length, take};
 ghost use Rattle.sheet_blocks.specs.inner.Block.{cutBytes, Finished};
 ghost use Rattle.sheet.specs.Run.{inputOf, came, statusOf, goesOn, Ran};
 ghost use Rattle.sheet.specs.inner.Buffers.{Buffers};
-ghost use Rattle.sheet.specs.inner.Turn.{First, Carrying, Turned};
+ghost use Rattle.sheet.specs.inner.Turn.{start, Carrying, Turned};
 
 // The most bytes that are in the block, and the bytes that it may print.
 const BLOCK_BYTES: usize = 65536;
@@ -173,7 +173,7 @@ fn turn(
 
 // Before the first turn.
 fn first() -> Carried
-    ensures { λ r. ⌜ First r ⌝ }
+    ensures { λ r. ⌜ r ≡ start ⌝ }
 {
     Carried {
         place: Place {

@@ -10,7 +10,7 @@ use lib.Dec.{eqb}
 use lib.ListN.{length, take, drop, getD, take-append-drop, length-drop}
 use lib.Seq.{slice, drop-drop, take-all, take-suc, take-append-le}
 use Rattle.sheet_lines.specs.Header.{columned}
-use Rattle.sheet_lines.proofs.Places.{take-drop}
+use Rattle.cells.proofs.Kept.{take-drop}
 use Rattle.sheet_requests.specs.declared.Counts.{Counts}
 use Rattle.sheet_blocks.specs.inner.Place.{finally}
 use Rattle.sheet_requests.specs.Sheet.{lengthen, lines, State, stopped, Step, broken, step, ending, outcome}

@@ -28,7 +28,7 @@ use Rattle.sheet_lines.specs.declared.Header.the-variants.{Malformed}
 use Rattle.sheet_lines.specs.Header.{columned, given, requestOf, readHeader, readPriceLine}
 use Rattle.sheet_requests.specs.declared.Counts.{Counts}
 use Rattle.sheet_requests.specs.Sheet.{waiting, collecting, begun, priced}
-use Rattle.sheet_lines.proofs.Places.{take-drop}
+use Rattle.cells.proofs.Kept.{take-drop}
 use Rattle.sheet_blocks.proofs.Lines.{noFeed, clean, Reader}
 
 -- a line feed is no digit

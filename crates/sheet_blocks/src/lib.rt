@@ -12,9 +12,9 @@ ghost use lib.ListN.{length, take};
 ghost use lib.Ieee.{Float};
 ghost use Rattle.sheet_lines.specs.Header.{mostBars};
 ghost use Rattle.sheet_lines.specs.Printed.{headBytes, positionBytes};
-ghost use Rattle.sheet_requests.specs.Counts.{noneRefused, afterBroken, closing};
+ghost use Rattle.sheet_requests.specs.Counts.{afterBroken, closing};
 ghost use Rattle.sheet_requests.specs.Sheet.{broken, settled, gathered};
-ghost use Rattle.sheet_blocks.specs.inner.Place.{Sound, due, Stepped, Gathered, Ran};
+ghost use Rattle.sheet_blocks.specs.inner.Place.{beginning, Sound, due, Stepped, Gathered, Ran};
 ghost use Rattle.sheet_blocks.specs.inner.Onward.{Lent, textRoom, Well, Onward};
 ghost use Rattle.sheet_blocks.specs.inner.Block.{Fed, cutBytes, Finished};
 
@@ -301,7 +301,7 @@ pub fn feed(
 
 // Before the first request.
 pub fn begin() -> Sheet
-    ensures { λ r. ⌜ (r .stage ≡ Stage.Waiting) × (r .counts ≡ noneRefused) ⌝ }
+    ensures { λ r. ⌜ r ≡ beginning ⌝ }
 {
     Sheet {
         stage: Stage::Waiting,

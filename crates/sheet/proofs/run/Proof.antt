@@ -4,10 +4,11 @@ use mathlib.Core.List.{[]}
 use native.Mathlib.Omega.{arith}
 use borrow.Author.Count.{falls-down}
 use borrow.Author.Needs.{needs}
+use denote.Ref.{now}
 use lib.Seq.{slice, length-slice}
 use Rattle.sheet.specs.inner.Buffers.{Buffers}
 use Rattle.sheet.specs.inner.Turn.{Carrying}
-use Rattle.sheet.proofs.Turns.{Progress, first-carrying, none-come, more-come, run-ends}
+use Rattle.sheet.proofs.Turns.{Progress, start-carrying, none-come, more-come, run-ends}
 use Rattle.sheet.proofs.run.Statement.{statement}
 use Rattle.sheet.proofs.run.Tie as tie
 
@@ -19,7 +20,9 @@ abbrev μ-loop : tie.MeasureT-loop
 μ-loop block₀ series₀ out₀ work₀ text₀ carried₀ turns₀ block series out work text carried turns = turns
 
 loop-holds : tie.Need-loop-holds Inv-loop μ-loop
-loop-holds c = (first-carrying (c .first .ensures), c .before .before .before .before .before .before .pre, none-come (c .first .ensures))
+loop-holds c =
+    let begin = c .before .before .before .before .before .before in
+    rw (c .first .ensures) (start-carrying, begin .pre, none-come (now (begin .args .block)) (now (begin .args .series)))
 
 loop-less : tie.Need-loop-less Inv-loop μ-loop
 loop-less c = falls-down _ (c .before .before .before .before .before .before .before .before .before .before .before .before .before .before .before .before .before .before .before .loop-test .taken)

@@ -1,23 +1,27 @@
 -- What is carried from turn to turn, and what a turn does. Assumes nothing.
 use mathlib.Core.Path.{_≡_}
+use mathlib.Core.Bool.{true}
 use mathlib.Core.List.{List}
 use Prim.Native.Nat.{ℕ, _+_, _-_, _≤_}
 use lib.ListN.{take}
 use lib.Seq.{slice}
 use lib.Ieee.{Float}
-use Rattle.sheet_requests.specs.Counts.{noneRefused}
-use Rattle.sheet_blocks.specs.declared.Stage.the-variants.{Waiting}
+use Rattle.sheet_blocks.specs.inner.Place.{beginning}
 use Rattle.sheet_blocks.specs.inner.Block.{Fed, Between}
 use Rattle.sheet.specs.declared.Carried.{Carried}
+use Rattle.sheet.specs.declared.Input.the-variants.{Came}
 use Rattle.sheet.specs.Run.{came}
 use Rattle.sheet.specs.inner.Buffers.{blockBytes}
 
--- nothing was read yet
-pub record First (c : Carried) : Type 0 where
-  pub stage : c .place .sheet .stage ≡ Waiting
-  pub counts : c .place .sheet .counts ≡ noneRefused
-  pub at : c .place .at ≡ 0
-  pub end : c .end ≡ 0
+-- before the first turn
+abbrev pub start : Carried
+start =
+    record {
+      place = record { sheet = beginning; at = 0; filled = 0 };
+      end = 0;
+      input = Came 0;
+      output = record { bytes = 0; taken = true };
+    }
 
 -- what holds between two turns: the bytes that are left lie in the block, and are too few for a line
 pub record Carrying (c : Carried) : Type 0 where

@@ -10,8 +10,10 @@ use Rattle.sheet_lines.specs.declared.Request.{Request}
 use Rattle.sheet_lines.specs.Header.{mostBars}
 use Rattle.sheet_lines.specs.Printed.{headBytes, positionBytes}
 use Rattle.sheet_requests.specs.declared.Counts.{Counts}
+use Rattle.sheet_requests.specs.Counts.{noneRefused}
 use Rattle.sheet_blocks.specs.declared.Stage.{Stage}
 use Rattle.sheet_blocks.specs.declared.Stage.the-variants.{Waiting, Collecting, Stopped}
+use Rattle.sheet_blocks.specs.declared.Sheet.{Sheet}
 use Rattle.sheet_blocks.specs.declared.Place.{Place}
 use Rattle.sheet_blocks.specs.declared.Run.{Run}
 use Rattle.sheet_requests.specs.Sheet.{State, waiting, collecting, stopped, Step, broken, gathered, lines, outcome}
@@ -21,6 +23,10 @@ abbrev pub stateOf : Stage → Counts → List Float → State
 stateOf Waiting counts series = waiting counts
 stateOf (Collecting r got) counts series = collecting counts r (take got series)
 stateOf Stopped counts series = stopped counts
+
+-- before the first request
+abbrev pub beginning : Sheet
+beginning = record { stage = Waiting; counts = noneRefused }
 
 -- how many bytes the next line has; where nothing is read any more, one that is never there
 abbrev pub due : Stage → ℕ
