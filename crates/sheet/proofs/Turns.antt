@@ -33,7 +33,8 @@ kept-few {sheet} b = omega (arith, b .few, due-few (sheet .stage))
 pub record Progress (c : Carried) (block : List ℕ) (series : List Float) : Type 0 where
   pub input : List ℕ
   pub out : List ℕ
-  pub reached : Reached input out (stateOf (c .place .sheet .stage) (c .place .sheet .counts) series) (slice (c .place .at) (c .end) block)
+  pub reached : Reached input out (stateOf (c .place .sheet .stage) (c .place .sheet .counts) series)
+      (slice (c .place .at) (c .end) block)
 
 pub start-carrying : Carrying start
 start-carrying =
@@ -49,14 +50,18 @@ more-come {p} {q} {block} {block′} {series} {series′} {text} w t =
     let new = slice kept (q .end) block′ in
     let left = slice (p .place .at) (p .end) block in
     let all : take (q .end) block′ ≡ left ++ new =
-    sym (take-append-drop kept (take (q .end) block′)) ∙ rw (take-take kept (q .end) block′ (omega (arith, t .end)), t .kept) in
+    sym (take-append-drop kept (take (q .end) block′))
+    ∙ rw (take-take kept (q .end) block′ (omega (arith, t .end)), t .kept) in
     let fed : Fed (p .place .sheet) (left ++ new) series (q .place) series′ text = rw (← all) (t .fed) in
     let next = reached-block new (w .reached) fed in
     record { input = w .input ++ new; out = w .out ++ take (q .place .filled) text; reached = rw (← all) at next }
 
 -- what is printed last ends the run
-pub run-ends : (status : Status) {input out kept text : List ℕ} {state : State} → Reached input out state kept → text ≡ last status state kept → Ran status
+pub run-ends : (status : Status) {input out kept text : List ℕ} {state : State} → Reached input out state kept
+    → text ≡ last status state kept → Ran status
 run-ends Done {input} {out} {text = text} w e = record { input = input; out = out ++ text; is = reached-end w e }
-run-ends Reading {input} {out} w e = record { input = input; out = out; is = record { state = _; kept = _; reached = w } }
-run-ends ReadFailed {input} {out} w e = record { input = input; out = out; is = record { state = _; kept = _; reached = w } }
+run-ends Reading {input} {out} w e =
+    record { input = input; out = out; is = record { state = _; kept = _; reached = w } }
+run-ends ReadFailed {input} {out} w e =
+    record { input = input; out = out; is = record { state = _; kept = _; reached = w } }
 run-ends WriteFailed {input} {out} w e = record { input = input; out = out; is = tt }

@@ -49,7 +49,8 @@ pub record Begun (input out : List ℕ) : Type 0 where
   pub kept : List ℕ
   pub reached : Reached input out state kept
 
--- Where all was read and written, the output is the sheet of the input; after a failed read it is the beginning of one, with no last line.
+-- Where all was read and written, the output is the sheet of the input;
+-- after a failed read it is the beginning of one, with no last line.
 abbrev pub Outcome : Status → List ℕ → List ℕ → Type 0
 Outcome Done input out = out ≡ sheet input
 Outcome Reading input out = Begun input out

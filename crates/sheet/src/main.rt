@@ -1,8 +1,10 @@
-// The sheet program: requests on standard input, answers on standard output. All that it reads and prints is the work of `sheet_blocks` and the
-// crates below it; here are the buffers, and the loop that reads blocks, feeds them and writes.
+// The sheet program: requests on standard input, answers on standard output. All
+// that it reads and prints is the work of `sheet_blocks` and the crates below it;
+// here are the buffers, and the loop that reads blocks, feeds them and writes.
 //
-// No contract of the kit says which bytes a call of C's reads or writes. That the block holds what came, and that the bytes handed over are
-// written, is assumed here, and tested by tools/sheet_compare; what is done with the bytes in the buffers is proved.
+// No contract of the kit says which bytes a call of C's reads or writes. That the block
+// holds what came, and that the bytes handed over are written, is assumed here, and
+// tested by tools/sheet_compare; what is done with the bytes in the buffers is proved.
 use libc::STDIN_FILENO;
 use libc::STDOUT_FILENO;
 use sheet_blocks::Place;
@@ -38,7 +40,8 @@ struct Output {
     taken: bool,
 }
 
-// What is carried from turn to turn: the sheet and its place in the block, where the bytes in the block end, and what was answered last.
+// What is carried from turn to turn: the sheet and its place in the
+// block, where the bytes in the block end, and what was answered last.
 struct Carried {
     place: Place,
     end: usize,
@@ -144,7 +147,8 @@ fn goes_on(status: Status) -> bool
     }
 }
 
-// Moves the bytes that are left to the front of the block, reads once behind them, feeds them all, and writes the answers.
+// Moves the bytes that are left to the front of the block, reads
+// once behind them, feeds them all, and writes the answers.
 fn turn(
     carried: Carried,
     block: &mut [u8],
@@ -154,7 +158,8 @@ fn turn(
     text: &mut [u8],
 ) -> Carried
     requires { ⌜ Carrying carried × Buffers (now block) (now series) (now out) (now work) (now text) ⌝ }
-    ensures { λ r. ⌜ Turned carried (now (block .entry)) (now (series .entry)) r (now (block .exit)) (now (series .exit)) (now (text .exit))
+    ensures { λ r. ⌜ Turned carried (now (block .entry)) (now (series .entry))
+        r (now (block .exit)) (now (series .exit)) (now (text .exit))
         × (now (work .exit) ≡ now (work .entry)) ⌝ }
 {
     let place = carried.place;
@@ -193,8 +198,8 @@ fn first() -> Carried
 // Writes what is printed last: nothing where not all was read and written.
 fn close(carried: Carried, text: &mut [u8]) -> Output
     requires { ⌜ Carrying carried × (cutBytes ≤ length (now text)) ⌝ }
-    ensures { λ r. ⌜ Finished (statusOf (carried .output .taken) (carried .input) (carried .place .sheet .stage)) (carried .place .sheet)
-        (carried .end - carried .place .at) (r .bytes) (now (text .exit)) ⌝ }
+    ensures { λ r. ⌜ Finished (statusOf (carried .output .taken) (carried .input) (carried .place .sheet .stage))
+        (carried .place .sheet) (carried .end - carried .place .at) (r .bytes) (now (text .exit)) ⌝ }
 {
     let place = carried.place;
     let count = sheet_blocks::finish(status(carried), place.sheet, carried.end - place.at, text);

@@ -20,7 +20,8 @@ use Rattle.sheet_blocks.proofs.Strict.{header-reader, price-reader}
 abbrev cut : Counts → List ℕ
 cut counts = broken counts .prints ++ closing (afterBroken counts)
 
-pub ends-waiting : (counts : Counts) (rest : List ℕ) → length rest ≡ 0 → outcome (waiting counts) (lines rest) ≡ closing counts
+pub ends-waiting : (counts : Counts) (rest : List ℕ) → length rest ≡ 0
+    → outcome (waiting counts) (lines rest) ≡ closing counts
 unfolding outcome lines ending
 ends-waiting counts [] e = refl
 ends-waiting counts (b ∷ rest) e = absurd (omega arith)
@@ -29,17 +30,20 @@ pub ends-stopped : (counts : Counts) (rest : List ℕ) → outcome (stopped coun
 unfolding ending
 ends-stopped counts rest = outcome-stopped counts (lines rest)
 
-pub cut-waiting : (counts : Counts) (rest : List ℕ) → (length rest ≡ 0 → ⊥) → length rest < 27 → outcome (waiting counts) (lines rest) ≡ cut counts
+pub cut-waiting : (counts : Counts) (rest : List ℕ) → (length rest ≡ 0 → ⊥) → length rest < 27
+    → outcome (waiting counts) (lines rest) ≡ cut counts
 unfolding outcome ending
 cut-waiting counts [] e h = absurd (e refl)
 cut-waiting counts (b ∷ rest) e h = short-line (header-reader counts) b rest [] (omega arith)
 
-pub cut-collecting : (counts : Counts) (r : Request) (prices : List Float) (rest : List ℕ) → length rest < 13 → outcome (collecting counts r prices) (lines rest) ≡ cut counts
+pub cut-collecting : (counts : Counts) (r : Request) (prices : List Float) (rest : List ℕ) → length rest < 13
+    → outcome (collecting counts r prices) (lines rest) ≡ cut counts
 unfolding outcome lines ending
 cut-collecting counts r prices [] h = refl
 cut-collecting counts r prices (b ∷ rest) h = short-line (price-reader counts r prices) b rest [] (omega arith)
 
 -- where nothing is printed last, no byte is
-pub nothing-last : {status : Status} {sheet : Sheet} {kept : ℕ} {text : List ℕ} → ((state : State) (rest : List ℕ) → last status state rest ≡ [])
+pub nothing-last : {status : Status} {sheet : Sheet} {kept : ℕ} {text : List ℕ}
+    → ((state : State) (rest : List ℕ) → last status state rest ≡ [])
     → Finished status sheet kept 0 text
 nothing-last h = record { within = omega arith; is = λ series rest e. rw (h _ rest) }

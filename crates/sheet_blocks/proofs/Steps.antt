@@ -21,7 +21,8 @@ Comes block p series t at =
 
 module _ {block : List ℕ} {p q : Place} {series series′ : List Float} {text text′ : List ℕ} where
   -- making that step goes onward
-  onward : {t : Step} {at : ℕ} → Stepped t series′ at (p .filled) q text text′ → Comes block p series t at → Well block q → p .at < q .at
+  onward : {t : Step} {at : ℕ} → Stepped t series′ at (p .filled) q text text′
+      → Comes block p series t at → Well block q → p .at < q .at
       → Onward block p series text q series′ text′
   onward made comes well forth =
       record {
@@ -32,16 +33,25 @@ module _ {block : List ℕ} {p q : Place} {series series′ : List Float} {text 
 
   -- a step that gathers as many prices as it has room to print
   pub gathers : {t : Step} {at room : ℕ} → Gathered t series′ at (p .filled) q text text′ room
-      → Comes block p series t at → (p .at < at) × (at ≤ length block) × (room ≤ at + textRoom) → Onward block p series text q series′ text′
+      → Comes block p series t at → (p .at < at) × (at ≤ length block) × (room ≤ at + textRoom)
+      → Onward block p series text q series′ text′
   gathers w comes (forth, within, room) =
       onward (w .made) comes
-      (record { sound = w .sound; within = omega (arith, w .made .place); room = omega (arith, w .few, w .made .place) })
+      (record {
+        sound = w .sound;
+        within = omega (arith, w .made .place);
+        room = omega (arith, w .few, w .made .place);
+      })
       (omega (arith, w .made .place))
 
   -- a step that meets a broken line, and passes the rest of the block
   pub stops : (at : ℕ) → let counts = p .sheet .counts in
-      ((series : List Float) → Stepped (broken counts) series (length block) (p .filled) q text text′) × (q .sheet .stage ≡ Stopped) × (q .filled ≡ p .filled + headBytes)
-      → Comes block p series (broken counts) at → (p .at < length block) × (p .filled + headBytes ≤ length block + textRoom) → Onward block p series text q series′ text′
+      ((series : List Float)
+      → Stepped (broken counts) series (length block) (p .filled) q text text′) × (q .sheet .stage ≡ Stopped)
+      × (q .filled ≡ p .filled + headBytes)
+      → Comes block p series (broken counts) at
+      → (p .at < length block) × (p .filled + headBytes ≤ length block + textRoom)
+      → Onward block p series text q series′ text′
   stops at (made, stage, filled) comes (forth, room) =
       let at-end = made series′ .place in
       onward (made series′) (λ more. comes more ∙ finally-broken (p .sheet .counts) _ _)

@@ -1,5 +1,5 @@
-// The sheet's state and its steps: where a request stands in a block of bytes, a line or a run of prices read, a request that has all its
-// prices answered, and requests carried from block to block.
+// The sheet's state and its steps: where a request stands in a block of bytes, a line or a run of
+// prices read, a request that has all its prices answered, and requests carried from block to block.
 use sheet_columns::Price;
 use sheet_lines::Header;
 use sheet_lines::Request;
@@ -52,7 +52,8 @@ pub struct Run {
     pub whole: bool,
 }
 
-// How the program stands: it reads on; all is read, to the end of the input or to a line that broke its columns; or a read or a write failed.
+// How the program stands: it reads on; all is read, to the end of the
+// input or to a line that broke its columns; or a read or a write failed.
 pub enum Status {
     Reading,
     Done,
@@ -90,7 +91,8 @@ pub fn read_prices(block: &[u8], at: usize, request: Request, got: usize, series
 // A broken line is answered, and nothing more is read.
 pub fn stop(counts: Counts, at: usize, text: &mut [u8], filled: usize) -> Place
     requires { ⌜ filled + headBytes ≤ length (now text) ⌝ }
-    ensures { λ r. ⌜ ((series : List Float) → Stepped (broken counts) series at filled r (now (text .entry)) (now (text .exit)))
+    ensures { λ r. ⌜ ((series : List Float)
+        → Stepped (broken counts) series at filled r (now (text .entry)) (now (text .exit)))
         × (r .sheet .stage ≡ Stage.Stopped) × (r .filled ≡ filled + headBytes) ⌝ }
 {
     sheet_lines::print_head(text, filled, 0, 0, 10, 0);
@@ -117,9 +119,10 @@ fn settle(
 ) -> Place
     requires { ⌜ (request .bars ≤ mostBars) × Lent (now series) (now out) (now work)
         × (filled + headBytes + positionBytes * request .bars ≤ length (now text)) ⌝ }
-    ensures { λ r. ⌜ Stepped (settled counts request (take (request .bars) (now (series .entry)))) (now (series .entry)) at filled r
-        (now (text .entry)) (now (text .exit)) × (r .sheet .stage ≡ Stage.Waiting)
-        × (r .filled ≤ filled + headBytes + positionBytes * request .bars) × (now (work .exit) ≡ now (work .entry)) ⌝ }
+    ensures { λ r. ⌜ Stepped (settled counts request (take (request .bars) (now (series .entry))))
+        (now (series .entry)) at filled r (now (text .entry)) (now (text .exit))
+        × (r .sheet .stage ≡ Stage.Waiting) × (r .filled ≤ filled + headBytes + positionBytes * request .bars)
+        × (now (work .exit) ≡ now (work .entry)) ⌝ }
 {
     let given = sheet_requests::answer(request, series, out, work);
     let end = sheet_lines::print_answer(text, filled, request, given, out);
@@ -147,8 +150,10 @@ fn gather(
 ) -> Place
     requires { ⌜ (got ≤ request .bars) × (request .bars ≤ mostBars) × Lent (now series) (now out) (now work)
         × (filled + headBytes + positionBytes * got ≤ length (now text)) ⌝ }
-    ensures { λ r. ⌜ Gathered (gathered counts request (take got (now (series .entry)))) (now (series .entry)) at filled r
-        (now (text .entry)) (now (text .exit)) (filled + headBytes + positionBytes * got) × (now (work .exit) ≡ now (work .entry)) ⌝ }
+    ensures { λ r. ⌜ Gathered (gathered counts request (take got (now (series .entry))))
+        (now (series .entry)) at filled r (now (text .entry)) (now (text .exit))
+        (filled + headBytes + positionBytes * got)
+        × (now (work .exit) ≡ now (work .entry)) ⌝ }
 {
     if got == request.bars {
         settle(request, counts, at, series, out, work, text, filled)
@@ -173,9 +178,11 @@ fn take_header(
     work: &mut [f64],
     text: &mut [u8],
 ) -> Place
-    requires { ⌜ (place .sheet .stage ≡ Stage.Waiting) × (place .at + 27 ≤ length (now block)) × Well (now block) place
-        × Lent (now series) (now out) (now work) × (length (now block) + textRoom ≤ length (now text)) ⌝ }
-    ensures { λ r. ⌜ Onward (now (block .entry)) place (now (series .entry)) (now (text .entry)) r (now (series .entry)) (now (text .exit))
+    requires { ⌜ (place .sheet .stage ≡ Stage.Waiting) × (place .at + 27 ≤ length (now block))
+        × Well (now block) place × Lent (now series) (now out) (now work)
+        × (length (now block) + textRoom ≤ length (now text)) ⌝ }
+    ensures { λ r. ⌜ Onward (now (block .entry)) place (now (series .entry)) (now (text .entry))
+        r (now (series .entry)) (now (text .exit))
         × (now (work .exit) ≡ now (work .entry)) ⌝ }
 {
     let sheet = place.sheet;
@@ -199,9 +206,11 @@ fn take_prices(
     work: &mut [f64],
     text: &mut [u8],
 ) -> Place
-    requires { ⌜ (place .sheet .stage ≡ Stage.Collecting request got) × (place .at + 13 ≤ length (now block)) × Well (now block) place
-        × Lent (now series) (now out) (now work) × (length (now block) + textRoom ≤ length (now text)) ⌝ }
-    ensures { λ r. ⌜ Onward (now (block .entry)) place (now (series .entry)) (now (text .entry)) r (now (series .exit)) (now (text .exit))
+    requires { ⌜ (place .sheet .stage ≡ Stage.Collecting request got) × (place .at + 13 ≤ length (now block))
+        × Well (now block) place × Lent (now series) (now out) (now work)
+        × (length (now block) + textRoom ≤ length (now text)) ⌝ }
+    ensures { λ r. ⌜ Onward (now (block .entry)) place (now (series .entry)) (now (text .entry))
+        r (now (series .exit)) (now (text .exit))
         × (now (work .exit) ≡ now (work .entry)) ⌝ }
 {
     let sheet = place.sheet;
@@ -235,9 +244,11 @@ pub fn advance(
     work: &mut [f64],
     text: &mut [u8],
 ) -> Place
-    requires { ⌜ (due (place .sheet .stage) ≤ length (now block) - place .at) × Well (now block) place
-        × Lent (now series) (now out) (now work) × (length (now block) + textRoom ≤ length (now text)) ⌝ }
-    ensures { λ r. ⌜ Onward (now (block .entry)) place (now (series .entry)) (now (text .entry)) r (now (series .exit)) (now (text .exit))
+    requires { ⌜ (due (place .sheet .stage) ≤ length (now block) - place .at)
+        × Well (now block) place × Lent (now series) (now out) (now work)
+        × (length (now block) + textRoom ≤ length (now text)) ⌝ }
+    ensures { λ r. ⌜ Onward (now (block .entry)) place (now (series .entry)) (now (text .entry))
+        r (now (series .exit)) (now (text .exit))
         × (now (work .exit) ≡ now (work .entry)) ⌝ }
 {
     let sheet = place.sheet;
@@ -284,7 +295,8 @@ pub fn feed(
     work: &mut [f64],
     text: &mut [u8],
 ) -> Place
-    requires { ⌜ Sound (sheet .stage) × Lent (now series) (now out) (now work) × (length (now block) + textRoom ≤ length (now text)) ⌝ }
+    requires { ⌜ Sound (sheet .stage) × Lent (now series) (now out) (now work)
+        × (length (now block) + textRoom ≤ length (now text)) ⌝ }
     ensures { λ r. ⌜ Fed sheet (now (block .entry)) (now (series .entry)) r (now (series .exit)) (now (text .exit))
         × (now (work .exit) ≡ now (work .entry)) ⌝ }
 {
@@ -346,7 +358,8 @@ fn print_end(sheet: Sheet, kept: usize, text: &mut [u8]) -> usize
     }
 }
 
-// Prints what is printed last, and gives how many bytes: none where not all was read and written, so that no last line follows a failed read.
+// Prints what is printed last, and gives how many bytes: none where not
+// all was read and written, so that no last line follows a failed read.
 pub fn finish(status: Status, sheet: Sheet, kept: usize, text: &mut [u8]) -> usize
     requires { ⌜ (kept < due (sheet .stage)) × (cutBytes ≤ length (now text)) ⌝ }
     ensures { λ r. ⌜ Finished status sheet kept r (now (text .exit)) ⌝ }

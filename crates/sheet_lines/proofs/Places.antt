@@ -14,7 +14,8 @@ use Rattle.sheet_lines.specs.Header.{columned}
 module _ (block : List ℕ) (at w : ℕ) where
   -- columns `from` to `to` of the line that starts at `at`
   pub columns-at : (from to : ℕ) → to ≤ w → slice from to (slice at (at + w) block) ≡ slice (at + from) (at + to) block
-  columns-at from to h = rw (take-drop at to (take (at + w) block), drop-drop, take-take (at + to) (at + w) block (omega arith))
+  columns-at from to h =
+      rw (take-drop at to (take (at + w) block), drop-drop, take-take (at + to) (at + w) block (omega arith))
 
   pub column-at : (i : ℕ) → i < w → getD (slice at (at + w) block) i 0 ≡ getD block (at + i) 0
   column-at i h = rw (getD-drop, getD-take (at + w) block (at + i) 0 (omega arith))

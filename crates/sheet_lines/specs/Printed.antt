@@ -9,7 +9,8 @@ use Rattle.cells.specs.Line.{Line, plusZero}
 use Rattle.sheet_columns.specs.Print.{printField}
 use Rattle.sheet_lines.specs.declared.Request.{Request}
 
--- the bytes of an answer's first line, of a position's line and of the last line, each with its line feed; src/lib.rt has constants of the same numbers
+-- the bytes of an answer's first line, of a position's line and of the last
+-- line, each with its line feed; src/lib.rt has constants of the same numbers
 abbrev pub headBytes : ℕ
 headBytes = 19
 
@@ -37,7 +38,8 @@ positionLines (suc k) f = positionLines k f ++ positionLine (f k)
 
 -- all that a request prints
 unfoldable pub answerText : Request → Answer → Line → List ℕ
-answerText r answer f = headLine (r .desk) (r .rule) (refusalOf answer) (countOf answer) ++ positionLines (countOf answer) f
+answerText r answer f =
+    headLine (r .desk) (r .rule) (refusalOf answer) (countOf answer) ++ positionLines (countOf answer) f
 
 -- the number of refused requests in 12 columns
 unfoldable pub lastLine : ℕ → List ℕ

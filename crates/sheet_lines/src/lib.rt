@@ -35,7 +35,8 @@ pub const LAST_BYTES: usize = 13;
 // Prints an answer's first line from `at` on.
 pub fn print_head(text: &mut [u8], at: usize, desk: u64, rule: u64, refusal: u64, count: u64)
     requires { ⌜ at + headBytes ≤ length (now text) ⌝ }
-    ensures { λ _. ⌜ Adds at (headLine desk rule refusal count) (at + headBytes) (now (text .entry)) (now (text .exit)) ⌝ }
+    ensures { λ _. ⌜ Adds at (headLine desk rule refusal count) (at + headBytes)
+        (now (text .entry)) (now (text .exit)) ⌝ }
 {
     sheet_columns::print_field(text, at, 4, desk);
     sheet_columns::print_field(text, at + 4, 4, rule);
@@ -47,7 +48,8 @@ pub fn print_head(text: &mut [u8], at: usize, desk: u64, rule: u64, refusal: u64
 // Prints a position's line from `at` on: a sign and a digit in 4 columns.
 fn print_cell(text: &mut [u8], at: usize, sign: u8, digit: u8)
     requires { ⌜ at + positionBytes ≤ length (now text) ⌝ }
-    ensures { λ _. ⌜ Adds at (32 ∷ 32 ∷ sign ∷ digit ∷ 10 ∷ []) (at + positionBytes) (now (text .entry)) (now (text .exit)) ⌝ }
+    ensures { λ _. ⌜ Adds at (32 ∷ 32 ∷ sign ∷ digit ∷ 10 ∷ []) (at + positionBytes)
+        (now (text .entry)) (now (text .exit)) ⌝ }
 {
     text[at] = b' ';
     text[at + 1] = b' ';
@@ -73,7 +75,8 @@ fn print_position(text: &mut [u8], at: usize, x: f64)
 // Prints the positions at the first `count` bars from `at` on.
 fn print_positions(text: &mut [u8], at: usize, cells: &[f64], count: usize)
     requires { ⌜ (at + positionBytes * count ≤ length (now text)) × (count ≤ length (now cells)) ⌝ }
-    ensures { λ _. ⌜ Adds at (positionLines count (line (now (cells .entry)))) (at + positionBytes * count) (now (text .entry)) (now (text .exit)) ⌝ }
+    ensures { λ _. ⌜ Adds at (positionLines count (line (now (cells .entry)))) (at + positionBytes * count)
+        (now (text .entry)) (now (text .exit)) ⌝ }
 {
     let mut i = 0;
     while i < count {
@@ -99,8 +102,10 @@ pub fn print_answer(
     given: Answer,
     cells: &[f64],
 ) -> usize
-    requires { ⌜ (countOf given ≤ length (now cells)) × (at + headBytes + positionBytes * countOf given ≤ length (now text)) ⌝ }
-    ensures { λ r. ⌜ (Adds at (answerText request given (line (now (cells .entry)))) r (now (text .entry)) (now (text .exit))) × (r ≡ at + headBytes + positionBytes * countOf given) ⌝ }
+    requires { ⌜ (countOf given ≤ length (now cells))
+        × (at + headBytes + positionBytes * countOf given ≤ length (now text)) ⌝ }
+    ensures { λ r. ⌜ Adds at (answerText request given (line (now (cells .entry)))) r
+        (now (text .entry)) (now (text .exit)) × (r ≡ at + headBytes + positionBytes * countOf given) ⌝ }
 {
     let count = calls::count_of(given);
     print_head(

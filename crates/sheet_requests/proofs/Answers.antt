@@ -101,21 +101,25 @@ andThen-most (Refused q) next h = record { few = omega arith }
 windowed-most : {n : ℕ} (l : ℕ) (windows : List ℕ) (next : Answer) → AtMost n next → AtMost n (windowed l windows next)
 unfolding windowed
 windowed-most l windows next h =
-    unless-most (all (λ k. leb k longestWindow) windows) WindowTooLong (emptyIf (anyZero (l ∷ windows)) next) (emptyIf-most (anyZero (l ∷ windows)) next h)
+    unless-most (all (λ k. leb k longestWindow) windows) WindowTooLong (emptyIf (anyZero (l ∷ windows)) next)
+    (emptyIf-most (anyZero (l ∷ windows)) next h)
 
 answered-most : (ok : Float → Bool) (s : List Float) (windows : List ℕ) (output : ℕ) (work : List ℕ)
     → AtMost (length s) (answered ok s windows output work)
 unfolding answered checked windowed
 answered-most ok s windows output work =
-    andThen-most (checked ok (s ∷ []) (output ∷ []) work) _ (windowed-most (length s) windows (Cells (length s)) (all-most (length s)))
+    andThen-most (checked ok (s ∷ []) (output ∷ []) work) _
+    (windowed-most (length s) windows (Cells (length s)) (all-most (length s)))
 
 double-most : (s : List Float) (n m output : ℕ) → AtMost (length s) (doubleAnswer s n m output)
 unfolding doubleAnswer
 double-most s n m output =
     andThen-most (checked accepted (s ∷ []) (output ∷ []) []) _
-    (windowed-most (length s) (n ∷ m ∷ []) _ (unless-most (ltb n m) WindowsOutOfOrder (Cells (length s)) (all-most (length s))))
+    (windowed-most (length s) (n ∷ m ∷ []) _
+    (unless-most (ltb n m) WindowsOutOfOrder (Cells (length s)) (all-most (length s))))
 
-byRule-most : {n : ℕ} (rule : ℕ) (one two three : Answer) → AtMost n one → AtMost n two → AtMost n three → AtMost n (byRule rule one two three)
+byRule-most : {n : ℕ} (rule : ℕ) (one two three : Answer) → AtMost n one → AtMost n two → AtMost n three
+    → AtMost n (byRule rule one two three)
 byRule-most {n} rule one two three a b c = go (eqb rule 1) (eqb rule 2)
   where
     go : (s t : Bool) → AtMost n (cond s one (cond t two three))
@@ -126,4 +130,5 @@ byRule-most {n} rule one two three a b c = go (eqb rule 1) (eqb rule 2)
 pub rule-most : (r : Request) (prices : List Float) → countOf (ruleAnswer r prices) ≤ length prices
 unfolding ruleAnswer
 rule-most r prices =
-    byRule-most (r .rule) _ _ _ (answered-most _ prices _ mostBars _) (double-most prices (r .n) (r .m) mostBars) (answered-most _ prices _ mostBars _) .few
+    byRule-most (r .rule) _ _ _ (answered-most _ prices _ mostBars _) (double-most prices (r .n) (r .m) mostBars)
+    (answered-most _ prices _ mostBars _) .few

@@ -18,7 +18,8 @@ use Rattle.sheet_lines.specs.declared.Request.{Request}
 use Rattle.sheet_lines.specs.Header.{mostBars}
 use Rattle.values.specs.Accepted.{accepted}
 
--- The program lends an output cell and eight work cells for each of the most bars; src/lib.rt has a constant of the same number.
+-- The program lends an output cell and eight work cells for each
+-- of the most bars; src/lib.rt has a constant of the same number.
 abbrev pub workCells : ℕ
 workCells = 8 * mostBars
 
@@ -49,6 +50,7 @@ ruleCleared r prices a =
     byRule (r .rule) (clearedOf a (8 * length prices)) 0 (clearedOf a (8 * length prices))
 
 -- The contract of a request's call on these prices.
-pub record RequestCall (r : Request) (prices out₀ work₀ : List Float) (a : Answer) (out₁ work₁ : List Float) : Type 0 where
+pub record RequestCall (r : Request) (prices out₀ work₀ : List Float) (a : Answer)
+    (out₁ work₁ : List Float) : Type 0 where
   pub call : Call (ruleAnswer r prices) (ruleLine r prices) out₀ a out₁
   pub work : work₁ ≡ written (ruleCleared r prices a) (λ i. plusZero) work₀

@@ -33,8 +33,8 @@ unfolding sheet outcome lines gathered ending closing
     add sub div ofInt lt eq le toBits
 example = refl
 
--- no input; a request with no bars; windows out of order and then a good request of one bar; an input that ends inside a request;
--- a line that breaks its columns after a good request
+-- no input; a request with no bars; windows out of order and then a good request of one bar;
+-- an input that ends inside a request; a line that breaks its columns after a good request
 sheets :
     map (λ input. sheet (bytes input))
     (

@@ -69,9 +69,10 @@ impl Counts {
 
 // Answers the request by its rule, on the first prices of the series; the positions are in `out`.
 pub fn answer(request: Request, series: &[f64], out: &mut [f64], work: &mut [f64]) -> Answer
-    requires { ⌜ (request .bars ≤ length (now series)) × (length (now out) ≡ mostBars) × (length (now work) ≡ workCells) ⌝ }
-    ensures { λ r. ⌜ RequestCall request (take (request .bars) (now (series .entry))) (now (out .entry)) (now (work .entry))
-        r (now (out .exit)) (now (work .exit)) ⌝ }
+    requires { ⌜ (request .bars ≤ length (now series))
+        × (length (now out) ≡ mostBars) × (length (now work) ≡ workCells) ⌝ }
+    ensures { λ r. ⌜ RequestCall request (take (request .bars) (now (series .entry)))
+        (now (out .entry)) (now (work .entry)) r (now (out .exit)) (now (work .exit)) ⌝ }
 {
     let bars = request.bars;
     let prices = &series[..bars];

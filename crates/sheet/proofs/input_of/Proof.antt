@@ -38,7 +38,8 @@ count c =
     let start = c .before .before .before in
     let a = start .args in
     let got = toZ-ofZ (start .fits .got) in
-    counted (a .got) (length (now (a .room))) (c .count .result) (rw got at (c .before .if1 .left)) (rw got at (c .count .ensures .1))
+    counted (a .got) (length (now (a .room))) (c .count .result) (rw got at (c .before .if1 .left))
+    (rw got at (c .count .ensures .1))
 
 returns : tie.Need-returns
 returns c =

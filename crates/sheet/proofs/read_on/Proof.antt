@@ -10,8 +10,10 @@ use Rattle.sheet.proofs.read_on.Tie as tie
 returns : tie.Need-returns
 returns c =
     let read = c .before .before in
-    let a = read .before .before .before .args in
-    (omega (arith, rw (length-take, length-drop) at (read .read-some .ensures)), take-at (take (a .kept) (now (a .block))) _ (a .kept) (length-take-le (a .kept) (now (a .block)) (omega arith)))
+    let a = read .before .before .before .args in (
+      omega (arith, rw (length-take, length-drop) at (read .read-some .ensures)),
+      take-at (take (a .kept) (now (a .block))) _ (a .kept) (length-take-le (a .kept) (now (a .block)) (omega arith)),
+    )
 
 pub read-on-spec : {M : Type 1} → statement M
 read-on-spec =

@@ -22,10 +22,13 @@ abbrev μ-loop : tie.MeasureT-loop
 loop-holds : tie.Need-loop-holds Inv-loop μ-loop
 loop-holds c =
     let begin = c .before .before .before .before .before .before in
-    rw (c .first .ensures) (start-carrying, begin .pre, none-come (now (begin .args .block)) (now (begin .args .series)))
+    rw (c .first .ensures)
+    (start-carrying, begin .pre, none-come (now (begin .args .block)) (now (begin .args .series)))
 
 loop-less : tie.Need-loop-less Inv-loop μ-loop
-loop-less c = falls-down _ (c .before .before .before .before .before .before .before .before .before .before .before .before .before .before .before .before .before .before .before .loop-test .taken)
+loop-less c =
+    let turn = c .before .before .before .before .before .before .before .before .before .before in
+    falls-down _ (turn .before .before .before .before .before .before .before .before .before .loop-test .taken)
 
 loop-again : tie.Need-loop-again Inv-loop μ-loop
 loop-again c =
@@ -50,7 +53,8 @@ returns c =
     let loop = close .before .before .before .loop in
     let carried = loop .carried in
     let rest = slice (carried .place .at) (carried .end) (loop .block) in
-    let long = length-slice (carried .place .at) (carried .end) (loop .block) (omega (arith, loop .inv .0 .within, loop .inv .1 .block-long)) in
+    let long = length-slice (carried .place .at) (carried .end) (loop .block)
+    (omega (arith, loop .inv .0 .within, loop .inv .1 .block-long)) in
     rw (c .status2 .ensures) (run-ends _ (loop .inv .2 .reached) (close .close .ensures .is (loop .series) rest long))
 
 pub run-spec : {M : Type 1} → statement M
@@ -63,11 +67,15 @@ run-spec =
     loop-holds
     (λ c κs. search needs)  -- status-requires
     (λ c κs. search needs)  -- goes-on-requires
-    (λ c κs. (c .before .before .before .before .before .before .before .before .before .loop .inv .0, c .before .before .before .before .before .before .before .before .before .loop .inv .1))  -- turn-requires
+    (λ c κs. (
+      c .before .before .before .before .before .before .before .before .before .loop .inv .0,
+      c .before .before .before .before .before .before .before .before .before .loop .inv .1,
+    ))  -- turn-requires
     (λ c. search needs)  -- sub-turns
     loop-less
     loop-again
-    (λ c κs. (c .before .before .loop .inv .0, omega (arith, c .before .before .loop .inv .1 .text-long)))  -- close-requires
+    (λ c κs.
+    (c .before .before .loop .inv .0, omega (arith, c .before .before .loop .inv .1 .text-long)))  -- close-requires
     (λ c κs. search needs)  -- status-requires-2
     (λ c. search needs)  -- same-length
     (λ c. search needs)  -- same-length-2

@@ -10,7 +10,9 @@ use Rattle.sheet.proofs.turn.Statement.{statement}
 use Rattle.sheet.proofs.turn.Tie as tie
 
 -- what was left and what came lies in the block
-within : (c : tie.After-count-of) → c .before .before .before .before .before .before .before .keep .result + c .count-of .result ≤ length (c .before .before .before .read-on .last .0)
+within : (c : tie.After-count-of) →
+    let read = c .before .before .before in
+    read .before .before .before .before .keep .result + c .count-of .result ≤ length (read .read-on .last .0)
 within c =
     let read = c .before .before .before .read-on in
     omega (arith, read .kept .0, rw (← c .count-of .ensures) at (read .ensures .0))
@@ -18,7 +20,8 @@ within c =
 feed-requires : tie.Need-feed-requires
 feed-requires c κs =
     let read = c .before .before .before .before .before in
-    let start = read .before .before .before .before .before .before .before .before .before .before .before .before .before .before .before in
+    let keep = read .before .before .before .before .before .before .before in
+    let start = keep .before .before .before .before .before .before .before .before in
     let lent = start .pre .1 in (
       start .pre .0 .between .sound,
       lent .lent,
@@ -26,14 +29,20 @@ feed-requires c κs =
     )
 
 -- what is left is in what was fed, and what was printed in the text
-left : (c : tie.After-feed) → c .feed .result .at ≤ c .before .before .before .before .before .before .before .before .before .before .before .before .before .keep .result + c .before .before .before .before .before .before .count-of .result
-left c = rw (length-take-le _ _ (within (c .before .before .before .before .before .before))) at (c .feed .ensures .0 .well .within)
+left : (c : tie.After-feed) →
+    let count = c .before .before .before .before .before .before in
+    let keep = count .before .before .before .before .before .before .before in
+    c .feed .result .at ≤ keep .keep .result + count .count-of .result
+left c =
+    let count = c .before .before .before .before .before .before in
+    rw (length-take-le _ _ (within count)) at (c .feed .ensures .0 .well .within)
 
 write-text-requires : tie.Need-write-text-requires
 write-text-requires c κs =
     let feed = c .before .before .before .before .before .before .before .before .before in
     let read = feed .before .before .before .before .before .before in
-    let lent = read .before .before .before .before .before .before .before .before .before .before .before .before .before .before .before .pre .1 in
+    let keep = read .before .before .before .before .before .before .before in
+    let lent = keep .before .before .before .before .before .before .before .before .pre .1 in
     omega (
       arith,
       left feed,

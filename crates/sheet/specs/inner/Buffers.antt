@@ -1,4 +1,5 @@
--- The program's buffers: a block of input, what is lent for one request, and room for the text of a block. Assumes nothing.
+-- The program's buffers: a block of input, what is lent for one
+-- request, and room for the text of a block. Assumes nothing.
 use mathlib.Core.Path.{_≡_}
 use mathlib.Core.List.{List}
 use Prim.Native.Nat.{ℕ, _+_}

@@ -29,8 +29,10 @@ pub record Carrying (c : Carried) : Type 0 where
   pub some : c .place .at ≤ c .end
   pub within : c .end ≤ blockBytes
 
--- A turn: the bytes that were left stand at the front of the block, so many came behind them, all of them are fed, and the text is handed over.
-pub record Turned (p : Carried) (block : List ℕ) (series : List Float) (q : Carried) (block′ : List ℕ) (series′ : List Float) (text : List ℕ) : Type 0 where
+-- A turn: the bytes that were left stand at the front of the block, so
+-- many came behind them, all of them are fed, and the text is handed over.
+pub record Turned (p : Carried) (block : List ℕ) (series : List Float) (q : Carried) (block′ : List ℕ)
+    (series′ : List Float) (text : List ℕ) : Type 0 where
   pub kept : take (p .end - p .place .at) block′ ≡ slice (p .place .at) (p .end) block
   pub end : q .end ≡ p .end - p .place .at + came (q .input)
   pub fed : Fed (p .place .sheet) (take (q .end) block′) series (q .place) series′ text

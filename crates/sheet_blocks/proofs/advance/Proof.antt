@@ -1,4 +1,5 @@
--- `advance` meets its contract: the stage picks the step, and where it is stopped nothing more is read. Assumes nothing.
+-- `advance` meets its contract: the stage picks the step, and
+-- where it is stopped nothing more is read. Assumes nothing.
 use mathlib.Core.Path.{refl}
 use native.Mathlib.Omega.{arith}
 use borrow.Author.Needs.{needs}
@@ -28,7 +29,11 @@ returns-3 c =
     let room = rw told at (start .pre .1 .room) in (
       record {
         same = λ more. rw (told, outcome-stopped, outcome-stopped);
-        well = record { sound = rw told tt; within = omega arith; room = rw told (omega (arith, start .pre .1 .within)) };
+        well = record {
+          sound = rw told tt;
+          within = omega arith;
+          room = rw told (omega (arith, start .pre .1 .within));
+        };
         forth = omega arith;
       },
       refl,

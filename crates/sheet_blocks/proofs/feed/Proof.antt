@@ -21,7 +21,11 @@ loop-holds c =
     let start = c .before .before .before .before .before in
     record {
       same = λ more. refl;
-      well = record { sound = start .pre .0; within = omega arith; room = rw zero-add (owed-few (start .args .sheet .stage) (start .pre .0)) };
+      well = record {
+        sound = start .pre .0;
+        within = omega arith;
+        room = rw zero-add (owed-few (start .args .sheet .stage) (start .pre .0));
+      };
       lent = start .pre .1;
       clear = refl;
       long = refl;
@@ -32,8 +36,12 @@ advance-requires c κs =
     let test = c .before .before .before .before in
     let at = test .before .before .before in
     let start = at .before .before .before .before .before .before in
-    let inv = at .loop .inv in
-    (rw (← test .before .before .wanted .ensures) (test .if1 .taken), inv .well, inv .lent, rw (inv .long) (start .pre .2))
+    let inv = at .loop .inv in (
+      rw (← test .before .before .wanted .ensures) (test .if1 .taken),
+      inv .well,
+      inv .lent,
+      rw (inv .long) (start .pre .2),
+    )
 
 loop-less : tie.Need-loop-less Inv-loop μ-loop
 loop-less c =
@@ -61,8 +69,14 @@ loop-again c =
 
 returns : tie.Need-returns Inv-loop μ-loop
 returns c =
-    let inv = c .before .before .before .loop .inv in
-    (record { same = inv .same; well = inv .well; few = rw (← c .before .before .wanted .ensures) (c .if1 .left) }, inv .clear)
+    let inv = c .before .before .before .loop .inv in (
+      record {
+        same = inv .same;
+        well = inv .well;
+        few = rw (← c .before .before .wanted .ensures) (c .if1 .left);
+      },
+      inv .clear,
+    )
 
 pub feed-spec : {M : Type 1} → statement M
 feed-spec =

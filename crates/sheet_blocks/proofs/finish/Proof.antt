@@ -14,7 +14,8 @@ finish-spec =
     (λ c. search needs)  -- enum-told-3
     (λ c. search needs)  -- enum-told-4
     (λ c. search needs)  -- same-length
-    (λ c. rw (c .before .before .before .before .enum-told .given .1) (c .before .before .print-end .ensures))  -- returns
+    (λ c. rw (c .before .before .before .before .enum-told .given .1)
+    (c .before .before .print-end .ensures))  -- returns
     (λ c. nothing-last (λ state rest. rw (c .enum-told2 .given .1)))  -- returns-2
     (λ c. nothing-last (λ state rest. rw (c .enum-told3 .given .1)))  -- returns-3
     (λ c. nothing-last (λ state rest. rw (c .enum-told4 .given .1)))  -- returns-4

@@ -12,7 +12,8 @@ returns c =
     let test = print .before .before in
     record {
       within = omega (arith, print .print .kept .1 .0, test .before .before .before .before .before .pre .1);
-      is = λ series rest e. print .print .ensures .text ∙ rw (test .before .enum-told .given .1, ends-waiting _ rest (e ∙ test .if1 .taken));
+      is = λ series rest e. print .print .ensures .text
+          ∙ rw (test .before .enum-told .given .1, ends-waiting _ rest (e ∙ test .if1 .taken));
     }
 
 returns-2 : tie.Need-returns-2
@@ -23,7 +24,8 @@ returns-2 c =
     let few = rw told at (test .before .before .before .before .before .pre .0) in
     record {
       within = omega (arith, print .print-cut .kept .0, test .before .before .before .before .before .pre .1);
-      is = λ series rest e. print .print-cut .ensures ∙ rw (told, cut-waiting _ rest (λ z. test .if1 .left (rw e at z)) (rw e few));
+      is = λ series rest e. print .print-cut .ensures
+          ∙ rw (told, cut-waiting _ rest (λ z. test .if1 .left (rw e at z)) (rw e few));
     }
 
 returns-3 : tie.Need-returns-3
@@ -41,7 +43,8 @@ returns-4 c =
     let print = c .before .before in
     record {
       within = omega (arith, print .print2 .kept .1 .0, print .before .before .before .before .before .before .pre .1);
-      is = λ series rest e. print .print2 .ensures .text ∙ rw (print .before .before .enum-told3 .given .1, ends-stopped _ rest);
+      is = λ series rest e. print .print2 .ensures .text
+          ∙ rw (print .before .before .enum-told3 .given .1, ends-stopped _ rest);
     }
 
 pub print-end-spec : {M : Type 1} → statement M

@@ -14,11 +14,16 @@ use Rattle.sheet_blocks.proofs.settle.Statement.{statement}
 use Rattle.sheet_blocks.proofs.settle.Tie as tie
 
 -- there are no more positions than prices
-few : (c : tie.After-answer) → countOf (c .answer .result) ≤ c .before .before .before .before .before .before .before .args .request .bars
+few : (c : tie.After-answer)
+    → countOf (c .answer .result) ≤ c .before .before .before .before .before .before .before .args .request .bars
 few c =
     let a = c .before .before .before .before .before .before .before .args in
     let prices = take (a .request .bars) (now (a .series)) in
-    omega (arith, rw (← c .answer .ensures .call .answer) at (rule-most (a .request) prices), length-take-le (a .request .bars) (now (a .series)) (omega arith))
+    omega (
+      arith,
+      rw (← c .answer .ensures .call .answer) at (rule-most (a .request) prices),
+      length-take-le (a .request .bars) (now (a .series)) (omega arith),
+    )
 
 answer-requires : tie.Need-answer-requires
 answer-requires c κs =
@@ -36,7 +41,11 @@ returns c =
     let f = ruleLine (a .request) (take (a .request .bars) (now (a .series))) in (
       record {
         state = rw (c .after .ensures, call .answer);
-        text = rw (← call .answer, ← text-same (a .request) (given .answer .result) f (now (a .out)) (omega arith), ← call .cells) (print .print-answer .ensures .0);
+        text = rw (
+          ← call .answer,
+          ← text-same (a .request) (given .answer .result) f (now (a .out)) (omega arith),
+          ← call .cells,
+        ) (print .print-answer .ensures .0);
         place = refl;
       },
       refl,

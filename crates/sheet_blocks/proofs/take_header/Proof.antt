@@ -1,4 +1,5 @@
--- `take_header` meets its contract: the line is a request, which then gathers its prices, or it is broken. Assumes nothing.
+-- `take_header` meets its contract: the line is a request, which
+-- then gathers its prices, or it is broken. Assumes nothing.
 use mathlib.Core.Path.{refl, sym, _∙_}
 use Prim.Native.Nat.{_+_}
 use native.Mathlib.Omega.{arith}
@@ -20,7 +21,8 @@ read : (c : tie.After-read-header) →
 read c more =
     let start = c .before .before .before .before .before .before .before .before in
     let p = start .args .place in
-    rw (start .pre .0, c .read-header .ensures) (line-at (header-reader (p .sheet .counts)) (now (start .args .block)) more (p .at) (start .pre .1))
+    rw (start .pre .0, c .read-header .ensures)
+    (line-at (header-reader (p .sheet .counts)) (now (start .args .block)) more (p .at) (start .pre .1))
 
 returns : tie.Need-returns
 returns c =
@@ -28,8 +30,11 @@ returns c =
     let told = stop .before .before in
     let header = told .before .before in
     let start = header .before .before .before .before .before .before .before .before in
-    let room = rw (start .pre .0) at (start .pre .2 .room) in
-    (stops (start .args .place .at + 27) (stop .stop .ensures) (λ more. read header more ∙ rw (told .enum-told .given .1)) (omega arith), refl)
+    let room = rw (start .pre .0) at (start .pre .2 .room) in (
+      stops (start .args .place .at + 27) (stop .stop .ensures)
+          (λ more. read header more ∙ rw (told .enum-told .given .1)) (omega arith),
+      refl,
+    )
 
 gather-requires : tie.Need-gather-requires
 gather-requires c κs =

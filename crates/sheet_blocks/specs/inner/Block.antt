@@ -15,8 +15,11 @@ use Rattle.sheet_blocks.specs.inner.Place.{stateOf, due, Sound}
 use Rattle.sheet_blocks.specs.inner.Onward.{Well, total}
 
 -- A block was read up to where too few bytes for a line are left.
-pub record Fed (sheet : Sheet) (block : List ℕ) (series : List Float) (q : Place) (series′ : List Float) (text : List ℕ) : Type 0 where
-  pub same : (more : List ℕ) → outcome (stateOf (sheet .stage) (sheet .counts) series) (lines (block ++ more)) ≡ total block q series′ text more
+pub record Fed (sheet : Sheet) (block : List ℕ) (series : List Float) (q : Place) (series′ : List Float)
+    (text : List ℕ) : Type 0 where
+  pub same : (more : List ℕ)
+      → outcome (stateOf (sheet .stage) (sheet .counts) series) (lines (block ++ more))
+      ≡ total block q series′ text more
   pub well : Well block q
   pub few : length block - q .at < due (q .sheet .stage)
 

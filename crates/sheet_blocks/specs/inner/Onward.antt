@@ -30,10 +30,12 @@ pub record Well (block : List ℕ) (p : Place) : Type 0 where
 -- all that is printed in the end: the text so far, and what comes of the rest of the block and of what follows it
 abbrev pub total : List ℕ → Place → List Float → List ℕ → List ℕ → List ℕ
 total block p series text more =
-    take (p .filled) text ++ outcome (stateOf (p .sheet .stage) (p .sheet .counts) series) (lines (drop (p .at) block ++ more))
+    take (p .filled) text ++ outcome (stateOf (p .sheet .stage) (p .sheet .counts) series)
+    (lines (drop (p .at) block ++ more))
 
 -- From p to q nothing is lost: all that is printed in the end is the same, whatever follows the block.
-pub record Onward (block : List ℕ) (p : Place) (series : List Float) (text : List ℕ) (q : Place) (series′ : List Float) (text′ : List ℕ) : Type 0 where
+pub record Onward (block : List ℕ) (p : Place) (series : List Float) (text : List ℕ) (q : Place) (series′ : List Float)
+    (text′ : List ℕ) : Type 0 where
   pub same : (more : List ℕ) → total block p series text more ≡ total block q series′ text′ more
   pub well : Well block q
   pub forth : p .at < q .at

@@ -1,4 +1,5 @@
--- Where a request stands in a block of bytes, in the program's numbers and buffers, and what reading its prices promises. Assumes nothing.
+-- Where a request stands in a block of bytes, in the program's numbers
+-- and buffers, and what reading its prices promises. Assumes nothing.
 use mathlib.Core.Path.{_≡_}
 use mathlib.Core.Bool.{true, cond}
 use mathlib.Core.List.{List, _++_}
@@ -57,15 +58,20 @@ pub record Stepped (t : Step) (series : List Float) (at filled : ℕ) (r : Place
   pub place : r .at ≡ at
 
 -- The step t is made, and what it printed and what is owed has room.
-pub record Gathered (t : Step) (series : List Float) (at filled : ℕ) (r : Place) (old now : List ℕ) (room : ℕ) : Type 0 where
+pub record Gathered (t : Step) (series : List Float) (at filled : ℕ) (r : Place) (old now : List ℕ)
+    (room : ℕ) : Type 0 where
   pub made : Stepped t series at filled r old now
   pub sound : Sound (r .sheet .stage)
   pub few : r .filled + owed (r .sheet .stage) ≤ room
 
--- The lines from `at` on are read as prices of the request, of which there were `got`, up to where the run ends; or one of them is broken.
-pub record Ran (block : List ℕ) (at : ℕ) (r : Request) (got : ℕ) (old : List Float) (run : Run) (now : List Float) : Type 0 where
-  pub same : (counts : Counts) (more : List ℕ) → outcome (collecting counts r (take got old)) (lines (drop at block ++ more))
-      ≡ finally (cond (run .whole) (gathered counts r (take (run .got) now)) (broken counts)) (lines (drop (run .at) block ++ more))
+-- The lines from `at` on are read as prices of the request, of which
+-- there were `got`, up to where the run ends; or one of them is broken.
+pub record Ran (block : List ℕ) (at : ℕ) (r : Request) (got : ℕ) (old : List Float) (run : Run)
+    (now : List Float) : Type 0 where
+  pub same : (counts : Counts) (more : List ℕ)
+      → outcome (collecting counts r (take got old)) (lines (drop at block ++ more))
+      ≡ finally (cond (run .whole) (gathered counts r (take (run .got) now)) (broken counts))
+      (lines (drop (run .at) block ++ more))
   pub pace : run .at ≡ at + 13 * (run .got - got)
   pub forth : run .whole ≡ true → got < run .got
   pub most : run .got ≤ r .bars

@@ -1,4 +1,5 @@
--- `answer` meets its contract: the rule's number picks the rule, whose answer, cells and work these are. Assumes nothing.
+-- `answer` meets its contract: the rule's number picks the rule,
+-- whose answer, cells and work these are. Assumes nothing.
 use mathlib.Core.Path.{refl, sym}
 use native.Mathlib.Omega.{arith}
 use borrow.Author.Needs.{needs}
@@ -19,7 +20,8 @@ returns-2 c =
     let rule = c .before .before in
     let test = rule .before .before in
     let start = test .before .before .before .before .before .before .before .before in
-    by-double (test .before .before .if1 .left) (test .if2 .taken) (rw (start .pre .1) at (rule .double-sma-positions .ensures)) refl
+    by-double (test .before .before .if1 .left) (test .if2 .taken)
+    (rw (start .pre .1) at (rule .double-sma-positions .ensures)) refl
 
 returns-3 : tie.Need-returns-3
 returns-3 c =
