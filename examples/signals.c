@@ -29,12 +29,14 @@ int main(void)
     print_cells("smoothing by 0.25", tegbalowu_exponential_smoothing(prices, BARS, 0.25, cells, BARS), cells);
 
     tegbalowu_answer means = tegbalowu_tick_mean(prices, BARS, 2, ticks, BARS);
-    printf("tick mean of 2: refusal %llu, count %llu:", (unsigned long long)means.refusal, (unsigned long long)means.count);
+    printf("tick mean of 2: refusal %llu, count %llu:",
+           (unsigned long long)means.refusal, (unsigned long long)means.count);
     for (uint64_t i = 0; i < means.count; i++)
         printf(" %lld", (long long)ticks[i]);
     printf("\n");
 
-    print_cells("one average of 2", tegbalowu_single_sma_positions(prices, BARS, 2, cells, BARS, work, 8 * BARS), cells);
+    print_cells("one average of 2",
+                tegbalowu_single_sma_positions(prices, BARS, 2, cells, BARS, work, 8 * BARS), cells);
     print_cells("averages of 1 and 2", tegbalowu_double_sma_positions(prices, BARS, 1, 2, cells, BARS), cells);
 
     print_cells("sma of 0", tegbalowu_sma(prices, BARS, 0, cells, BARS), cells);

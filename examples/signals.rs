@@ -40,7 +40,9 @@ fn tick_mean<'a>(series: &[f64], n: usize, out: &'a mut [i64]) -> Cells<'a, i64>
 
 fn single_sma_positions<'a>(series: &[f64], n: usize, out: &'a mut [f64], work: &mut [f64]) -> Cells<'a, f64> {
     let (to, room) = (out.as_mut_ptr(), out.len());
-    let answer = unsafe { tegbalowu_single_sma_positions(series.as_ptr(), series.len(), n, to, room, work.as_mut_ptr(), work.len()) };
+    let (spare, spare_len) = (work.as_mut_ptr(), work.len());
+    let answer =
+        unsafe { tegbalowu_single_sma_positions(series.as_ptr(), series.len(), n, to, room, spare, spare_len) };
     cells(answer, out)
 }
 

@@ -1,5 +1,5 @@
--- Reading so many bytes as a line is the same as reading the input's first line: a line of another length breaks its columns either way.
--- Assumes nothing.
+-- Reading so many bytes as a line is the same as reading the input's first line:
+-- a line of another length breaks its columns either way. Assumes nothing.
 use mathlib.Core.Path.{_≡_, refl, sym, ap, _∙_}
 use mathlib.Core.Bool.{Bool, true, false, not, cond, _&&_, false≢true}
 use mathlib.Core.List.{List, [], _∷_, _++_, append-assoc}
@@ -10,7 +10,8 @@ use lib.Dec.{eqb}
 use lib.ListN.{length, take, drop, getD, take-append-drop, length-drop}
 use lib.Seq.{slice, drop-drop, take-all, take-suc, take-append-le}
 use Rattle.sheet_lines.specs.Header.{columned}
-use Rattle.sheet_lines.proofs.Places.{take-drop}
+use Rattle.cells.proofs.Kept.{take-drop}
+use Rattle.sheet_requests.specs.declared.Counts.{Counts}
 use Rattle.sheet_blocks.specs.inner.Place.{finally}
 use Rattle.sheet_requests.specs.Sheet.{lengthen, lines, State, stopped, Step, broken, step, ending, outcome}
 
@@ -31,8 +32,10 @@ unfolding lines
 lines-feed [] more h = refl
 lines-feed (b ∷ v) more h = go (eqb b 10) h (λ e. lines-feed v more e)
   where
-    go : (t : Bool) → not t && noFeed v ≡ true → (noFeed v ≡ true → lines (v ++ (10 ∷ more)) ≡ (v ++ (10 ∷ [])) ∷ lines more)
-        → cond t ((b ∷ []) ∷ lines (v ++ (10 ∷ more))) (lengthen b (lines (v ++ (10 ∷ more)))) ≡ (b ∷ (v ++ (10 ∷ []))) ∷ lines more
+    go : (t : Bool) → not t && noFeed v ≡ true
+        → (noFeed v ≡ true → lines (v ++ (10 ∷ more)) ≡ (v ++ (10 ∷ [])) ∷ lines more)
+        → cond t ((b ∷ []) ∷ lines (v ++ (10 ∷ more))) (lengthen b (lines (v ++ (10 ∷ more))))
+        ≡ (b ∷ (v ++ (10 ∷ []))) ∷ lines more
     go false e next = rw (next e)
     go true e next = absurd (false≢true e)
 
@@ -68,31 +71,37 @@ first-line b (c ∷ rest) = before b (eqb b 10) refl (first-line c rest)
 
 -- ---- what a state prints from there on
 
-pub outcome-stopped : (k : ℕ) (rest : List (List ℕ)) → outcome (stopped k) rest ≡ ending (stopped k)
+pub outcome-stopped : (counts : Counts) (rest : List (List ℕ)) → outcome (stopped counts) rest ≡ ending (stopped counts)
 unfolding outcome
-outcome-stopped k [] = refl
-outcome-stopped k (line ∷ rest) = outcome-stopped k rest
+outcome-stopped counts [] = refl
+outcome-stopped counts (line ∷ rest) = outcome-stopped counts rest
 
 -- nothing that follows a broken line is read
-pub finally-broken : (k : ℕ) (rest other : List (List ℕ)) → finally (broken k) rest ≡ finally (broken k) other
-finally-broken k rest other = rw (outcome-stopped _ rest, outcome-stopped _ other)
+pub finally-broken : (counts : Counts) (rest other : List (List ℕ))
+    → finally (broken counts) rest ≡ finally (broken counts) other
+finally-broken counts rest other = rw (outcome-stopped _ rest, outcome-stopped _ other)
 
 -- A state whose lines have w columns: its step is made of what `read` finds, and a line that is not clean breaks it.
-pub record Reader {A : Type 0} (s : State) (w k : ℕ) (read : List ℕ → A) (then : A → Step) : Type 0 where
+pub record Reader {A : Type 0} (s : State) (w : ℕ) (counts : Counts) (read : List ℕ → A)
+    (then : A → Step) : Type 0 where
   pub bad : A
   pub steps : (line : List ℕ) → step s line ≡ then (read line)
   pub strict : (line : List ℕ) → clean w line ≡ false → read line ≡ bad
-  pub breaks : then bad ≡ broken k
+  pub breaks : then bad ≡ broken counts
 
-module _ {A : Type 0} {s : State} {w k : ℕ} {read : List ℕ → A} {then : A → Step} (reader : Reader s w k read then) where
+module _ {A : Type 0} {s : State} {w : ℕ} {counts : Counts} {read : List ℕ → A} {then : A → Step}
+    (reader : Reader s w counts read then) where
   -- an unclean first line
-  unclean : {bytes : List ℕ} (f : First bytes) (rest : List (List ℕ)) → clean w (f .first) ≡ false → outcome s (lines bytes) ≡ finally (broken k) rest
+  unclean : {bytes : List ℕ} (f : First bytes) (rest : List (List ℕ)) → clean w (f .first) ≡ false
+      → outcome s (lines bytes) ≡ finally (broken counts) rest
   unfolding outcome
   unclean f rest e =
-      rw (f .is, reader .steps (f .first), reader .strict (f .first) e, reader .breaks) (finally-broken k (f .others) rest)
+      rw (f .is, reader .steps (f .first), reader .strict (f .first) e, reader .breaks)
+      (finally-broken counts (f .others) rest)
 
   -- a line that is clean is whole and unbroken
-  clean-true : (line : List ℕ) → clean w line ≡ true → (length line ≡ w + 1) × (getD line w 0 ≡ 10) × (noFeed (take w line) ≡ true)
+  clean-true : (line : List ℕ) → clean w line ≡ true
+      → (length line ≡ w + 1) × (getD line w 0 ≡ 10) × (noFeed (take w line) ≡ true)
   clean-true line e = go (eqb (length line) (w + 1)) (eqb (getD line w 0) 10) e (eqb-true _ _) (eqb-true _ _)
     where
       go : {P Q : Type 0} (a b : Bool) → (a && b) && noFeed (take w line) ≡ true → (a ≡ true → P) → (b ≡ true → Q)
@@ -115,12 +124,15 @@ module _ {A : Type 0} {s : State} {w k : ℕ} {read : List ℕ → A} {then : A 
       let (p, q, r) = clean-true line e in
       let whole = whole-line line (p, q) in
       let apart : rest ++ more ≡ line ++ after =
-      ap (λ (t : List ℕ). t ++ more) (sym (take-append-drop (w + 1) rest)) ∙ append-assoc line (drop (w + 1) rest) more in
-      let fed : line ++ after ≡ take w line ++ (10 ∷ after) = ap (λ (t : List ℕ). t ++ after) whole ∙ append-assoc (take w line) (10 ∷ []) after in
+      ap (λ (t : List ℕ). t ++ more) (sym (take-append-drop (w + 1) rest))
+      ∙ append-assoc line (drop (w + 1) rest) more in
+      let fed : line ++ after ≡ take w line ++ (10 ∷ after) = ap (λ (t : List ℕ). t ++ after) whole
+      ∙ append-assoc (take w line) (10 ∷ []) after in
       ap lines (apart ∙ fed) ∙ lines-feed (take w line) after r ∙ ap (λ (t : List ℕ). t ∷ lines after) (sym whole)
 
   -- where so many bytes are no clean line, neither is the first line
-  unclean-first : (rest more : List ℕ) (f : First (rest ++ more)) → w + 1 ≤ length rest → clean w (take (w + 1) rest) ≡ false
+  unclean-first : (rest more : List ℕ) (f : First (rest ++ more)) → w + 1 ≤ length rest
+      → clean w (take (w + 1) rest) ≡ false
       → clean w (f .first) ≡ false
   unclean-first rest more f h e = go (clean w (f .first)) refl
     where
@@ -128,7 +140,8 @@ module _ {A : Type 0} {s : State} {w k : ℕ} {read : List ℕ → A} {then : A 
       go false d = refl
       go true d =
           let long = clean-true (f .first) d .0 in
-          let same : take (w + 1) rest ≡ f .first = sym (take-append-le (w + 1) rest more h) ∙ rw (← long) (f .prefix) in
+          let same : take (w + 1) rest ≡ f .first = sym (take-append-le (w + 1) rest more h)
+          ∙ rw (← long) (f .prefix) in
           absurd (false≢true (sym e ∙ rw same d))
 
   -- the next w columns and the byte after them are the next line
@@ -142,11 +155,13 @@ module _ {A : Type 0} {s : State} {w k : ℕ} {read : List ℕ → A} {then : A 
       rest = b ∷ bytes
 
       go : (t : Bool) → clean w (take (w + 1) rest) ≡ t
-          → outcome s (lines (rest ++ more)) ≡ finally (then (read (take (w + 1) rest))) (lines (drop (w + 1) rest ++ more))
+          → outcome s (lines (rest ++ more)) ≡ finally (then (read (take (w + 1) rest)))
+          (lines (drop (w + 1) rest ++ more))
       go true e = rw (clean-first rest more e, reader .steps (take (w + 1) rest))
       go false e =
           let f = first-line b (bytes ++ more) in
-          rw (reader .strict (take (w + 1) rest) e, reader .breaks) (unclean f (lines (drop (w + 1) rest ++ more)) (unclean-first rest more f h e))
+          rw (reader .strict (take (w + 1) rest) e, reader .breaks)
+          (unclean f (lines (drop (w + 1) rest ++ more)) (unclean-first rest more f h e))
 
   -- the same of the bytes from a place of a block on
   pub line-at : (block more : List ℕ) (at : ℕ) → at + (w + 1) ≤ length block → outcome s (lines (drop at block ++ more))
@@ -156,7 +171,8 @@ module _ {A : Type 0} {s : State} {w k : ℕ} {read : List ℕ → A} {then : A 
       next-line (drop at block) more room ∙ rw (take-drop at (w + 1) block, drop-drop (w + 1) at block)
 
   -- bytes that are too few for a line break it
-  pub short-line : (b : ℕ) (bytes : List ℕ) (rest : List (List ℕ)) → length (b ∷ bytes) ≤ w → outcome s (lines (b ∷ bytes)) ≡ finally (broken k) rest
+  pub short-line : (b : ℕ) (bytes : List ℕ) (rest : List (List ℕ)) → length (b ∷ bytes) ≤ w
+      → outcome s (lines (b ∷ bytes)) ≡ finally (broken counts) rest
   short-line b bytes rest h =
       let f = first-line b bytes in
       let short : length (f .first) ≡ w + 1 → ⊥ = λ e. omega (arith, f .short) in

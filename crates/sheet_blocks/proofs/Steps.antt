@@ -1,37 +1,28 @@
 -- From a step that was made to what holds of the whole output. Assumes nothing.
-use mathlib.Core.Path.{_≡_, refl, _∙_}
-use mathlib.Core.Bool.{Bool, true, false, cond, _&&_, false≢true}
+use mathlib.Core.Path.{_≡_, _∙_}
 use mathlib.Core.List.{List, _++_, append-assoc}
 use Prim.Native.Nat.{ℕ, _+_, _<_, _≤_}
 use native.Mathlib.Omega.{arith}
-use borrow.Author.Tests.{leb-true}
-use lib.Dec.{leb}
 use lib.ListN.{length, drop}
-use lib.Seq.{slice}
 use lib.Ieee.{Float}
-use Rattle.sheet_columns.specs.declared.Field.{Field}
-use Rattle.sheet_columns.specs.declared.Field.the-variants.{Value, Broken}
-use Rattle.sheet_columns.specs.Read.{readField}
 use Rattle.sheet_blocks.specs.declared.Place.{Place}
 use Rattle.sheet_blocks.specs.declared.Stage.the-variants.{Stopped}
-use Rattle.sheet_lines.specs.declared.Request.{Request}
-use Rattle.sheet_lines.specs.declared.Header.{Header}
-use Rattle.sheet_lines.specs.declared.Header.the-variants.{Asked, Malformed}
-use Rattle.sheet_lines.specs.Header.{columned, given, accepted, requestOf, readHeader}
+use Rattle.sheet_lines.specs.Printed.{headBytes}
 use Rattle.sheet_requests.specs.Sheet.{Step, broken, lines, outcome}
-use Rattle.sheet_blocks.specs.inner.Place.{stateOf, owed, Sound, finally, Stepped}
+use Rattle.sheet_blocks.specs.inner.Place.{stateOf, finally, Stepped, Gathered}
 use Rattle.sheet_blocks.proofs.Lines.{finally-broken}
-use Rattle.sheet_blocks.specs.inner.Onward.{Well, Onward}
+use Rattle.sheet_blocks.specs.inner.Onward.{textRoom, Well, Onward}
 
 -- The lines from p on come to the step t and the lines from `at` on.
 abbrev pub Comes : List ℕ → Place → List Float → Step → ℕ → Type 0
 Comes block p series t at =
-    (more : List ℕ) → outcome (stateOf (p .sheet .stage) (p .sheet .counts .refused) series) (lines (drop (p .at) block ++ more))
+    (more : List ℕ) → outcome (stateOf (p .sheet .stage) (p .sheet .counts) series) (lines (drop (p .at) block ++ more))
     ≡ finally t (lines (drop at block ++ more))
 
 module _ {block : List ℕ} {p q : Place} {series series′ : List Float} {text text′ : List ℕ} where
   -- making that step goes onward
-  onward : {t : Step} {at : ℕ} → Stepped t series′ at (p .filled) q text text′ → Comes block p series t at → Well block q → p .at < q .at
+  onward : {t : Step} {at : ℕ} → Stepped t series′ at (p .filled) q text text′
+      → Comes block p series t at → Well block q → p .at < q .at
       → Onward block p series text q series′ text′
   onward made comes well forth =
       record {
@@ -41,50 +32,28 @@ module _ {block : List ℕ} {p q : Place} {series series′ : List Float} {text 
       }
 
   -- a step that gathers as many prices as it has room to print
-  pub gathers : {t : Step} {at room : ℕ}
-      → Stepped t series′ at (p .filled) q text text′ × Sound (q .sheet .stage) × (q .filled + owed (q .sheet .stage) ≤ room)
-      → Comes block p series t at → (p .at < at) × (at ≤ length block) × (room ≤ at + 2579) → Onward block p series text q series′ text′
-  gathers (made, sound, owed) comes (forth, within, room) =
-      let at-next = made .place in
-      onward made comes (record { sound = sound; within = omega arith; room = omega arith }) (omega arith)
+  pub gathers : {t : Step} {at room : ℕ} → Gathered t series′ at (p .filled) q text text′ room
+      → Comes block p series t at → (p .at < at) × (at ≤ length block) × (room ≤ at + textRoom)
+      → Onward block p series text q series′ text′
+  gathers w comes (forth, within, room) =
+      onward (w .made) comes
+      (record {
+        sound = w .sound;
+        within = omega (arith, w .made .place);
+        room = omega (arith, w .few, w .made .place);
+      })
+      (omega (arith, w .made .place))
 
   -- a step that meets a broken line, and passes the rest of the block
-  pub stops : (at : ℕ) → let k = p .sheet .counts .refused in
-      ((series : List Float) → Stepped (broken k) series (length block) (p .filled) q text text′) × (q .sheet .stage ≡ Stopped) × (q .filled ≡ p .filled + 19)
-      → Comes block p series (broken k) at → (p .at < length block) × (p .filled + 19 ≤ length block + 2579) → Onward block p series text q series′ text′
+  pub stops : (at : ℕ) → let counts = p .sheet .counts in
+      ((series : List Float)
+      → Stepped (broken counts) series (length block) (p .filled) q text text′) × (q .sheet .stage ≡ Stopped)
+      × (q .filled ≡ p .filled + headBytes)
+      → Comes block p series (broken counts) at
+      → (p .at < length block) × (p .filled + headBytes ≤ length block + textRoom)
+      → Onward block p series text q series′ text′
   stops at (made, stage, filled) comes (forth, room) =
       let at-end = made series′ .place in
-      onward (made series′) (λ more. comes more ∙ finally-broken (p .sheet .counts .refused) _ _)
+      onward (made series′) (λ more. comes more ∙ finally-broken (p .sheet .counts) _ _)
       (record { sound = rw stage tt; within = omega arith; room = rw stage (omega arith) })
       (omega arith)
-
--- ---- a request that was read has at most 512 bars
-
-record Small (h : Header) : Type 0 where
-  few : (r : Request) → h ≡ Asked r → r .bars ≤ 512
-
-no-request : Small Malformed
-no-request = record { few = λ r e. let z : _≡_ {A = ℕ} 0 1 = cc in absurd (omega arith) }
-
-cond-small : (t : Bool) {a b : Header} → (t ≡ true → Small a) → Small b → Small (cond t a b)
-cond-small true h k = h refl
-cond-small false h k = k
-
-given-small : (x : Field) {next : ℕ → Header} → ((v : ℕ) → Small (next v)) → Small (given x next)
-given-small (Value v) h = h v
-given-small Broken h = no-request
-
-accepted-small : (s t : Bool) (r : Request) → (t ≡ true → r .bars ≤ 512) → s && t ≡ true → Small (Asked r)
-accepted-small true t r h e =
-    record { few = λ q d. let same : r ≡ q = cc in rw (← same) (h e) }
-accepted-small false t r h e = absurd (false≢true e)
-
-request-small : (desk rule n m bars : Field) → Small (requestOf desk rule n m bars)
-unfolding requestOf
-request-small desk rule n m bars =
-    given-small desk (λ d. given-small rule (λ r. given-small n (λ a. given-small m (λ b. given-small bars (λ l. cond-small (accepted r l) (accepted-small (leb 1 r && leb r 3) (leb l 512) (record { desk = d; rule = r; n = a; m = b; bars = l }) (leb-true l 512)) no-request)))))
-
-pub header-small : (line : List ℕ) (r : Request) → readHeader line ≡ Asked r → r .bars ≤ 512
-unfolding readHeader
-header-small line =
-    cond-small (columned 26 line) (λ e. request-small (readField (slice 0 4 line)) (readField (slice 4 8 line)) (readField (slice 8 14 line)) (readField (slice 14 20 line)) (readField (slice 20 26 line))) no-request .few

@@ -26,8 +26,9 @@ use Rattle.sheet_lines.specs.declared.Request.{Request}
 use Rattle.sheet_lines.specs.declared.Header.{Header}
 use Rattle.sheet_lines.specs.declared.Header.the-variants.{Malformed}
 use Rattle.sheet_lines.specs.Header.{columned, given, requestOf, readHeader, readPriceLine}
+use Rattle.sheet_requests.specs.declared.Counts.{Counts}
 use Rattle.sheet_requests.specs.Sheet.{waiting, collecting, begun, priced}
-use Rattle.sheet_lines.proofs.Places.{take-drop}
+use Rattle.cells.proofs.Kept.{take-drop}
 use Rattle.sheet_blocks.proofs.Lines.{noFeed, clean, Reader}
 
 -- a line feed is no digit
@@ -36,7 +37,8 @@ digits-fed [] v e = absurd (false≢true (sym e))
 digits-fed (b ∷ rest) v e = go (isDigit b) (eqb b 10) (eqb-true b 10) refl e (digits-fed rest (10 * v + (b - 48)))
   where
     go : (d t : Bool) → (t ≡ true → b ≡ 10) → isDigit b ≡ d → not t && noFeed rest ≡ false
-        → (noFeed rest ≡ false → numberAfter (10 * v + (b - 48)) rest ≡ Broken) → cond d (numberAfter (10 * v + (b - 48)) rest) Broken ≡ Broken
+        → (noFeed rest ≡ false → numberAfter (10 * v + (b - 48)) rest ≡ Broken)
+        → cond d (numberAfter (10 * v + (b - 48)) rest) Broken ≡ Broken
     go false t f i e next = refl
     go true false f i e next = next e
     go true true f i e next = absurd (true≢false (sym i ∙ rw (f refl)))
@@ -51,7 +53,8 @@ unpadded-fed : (columns : List ℕ) → noFeed columns ≡ false → noFeed (unp
 unpadded-fed [] e = e
 unpadded-fed (b ∷ rest) e = go (eqb b 32) (eqb-true b 32) refl e (unpadded-fed rest)
   where
-    go : (t : Bool) → (t ≡ true → b ≡ 32) → eqb b 32 ≡ t → noFeed (b ∷ rest) ≡ false → (noFeed rest ≡ false → noFeed (unpadded rest) ≡ false)
+    go : (t : Bool) → (t ≡ true → b ≡ 32) → eqb b 32 ≡ t → noFeed (b ∷ rest) ≡ false
+        → (noFeed rest ≡ false → noFeed (unpadded rest) ≡ false)
         → noFeed (cond t (unpadded rest) (b ∷ rest)) ≡ false
     go true f i e next = next (rw (f refl) at e)
     go false f i e next = e
@@ -84,9 +87,11 @@ noFeed-append (x ∷ a) b = rw (noFeed-append a b) (go (not (eqb x 10)))
     go false = refl
 
 -- the first columns, and k more
-columns-more : (n k : ℕ) (line : List ℕ) → noFeed (take (n + k) line) ≡ noFeed (take n line) && noFeed (slice n (n + k) line)
+columns-more : (n k : ℕ) (line : List ℕ)
+    → noFeed (take (n + k) line) ≡ noFeed (take n line) && noFeed (slice n (n + k) line)
 columns-more n k line =
-    ap noFeed (take-add n k line ∙ ap (λ (t : List ℕ). take n line ++ t) (take-drop n k line)) ∙ noFeed-append (take n line) (slice n (n + k) line)
+    ap noFeed (take-add n k line ∙ ap (λ (t : List ℕ). take n line ++ t) (take-drop n k line))
+    ∙ noFeed-append (take n line) (slice n (n + k) line)
 
 given-bad : (x : Field) (next : ℕ → Header) → ((v : ℕ) → next v ≡ Malformed) → given x next ≡ Malformed
 given-bad (Value v) next h = h v
@@ -94,7 +99,8 @@ given-bad Broken next h = refl
 
 -- one broken field breaks the request
 request-fed : (t1 t2 t3 t4 t5 : Bool) {f1 f2 f3 f4 f5 : Field}
-    → (t1 ≡ false → f1 ≡ Broken) → (t2 ≡ false → f2 ≡ Broken) → (t3 ≡ false → f3 ≡ Broken) → (t4 ≡ false → f4 ≡ Broken) → (t5 ≡ false → f5 ≡ Broken)
+    → (t1 ≡ false → f1 ≡ Broken) → (t2 ≡ false → f2 ≡ Broken) → (t3 ≡ false → f3 ≡ Broken) → (t4 ≡ false → f4 ≡ Broken)
+    → (t5 ≡ false → f5 ≡ Broken)
     → (((t1 && t2) && t3) && t4) && t5 ≡ false → requestOf f1 f2 f3 f4 f5 ≡ Malformed
 unfolding requestOf
 request-fed false t2 t3 t4 t5 h1 h2 h3 h4 h5 e = rw (h1 refl)
@@ -115,7 +121,8 @@ header-strict : (line : List ℕ) → clean 26 line ≡ false → readHeader lin
 unfolding readHeader
 header-strict line e =
     unclean-read (columned 26 line) (noFeed (take 26 line)) _ Malformed e (λ d.
-    request-fed (noFeed (slice 0 4 line)) (noFeed (slice 4 8 line)) (noFeed (slice 8 14 line)) (noFeed (slice 14 20 line)) (noFeed (slice 20 26 line))
+    request-fed (noFeed (slice 0 4 line)) (noFeed (slice 4 8 line)) (noFeed (slice 8 14 line))
+    (noFeed (slice 14 20 line)) (noFeed (slice 20 26 line))
     (field-fed (slice 0 4 line))
     (field-fed (slice 4 8 line))
     (field-fed (slice 8 14 line))
@@ -129,8 +136,9 @@ price-strict line e = unclean-read (columned 12 line) (noFeed (take 12 line)) _ 
 
 -- ---- the two states that read
 
-pub header-reader : (k : ℕ) → Reader (waiting k) 26 k readHeader (begun k)
-header-reader k = record { bad = Malformed; steps = λ line. refl; strict = header-strict; breaks = refl }
+pub header-reader : (counts : Counts) → Reader (waiting counts) 26 counts readHeader (begun counts)
+header-reader counts = record { bad = Malformed; steps = λ line. refl; strict = header-strict; breaks = refl }
 
-pub price-reader : (k : ℕ) (r : Request) (prices : List Float) → Reader (collecting k r prices) 12 k readPriceLine (priced k r prices)
-price-reader k r prices = record { bad = Unpriced; steps = λ line. refl; strict = price-strict; breaks = refl }
+pub price-reader : (counts : Counts) (r : Request) (prices : List Float)
+    → Reader (collecting counts r prices) 12 counts readPriceLine (priced counts r prices)
+price-reader counts r prices = record { bad = Unpriced; steps = λ line. refl; strict = price-strict; breaks = refl }

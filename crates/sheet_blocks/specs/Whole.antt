@@ -1,22 +1,20 @@
--- Blocks of any sizes, fed one after another, write the whole sheet: what `feed`, `keep` and `finish` promise comes to the definition. Assumes nothing.
+-- How far a run has come, and what is printed last. Assumes nothing.
 use mathlib.Core.Path.{_≡_}
 use mathlib.Core.List.{List, [], _++_}
 use Prim.Native.Nat.{ℕ}
-use lib.ListN.{length, take, drop}
-use lib.Ieee.{Float}
-use Rattle.sheet_blocks.specs.declared.Stage.the-variants.{Stopped}
-use Rattle.sheet_blocks.specs.declared.Sheet.{Sheet}
-use Rattle.sheet_blocks.specs.declared.Place.{Place}
-use Rattle.sheet_blocks.specs.inner.Block.{Fed, Finished}
+use Rattle.sheet_requests.specs.Sheet.{State, lines, outcome, sheet}
+use Rattle.sheet_blocks.specs.declared.Status.{Status}
+use Rattle.sheet_blocks.specs.declared.Status.the-variants.{Reading, Done, ReadFailed, WriteFailed}
 
--- A sheet is read on: `kept` are the bytes that the blocks so far left, `input` is what is still to be read, and `out` is what is written for both.
-pub data Read : Sheet → List Float → List ℕ → List ℕ → List ℕ → Type 0 where
-  -- the next bytes of the input come behind those kept; the answers are written, and what is left is kept
-  block : {sheet : Sheet} {series : List Float} {kept input out : List ℕ} {q : Place} {series′ : List Float} {text : List ℕ} (new : List ℕ)
-      → Fed sheet (kept ++ new) series q series′ text → Read (q .sheet) series′ (drop (q .at) (kept ++ new)) input out
-      → Read sheet series kept (new ++ input) (take (q .filled) text ++ out)
-  -- the input has ended
-  end : {sheet : Sheet} {series : List Float} {kept text : List ℕ} {r : ℕ} → Finished sheet (length kept) r text → Read sheet series kept [] (take r text)
-  -- a line broke its columns: the rest of the input is not read
-  stop : {sheet : Sheet} {series : List Float} {kept input text : List ℕ} {r : ℕ} → sheet .stage ≡ Stopped → Finished sheet (length kept) r text
-      → Read sheet series kept input (take r text)
+-- `input` was read and `out` written: whatever may follow the input, the whole
+-- sheet is `out` and what the state prints for the bytes kept and for what follows.
+pub record Reached (input out : List ℕ) (state : State) (kept : List ℕ) : Type 0 where
+  pub same : (more : List ℕ) → sheet (input ++ more) ≡ out ++ outcome state (lines (kept ++ more))
+
+-- What is printed last, after the bytes `kept`: the end of the sheet
+-- where all was read, and nothing after a failed read or write.
+abbrev pub last : Status → State → List ℕ → List ℕ
+last Done state kept = outcome state (lines kept)
+last Reading state kept = []
+last ReadFailed state kept = []
+last WriteFailed state kept = []

@@ -1,20 +1,29 @@
-// The sheet's state and its steps: where a request stands in a block of bytes, a line or a run of prices read, a request that has all its
-// prices answered, and requests carried from block to block.
+// The sheet's state and its steps: where a request stands in a block of bytes, a line or a run of
+// prices read, a request that has all its prices answered, and requests carried from block to block.
 use sheet_columns::Price;
 use sheet_lines::Header;
 use sheet_lines::Request;
+use sheet_requests::CLOSING_BYTES;
 use sheet_requests::Counts;
 ghost use mathlib.Core.Path.{_≡_};
 ghost use mathlib.Core.List.{_++_, List};
 ghost use Prim.Native.Nat.{_<_, _≤_, _+_, _-_, _*_};
 ghost use lib.ListN.{length, take};
 ghost use lib.Ieee.{Float};
-ghost use Rattle.sheet_lines.specs.Printed.{lastLine};
-ghost use Rattle.sheet_requests.specs.Answer.{oneMore};
+ghost use Rattle.sheet_lines.specs.Header.{mostBars};
+ghost use Rattle.sheet_lines.specs.Printed.{headBytes, positionBytes};
+ghost use Rattle.sheet_requests.specs.Counts.{afterBroken, closing};
 ghost use Rattle.sheet_requests.specs.Sheet.{broken, settled, gathered};
-ghost use Rattle.sheet_blocks.specs.inner.Place.{Sound, due, Stepped, Ran, owed};
-ghost use Rattle.sheet_blocks.specs.inner.Onward.{Lent, Well, Onward};
-ghost use Rattle.sheet_blocks.specs.inner.Block.{Fed, Finished};
+ghost use Rattle.sheet_blocks.specs.inner.Place.{beginning, Sound, due, Stepped, Gathered, Ran};
+ghost use Rattle.sheet_blocks.specs.inner.Onward.{Lent, textRoom, Well, Onward};
+ghost use Rattle.sheet_blocks.specs.inner.Block.{Fed, cutBytes, Finished};
+
+// The room for text beyond a byte for each byte read: the longest answer.
+pub const TEXT_ROOM: usize = sheet_lines::HEAD_BYTES
+    + sheet_lines::POSITION_BYTES * sheet_lines::MOST_BARS;
+
+// The bytes that are printed where the input ends inside a request.
+const CUT_BYTES: usize = sheet_lines::HEAD_BYTES + CLOSING_BYTES;
 
 // Where a request stands: before its first line; with so many of its prices; or where a line broke its columns.
 pub enum Stage {
@@ -41,6 +50,15 @@ pub struct Run {
     pub at: usize,
     pub got: usize,
     pub whole: bool,
+}
+
+// How the program stands: it reads on; all is read, to the end of the
+// input or to a line that broke its columns; or a read or a write failed.
+pub enum Status {
+    Reading,
+    Done,
+    ReadFailed,
+    WriteFailed,
 }
 
 // Reads prices from `at` on until the request has all or too few bytes are left.
@@ -72,17 +90,19 @@ pub fn read_prices(block: &[u8], at: usize, request: Request, got: usize, series
 
 // A broken line is answered, and nothing more is read.
 pub fn stop(counts: Counts, at: usize, text: &mut [u8], filled: usize) -> Place
-    requires { ⌜ filled + 19 ≤ length (now text) ⌝ }
-    ensures { λ r. ⌜ ((series : List Float) → Stepped (broken (counts .refused)) series at filled r (now (text .entry)) (now (text .exit))) × (r .sheet .stage ≡ Stage.Stopped) × (r .filled ≡ filled + 19) ⌝ }
+    requires { ⌜ filled + headBytes ≤ length (now text) ⌝ }
+    ensures { λ r. ⌜ ((series : List Float)
+        → Stepped (broken counts) series at filled r (now (text .entry)) (now (text .exit)))
+        × (r .sheet .stage ≡ Stage.Stopped) × (r .filled ≡ filled + headBytes) ⌝ }
 {
     sheet_lines::print_head(text, filled, 0, 0, 10, 0);
     Place {
         sheet: Sheet {
             stage: Stage::Stopped,
-            counts: counts.one_more(),
+            counts: counts.broken(),
         },
         at: at,
-        filled: filled + 19,
+        filled: filled + sheet_lines::HEAD_BYTES,
     }
 }
 
@@ -97,17 +117,19 @@ fn settle(
     text: &mut [u8],
     filled: usize,
 ) -> Place
-    requires { ⌜ (request .bars ≤ 512) × (length (now series) ≡ 512) × (length (now out) ≡ 512) × (length (now work) ≡ 4096)
-        × (filled + 19 + 5 * request .bars ≤ length (now text)) ⌝ }
-    ensures { λ r. ⌜ (Stepped (settled (counts .refused) request (take (request .bars) (now (series .entry)))) (now (series .entry)) at filled r
-        (now (text .entry)) (now (text .exit))) × (r .sheet .stage ≡ Stage.Waiting) × (r .filled ≤ filled + 19 + 5 * request .bars) ⌝ }
+    requires { ⌜ (request .bars ≤ mostBars) × Lent (now series) (now out) (now work)
+        × (filled + headBytes + positionBytes * request .bars ≤ length (now text)) ⌝ }
+    ensures { λ r. ⌜ Stepped (settled counts request (take (request .bars) (now (series .entry))))
+        (now (series .entry)) at filled r (now (text .entry)) (now (text .exit))
+        × (r .sheet .stage ≡ Stage.Waiting) × (r .filled ≤ filled + headBytes + positionBytes * request .bars)
+        × (now (work .exit) ≡ now (work .entry)) ⌝ }
 {
     let given = sheet_requests::answer(request, series, out, work);
     let end = sheet_lines::print_answer(text, filled, request, given, out);
     Place {
         sheet: Sheet {
             stage: Stage::Waiting,
-            counts: counts.after(given),
+            counts: counts.after(request, given),
         },
         at: at,
         filled: end,
@@ -126,10 +148,12 @@ fn gather(
     text: &mut [u8],
     filled: usize,
 ) -> Place
-    requires { ⌜ (got ≤ request .bars) × (request .bars ≤ 512) × (length (now series) ≡ 512) × (length (now out) ≡ 512) × (length (now work) ≡ 4096)
-        × (filled + 19 + 5 * got ≤ length (now text)) ⌝ }
-    ensures { λ r. ⌜ (Stepped (gathered (counts .refused) request (take got (now (series .entry)))) (now (series .entry)) at filled r
-        (now (text .entry)) (now (text .exit))) × Sound (r .sheet .stage) × (r .filled + owed (r .sheet .stage) ≤ filled + 19 + 5 * got) ⌝ }
+    requires { ⌜ (got ≤ request .bars) × (request .bars ≤ mostBars) × Lent (now series) (now out) (now work)
+        × (filled + headBytes + positionBytes * got ≤ length (now text)) ⌝ }
+    ensures { λ r. ⌜ Gathered (gathered counts request (take got (now (series .entry))))
+        (now (series .entry)) at filled r (now (text .entry)) (now (text .exit))
+        (filled + headBytes + positionBytes * got)
+        × (now (work .exit) ≡ now (work .entry)) ⌝ }
 {
     if got == request.bars {
         settle(request, counts, at, series, out, work, text, filled)
@@ -154,9 +178,12 @@ fn take_header(
     work: &mut [f64],
     text: &mut [u8],
 ) -> Place
-    requires { ⌜ (place .sheet .stage ≡ Stage.Waiting) × (place .at + 27 ≤ length (now block)) × Well (now block) place
-        × Lent (now block) (now series) (now out) (now work) (now text) ⌝ }
-    ensures { λ r. ⌜ Onward (now (block .entry)) place (now (series .entry)) (now (text .entry)) r (now (series .entry)) (now (text .exit)) ⌝ }
+    requires { ⌜ (place .sheet .stage ≡ Stage.Waiting) × (place .at + 27 ≤ length (now block))
+        × Well (now block) place × Lent (now series) (now out) (now work)
+        × (length (now block) + textRoom ≤ length (now text)) ⌝ }
+    ensures { λ r. ⌜ Onward (now (block .entry)) place (now (series .entry)) (now (text .entry))
+        r (now (series .entry)) (now (text .exit))
+        × (now (work .exit) ≡ now (work .entry)) ⌝ }
 {
     let sheet = place.sheet;
     let counts = sheet.counts;
@@ -179,9 +206,12 @@ fn take_prices(
     work: &mut [f64],
     text: &mut [u8],
 ) -> Place
-    requires { ⌜ (place .sheet .stage ≡ Stage.Collecting request got) × (place .at + 13 ≤ length (now block)) × Well (now block) place
-        × Lent (now block) (now series) (now out) (now work) (now text) ⌝ }
-    ensures { λ r. ⌜ Onward (now (block .entry)) place (now (series .entry)) (now (text .entry)) r (now (series .exit)) (now (text .exit)) ⌝ }
+    requires { ⌜ (place .sheet .stage ≡ Stage.Collecting request got) × (place .at + 13 ≤ length (now block))
+        × Well (now block) place × Lent (now series) (now out) (now work)
+        × (length (now block) + textRoom ≤ length (now text)) ⌝ }
+    ensures { λ r. ⌜ Onward (now (block .entry)) place (now (series .entry)) (now (text .entry))
+        r (now (series .exit)) (now (text .exit))
+        × (now (work .exit) ≡ now (work .entry)) ⌝ }
 {
     let sheet = place.sheet;
     let counts = sheet.counts;
@@ -214,9 +244,12 @@ pub fn advance(
     work: &mut [f64],
     text: &mut [u8],
 ) -> Place
-    requires { ⌜ (due (place .sheet .stage) ≤ length (now block) - place .at) × Well (now block) place
-        × Lent (now block) (now series) (now out) (now work) (now text) ⌝ }
-    ensures { λ r. ⌜ Onward (now (block .entry)) place (now (series .entry)) (now (text .entry)) r (now (series .exit)) (now (text .exit)) ⌝ }
+    requires { ⌜ (due (place .sheet .stage) ≤ length (now block) - place .at)
+        × Well (now block) place × Lent (now series) (now out) (now work)
+        × (length (now block) + textRoom ≤ length (now text)) ⌝ }
+    ensures { λ r. ⌜ Onward (now (block .entry)) place (now (series .entry)) (now (text .entry))
+        r (now (series .exit)) (now (text .exit))
+        × (now (work .exit) ≡ now (work .entry)) ⌝ }
 {
     let sheet = place.sheet;
     let stage = sheet.stage;
@@ -262,8 +295,10 @@ pub fn feed(
     work: &mut [f64],
     text: &mut [u8],
 ) -> Place
-    requires { ⌜ Sound (sheet .stage) × Lent (now block) (now series) (now out) (now work) (now text) ⌝ }
-    ensures { λ r. ⌜ Fed sheet (now (block .entry)) (now (series .entry)) r (now (series .exit)) (now (text .exit)) ⌝ }
+    requires { ⌜ Sound (sheet .stage) × Lent (now series) (now out) (now work)
+        × (length (now block) + textRoom ≤ length (now text)) ⌝ }
+    ensures { λ r. ⌜ Fed sheet (now (block .entry)) (now (series .entry)) r (now (series .exit)) (now (text .exit))
+        × (now (work .exit) ≡ now (work .entry)) ⌝ }
 {
     let mut place = Place {
         sheet: sheet,
@@ -278,48 +313,61 @@ pub fn feed(
 
 // Before the first request.
 pub fn begin() -> Sheet
-    ensures { λ r. ⌜ (r .stage ≡ Stage.Waiting) × (r .counts .refused ≡ 0) ⌝ }
+    ensures { λ r. ⌜ r ≡ beginning ⌝ }
 {
     Sheet {
         stage: Stage::Waiting,
-        counts: Counts { refused: 0 },
+        counts: Counts::none(),
     }
 }
 
-// Prints that a request broke off, and the last line.
+// Prints that a request broke off, and what is printed last.
 fn print_cut(text: &mut [u8], counts: Counts)
-    requires { ⌜ 32 ≤ length (now text) ⌝ }
-    ensures { λ _. ⌜ take 32 (now (text .exit)) ≡ broken (counts .refused) .prints ++ lastLine (oneMore (counts .refused)) ⌝ }
+    requires { ⌜ cutBytes ≤ length (now text) ⌝ }
+    ensures { λ _. ⌜ take cutBytes (now (text .exit)) ≡ broken counts .prints ++ closing (afterBroken counts) ⌝ }
 {
     sheet_lines::print_head(text, 0, 0, 0, 10, 0);
-    let all = counts.one_more();
-    sheet_lines::print_last(text, 19, all.refused);
+    counts.broken().print(text, sheet_lines::HEAD_BYTES);
 }
 
-// Prints what is left to print where the input has ended, with `kept` bytes that are too few for a line, and gives how many bytes.
-pub fn finish(sheet: Sheet, kept: usize, text: &mut [u8]) -> usize
-    requires { ⌜ (kept < due (sheet .stage)) × (32 ≤ length (now text)) ⌝ }
-    ensures { λ r. ⌜ Finished sheet kept r (now (text .exit)) ⌝ }
+// Prints what the end of the input gives, with `kept` bytes that are too few for a line, and gives how many bytes.
+fn print_end(sheet: Sheet, kept: usize, text: &mut [u8]) -> usize
+    requires { ⌜ (kept < due (sheet .stage)) × (cutBytes ≤ length (now text)) ⌝ }
+    ensures { λ r. ⌜ Finished Status.Done sheet kept r (now (text .exit)) ⌝ }
 {
     let stage = sheet.stage;
     let counts = sheet.counts;
     match stage {
         Stage::Waiting => {
             if kept == 0 {
-                sheet_lines::print_last(text, 0, counts.refused);
-                13
+                counts.print(text, 0);
+                CLOSING_BYTES
             } else {
                 print_cut(text, counts);
-                32
+                CUT_BYTES
             }
         }
         Stage::Collecting(_, _) => {
             print_cut(text, counts);
-            32
+            CUT_BYTES
         }
         Stage::Stopped => {
-            sheet_lines::print_last(text, 0, counts.refused);
-            13
+            counts.print(text, 0);
+            CLOSING_BYTES
         }
+    }
+}
+
+// Prints what is printed last, and gives how many bytes: none where not
+// all was read and written, so that no last line follows a failed read.
+pub fn finish(status: Status, sheet: Sheet, kept: usize, text: &mut [u8]) -> usize
+    requires { ⌜ (kept < due (sheet .stage)) × (cutBytes ≤ length (now text)) ⌝ }
+    ensures { λ r. ⌜ Finished status sheet kept r (now (text .exit)) ⌝ }
+{
+    match status {
+        Status::Done => print_end(sheet, kept, text),
+        Status::Reading => 0,
+        Status::ReadFailed => 0,
+        Status::WriteFailed => 0,
     }
 }

@@ -27,10 +27,16 @@ length-leading zero n = refl
 length-leading (suc w) n = length-snoc (leading w (n / 10)) _ ∙ rw (length-leading w (n / 10), add-one)
 
 -- a store in column j, and the columns from there on
-slice-set : (j to b : ℕ) (text : List ℕ) → j < to → to ≤ length text → slice j to (set text j b) ≡ b ∷ slice (j + 1) to text
+slice-set : (j to b : ℕ) (text : List ℕ) → j < to → to ≤ length text
+    → slice j to (set text j b) ≡ b ∷ slice (j + 1) to text
 slice-set j to b text h k =
     slice-cons j to (set text j b) 0 h (rw length-set k)
-    ∙ rw (getD-set-same text j b 0 (omega arith), take-set-lt to text j b h, drop-set-lt (suc j) (take to text) j b (omega arith), add-one)
+    ∙ rw (
+      getD-set-same text j b 0 (omega arith),
+      take-set-lt to text j b h,
+      drop-set-lt (suc j) (take to text) j b (omega arith),
+      add-one,
+    )
 
 -- The columns from i to `to` are printed, and what is left of n is to be printed before them.
 pub record Filled (from to n : ℕ) (old : List ℕ) (i rest : ℕ) (now : List ℕ) : Type 0 where
@@ -49,11 +55,13 @@ module _ {from to n : ℕ} {old : List ℕ} where
       let room : to ≤ length now = omega (arith, w .long) in
       record {
         long = length-set now j b ∙ w .long;
-        before = take-set-le j now j b (omega arith) ∙ sym (take-take j i now (omega arith)) ∙ rw (w .before, take-take j i old (omega arith));
+        before = take-set-le j now j b (omega arith) ∙ sym (take-take j i now (omega arith))
+            ∙ rw (w .before, take-take j i old (omega arith));
         after = w .after ∙ rw (wide, slice-set j to b now (omega arith) room, append-assoc, e, p);
       }
 
-  pub all-filled : {i rest : ℕ} {now : List ℕ} → Filled from to n old i rest now → (i ≡ from) × (from ≤ to) × (to ≤ length old)
+  pub all-filled : {i rest : ℕ} {now : List ℕ} → Filled from to n old i rest now
+      → (i ≡ from) × (from ≤ to) × (to ≤ length old)
       → Adds from (leading (to - from) n) to old now
   all-filled {i} {rest} {now} w (p, q, r) =
       let none : i - from ≡ 0 = omega arith in
@@ -75,7 +83,8 @@ add-byte {at} {more} {r} {old} {now} b i q w (p, h, e) =
     }
 
 -- one text after another
-pub add-more : {at : ℕ} {more next : List ℕ} {r r′ q : ℕ} {old mid now : List ℕ} → Adds at more r old mid → Adds r′ next q mid now → r′ ≡ r
+pub add-more : {at : ℕ} {more next : List ℕ} {r r′ q : ℕ} {old mid now : List ℕ} → Adds at more r old mid
+    → Adds r′ next q mid now → r′ ≡ r
     → Adds at (more ++ next) q old now
 add-more {at} {more} {next} {r} {r′} {q} {old} {mid} {now} v w e =
     record {

@@ -79,11 +79,14 @@ pub few-digits : (k : ℕ) → k ≤ 18 → 10 ^ k ≤ 1000000000000000000
 few-digits k h = pow-le-pow-right {n = 10} (omega arith) h
 
 -- so many more digits after v make a number below so many powers of ten
-number-below : (digits : List ℕ) (v k w : ℕ) → v < 10 ^ k → numberAfter v digits ≡ Value w → w < 10 ^ (k + length digits)
+number-below : (digits : List ℕ) (v k w : ℕ) → v < 10 ^ k → numberAfter v digits ≡ Value w
+    → w < 10 ^ (k + length digits)
 number-below [] v k w h e = let same : v ≡ w = cc in rw (← same, add-zero) h
 number-below (b ∷ rest) v k w h e =
     let longer : k + suc (length rest) ≡ k + 1 + length rest = omega arith in
-    rw longer (go (leb 48 b) (leb b 57) (leb-true b 57) (λ l f. number-below rest _ (k + 1) w (digit-more v (b - 48) k h (omega arith)) f) e)
+    rw longer
+    (go (leb 48 b) (leb b 57) (leb-true b 57)
+    (λ l f. number-below rest _ (k + 1) w (digit-more v (b - 48) k h (omega arith)) f) e)
   where
     go : {A : Type 0} (s t : Bool) → (t ≡ true → b ≤ 57) → (b ≤ 57 → numberAfter (10 * v + (b - 48)) rest ≡ Value w → A)
         → cond (s && t) (numberAfter (10 * v + (b - 48)) rest) Broken ≡ Value w → A

@@ -19,7 +19,8 @@ fields = refl
 
 -- no column, blank ones, a number to the left or broken, a sign, a carriage return, a line feed, a tab
 broken-fields :
-    map (λ text. readField (bytes text)) ("" ∷ "    " ∷ "7   " ∷ " 4 2" ∷ "  -7" ∷ "  +7" ∷ "  7\r" ∷ "  7\n" ∷ "\t  7" ∷ " 7.0" ∷ [])
+    map (λ text. readField (bytes text))
+    ("" ∷ "    " ∷ "7   " ∷ " 4 2" ∷ "  -7" ∷ "  +7" ∷ "  7\r" ∷ "  7\n" ∷ "\t  7" ∷ " 7.0" ∷ [])
     ≡ replicate 10 Broken
 unfolding readField number
 broken-fields = refl
@@ -27,7 +28,8 @@ broken-fields = refl
 -- 12 is 3 times 2 ^ 2; -0 is 0
 prices :
     map (λ text. readPrice (bytes text)) ("  12" ∷ " -12" ∷ "-012" ∷ "  -0" ∷ " -00" ∷ "0000" ∷ [])
-    ≡ Ticks (fin false 3 (pos 2)) ∷ Ticks (fin true 3 (pos 2)) ∷ Ticks (fin true 3 (pos 2)) ∷ replicate 3 (Ticks (fin false 0 (pos 0)))
+    ≡ Ticks (fin false 3 (pos 2)) ∷ Ticks (fin true 3 (pos 2)) ∷ Ticks (fin true 3 (pos 2))
+    ∷ replicate 3 (Ticks (fin false 0 (pos 0)))
 unfolding readPrice signed number ofInt
 prices = refl
 

@@ -22,7 +22,8 @@ pub enum Price {
 // The first of the columns from `from` to `to` that is not blank.
 fn after_blanks(line: &[u8], from: usize, to: usize) -> usize
     requires { ⌜ (from ≤ to) × (to ≤ length (now line)) ⌝ }
-    ensures { λ r. ⌜ (from ≤ r) × (r ≤ to) × (unpadded (slice from to (now (line .entry))) ≡ slice r to (now (line .entry))) ⌝ }
+    ensures { λ r. ⌜ (from ≤ r) × (r ≤ to)
+        × (unpadded (slice from to (now (line .entry))) ≡ slice r to (now (line .entry))) ⌝ }
 {
     let mut i = from;
     while i < to {

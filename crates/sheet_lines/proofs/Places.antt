@@ -1,25 +1,21 @@
 -- A line in a block: its bytes and its columns by their places in the block. Assumes nothing.
 use mathlib.Core.Path.{_≡_, _∙_}
 use mathlib.Core.Bool.{true, false}
-use mathlib.Core.List.{List, [], _∷_}
-use Prim.Native.Nat.{ℕ, zero, suc, _+_, _<_, _≤_}
-use native.Mathlib.Nat.{zero-add, suc-add}
+use mathlib.Core.List.{List}
+use Prim.Native.Nat.{ℕ, _+_, _<_, _≤_}
 use native.Mathlib.Omega.{arith}
 use borrow.Author.Tests.{eq-eqb, ne-eqb}
 use lib.Dec.{eqb}
-use lib.ListN.{length, take, drop, getD}
-use lib.Seq.{slice, length-slice, take-take, drop-drop, getD-drop, getD-take, take-nil}
+use lib.ListN.{length, take, getD}
+use lib.Seq.{slice, length-slice, take-take, drop-drop, getD-drop, getD-take}
+use Rattle.cells.proofs.Kept.{take-drop}
 use Rattle.sheet_lines.specs.Header.{columned}
-
-pub take-drop : {A : Type 0} (a k : ℕ) (l : List A) → take k (drop a l) ≡ drop a (take (a + k) l)
-take-drop zero k l = rw zero-add
-take-drop (suc a) k [] = rw (suc-add, take-nil)
-take-drop (suc a) k (x ∷ l) = rw suc-add (take-drop a k l)
 
 module _ (block : List ℕ) (at w : ℕ) where
   -- columns `from` to `to` of the line that starts at `at`
   pub columns-at : (from to : ℕ) → to ≤ w → slice from to (slice at (at + w) block) ≡ slice (at + from) (at + to) block
-  columns-at from to h = rw (take-drop at to (take (at + w) block), drop-drop, take-take (at + to) (at + w) block (omega arith))
+  columns-at from to h =
+      rw (take-drop at to (take (at + w) block), drop-drop, take-take (at + to) (at + w) block (omega arith))
 
   pub column-at : (i : ℕ) → i < w → getD (slice at (at + w) block) i 0 ≡ getD block (at + i) 0
   column-at i h = rw (getD-drop, getD-take (at + w) block (at + i) 0 (omega arith))

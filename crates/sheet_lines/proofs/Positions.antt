@@ -44,4 +44,5 @@ pub text-same : (r : Request) (a : Answer) (f : Line) (old : List Float) → cou
     → answerText r a (line (written (countOf a) f old)) ≡ answerText r a f
 unfolding answerText
 text-same r a f old h =
-    rw (positions-same (countOf a) (line (written (countOf a) f old)) f (λ i l. getD-written (countOf a) f old i nan l (omega arith)))
+    rw (positions-same (countOf a) (line (written (countOf a) f old)) f
+    (λ i l. getD-written (countOf a) f old i nan l (omega arith)))

@@ -7,7 +7,9 @@ use Rattle.sheet_columns.specs.Read.{number, readField}
 use Rattle.sheet_lines.specs.declared.Header.the-variants.{Asked, Malformed}
 use Rattle.sheet_lines.specs.Header.{requestOf, readHeader}
 
-header : readHeader (bytes "   7   2     1     2     4\n") ≡ Asked (record { desk = 7; rule = 2; n = 1; m = 2; bars = 4 })
+header :
+    readHeader (bytes "   7   2     1     2     4\n")
+    ≡ Asked (record { desk = 7; rule = 2; n = 1; m = 2; bars = 4 })
 unfolding readHeader requestOf readField number
 header = refl
 

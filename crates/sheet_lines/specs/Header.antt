@@ -13,6 +13,10 @@ use Rattle.sheet_columns.specs.Read.{readField, readPrice}
 use Rattle.sheet_lines.specs.declared.Header.{Header}
 use Rattle.sheet_lines.specs.declared.Header.the-variants.{Asked, Malformed}
 
+-- the most bars of one request; src/lib.rt has a constant of the same number
+abbrev pub mostBars : ℕ
+mostBars = 512
+
 -- so many columns, and then a line feed
 abbrev pub columned : ℕ → List ℕ → Bool
 columned columns line = eqb (length line) (columns + 1) && eqb (getD line columns 0) 10
@@ -22,14 +26,15 @@ abbrev pub given : Field → (ℕ → Header) → Header
 given (Value v) next = next v
 given Broken next = Malformed
 
--- rules 1, 2 and 3, and at most 512 bars
+-- rules 1, 2 and 3, and no more bars than the program keeps
 abbrev pub accepted : ℕ → ℕ → Bool
-accepted rule bars = (leb 1 rule && leb rule 3) && leb bars 512
+accepted rule bars = (leb 1 rule && leb rule 3) && leb bars mostBars
 
 -- the request that its five numbers make
 unfoldable pub requestOf : Field → Field → Field → Field → Field → Header
 requestOf desk rule n m bars =
-    given desk (λ d. given rule (λ r. given n (λ a. given m (λ b. given bars (λ l. cond (accepted r l) (Asked (record { desk = d; rule = r; n = a; m = b; bars = l })) Malformed)))))
+    given desk (λ d. given rule (λ r. given n (λ a. given m (λ b. given bars (λ l.
+    cond (accepted r l) (Asked (record { desk = d; rule = r; n = a; m = b; bars = l })) Malformed)))))
 
 -- A request's first line: desk in 4 columns, rule in 4, n in 6, m in 6, bars in 6.
 unfoldable pub readHeader : List ℕ → Header

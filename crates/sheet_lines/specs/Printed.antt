@@ -9,6 +9,17 @@ use Rattle.cells.specs.Line.{Line, plusZero}
 use Rattle.sheet_columns.specs.Print.{printField}
 use Rattle.sheet_lines.specs.declared.Request.{Request}
 
+-- the bytes of an answer's first line, of a position's line and of the last
+-- line, each with its line feed; src/lib.rt has constants of the same numbers
+abbrev pub headBytes : ℕ
+headBytes = 19
+
+abbrev pub positionBytes : ℕ
+positionBytes = 5
+
+abbrev pub lastBytes : ℕ
+lastBytes = 13
+
 -- desk in 4 columns, rule in 4, refusal in 4, count in 6
 unfoldable pub headLine : ℕ → ℕ → ℕ → ℕ → List ℕ
 headLine desk rule refusal count =
@@ -27,7 +38,8 @@ positionLines (suc k) f = positionLines k f ++ positionLine (f k)
 
 -- all that a request prints
 unfoldable pub answerText : Request → Answer → Line → List ℕ
-answerText r answer f = headLine (r .desk) (r .rule) (refusalOf answer) (countOf answer) ++ positionLines (countOf answer) f
+answerText r answer f =
+    headLine (r .desk) (r .rule) (refusalOf answer) (countOf answer) ++ positionLines (countOf answer) f
 
 -- the number of refused requests in 12 columns
 unfoldable pub lastLine : ℕ → List ℕ

@@ -10,13 +10,33 @@ ghost use lib.Seq.{slice};
 ghost use Rattle.calls.specs.Answer.{countOf};
 ghost use Rattle.cells.specs.Line.{line};
 ghost use Rattle.sheet_columns.specs.inner.Adds.{Adds};
-ghost use Rattle.sheet_lines.specs.Printed.{headLine, positionLine, positionLines, answerText, lastLine};
+ghost use Rattle.sheet_lines.specs.Printed.{
+  headBytes,
+  positionBytes,
+  lastBytes,
+  headLine,
+  positionLine,
+  positionLines,
+  answerText,
+  lastLine,
+};
 ghost use Rattle.sheet_lines.specs.Header.{requestOf, readHeader, readPriceLine};
+
+// The most bars of one request.
+pub const MOST_BARS: usize = 512;
+
+// The bytes of an answer's first line, of a position's line and of the last line, each with its line feed.
+pub const HEAD_BYTES: usize = 19;
+
+pub const POSITION_BYTES: usize = 5;
+
+pub const LAST_BYTES: usize = 13;
 
 // Prints an answer's first line from `at` on.
 pub fn print_head(text: &mut [u8], at: usize, desk: u64, rule: u64, refusal: u64, count: u64)
-    requires { ⌜ at + 19 ≤ length (now text) ⌝ }
-    ensures { λ _. ⌜ Adds at (headLine desk rule refusal count) (at + 19) (now (text .entry)) (now (text .exit)) ⌝ }
+    requires { ⌜ at + headBytes ≤ length (now text) ⌝ }
+    ensures { λ _. ⌜ Adds at (headLine desk rule refusal count) (at + headBytes)
+        (now (text .entry)) (now (text .exit)) ⌝ }
 {
     sheet_columns::print_field(text, at, 4, desk);
     sheet_columns::print_field(text, at + 4, 4, rule);
@@ -27,8 +47,9 @@ pub fn print_head(text: &mut [u8], at: usize, desk: u64, rule: u64, refusal: u64
 
 // Prints a position's line from `at` on: a sign and a digit in 4 columns.
 fn print_cell(text: &mut [u8], at: usize, sign: u8, digit: u8)
-    requires { ⌜ at + 5 ≤ length (now text) ⌝ }
-    ensures { λ _. ⌜ Adds at (32 ∷ 32 ∷ sign ∷ digit ∷ 10 ∷ []) (at + 5) (now (text .entry)) (now (text .exit)) ⌝ }
+    requires { ⌜ at + positionBytes ≤ length (now text) ⌝ }
+    ensures { λ _. ⌜ Adds at (32 ∷ 32 ∷ sign ∷ digit ∷ 10 ∷ []) (at + positionBytes)
+        (now (text .entry)) (now (text .exit)) ⌝ }
 {
     text[at] = b' ';
     text[at + 1] = b' ';
@@ -39,8 +60,8 @@ fn print_cell(text: &mut [u8], at: usize, sign: u8, digit: u8)
 
 // Prints the position x from `at` on.
 fn print_position(text: &mut [u8], at: usize, x: f64)
-    requires { ⌜ at + 5 ≤ length (now text) ⌝ }
-    ensures { λ _. ⌜ Adds at (positionLine x) (at + 5) (now (text .entry)) (now (text .exit)) ⌝ }
+    requires { ⌜ at + positionBytes ≤ length (now text) ⌝ }
+    ensures { λ _. ⌜ Adds at (positionLine x) (at + positionBytes) (now (text .entry)) (now (text .exit)) ⌝ }
 {
     if x > 0.0 {
         print_cell(text, at, b' ', b'1');
@@ -53,20 +74,21 @@ fn print_position(text: &mut [u8], at: usize, x: f64)
 
 // Prints the positions at the first `count` bars from `at` on.
 fn print_positions(text: &mut [u8], at: usize, cells: &[f64], count: usize)
-    requires { ⌜ (at + 5 * count ≤ length (now text)) × (count ≤ length (now cells)) ⌝ }
-    ensures { λ _. ⌜ Adds at (positionLines count (line (now (cells .entry)))) (at + 5 * count) (now (text .entry)) (now (text .exit)) ⌝ }
+    requires { ⌜ (at + positionBytes * count ≤ length (now text)) × (count ≤ length (now cells)) ⌝ }
+    ensures { λ _. ⌜ Adds at (positionLines count (line (now (cells .entry)))) (at + positionBytes * count)
+        (now (text .entry)) (now (text .exit)) ⌝ }
 {
     let mut i = 0;
     while i < count {
-        print_position(text, at + 5 * i, cells[i]);
+        print_position(text, at + POSITION_BYTES * i, cells[i]);
         i += 1;
     }
 }
 
 // Prints the number of refused requests from `at` on.
 pub fn print_last(text: &mut [u8], at: usize, refused: u64)
-    requires { ⌜ at + 13 ≤ length (now text) ⌝ }
-    ensures { λ _. ⌜ Adds at (lastLine refused) (at + 13) (now (text .entry)) (now (text .exit)) ⌝ }
+    requires { ⌜ at + lastBytes ≤ length (now text) ⌝ }
+    ensures { λ _. ⌜ Adds at (lastLine refused) (at + lastBytes) (now (text .entry)) (now (text .exit)) ⌝ }
 {
     sheet_columns::print_field(text, at, 12, refused);
     text[at + 12] = b'\n';
@@ -80,8 +102,10 @@ pub fn print_answer(
     given: Answer,
     cells: &[f64],
 ) -> usize
-    requires { ⌜ (countOf given ≤ length (now cells)) × (at + 19 + 5 * countOf given ≤ length (now text)) ⌝ }
-    ensures { λ r. ⌜ (Adds at (answerText request given (line (now (cells .entry)))) r (now (text .entry)) (now (text .exit))) × (r ≡ at + 19 + 5 * countOf given) ⌝ }
+    requires { ⌜ (countOf given ≤ length (now cells))
+        × (at + headBytes + positionBytes * countOf given ≤ length (now text)) ⌝ }
+    ensures { λ r. ⌜ Adds at (answerText request given (line (now (cells .entry)))) r
+        (now (text .entry)) (now (text .exit)) × (r ≡ at + headBytes + positionBytes * countOf given) ⌝ }
 {
     let count = calls::count_of(given);
     print_head(
@@ -92,8 +116,8 @@ pub fn print_answer(
         calls::refusal_of(given),
         count as u64,
     );
-    print_positions(text, at + 19, cells, count);
-    at + 19 + 5 * count
+    print_positions(text, at + HEAD_BYTES, cells, count);
+    at + HEAD_BYTES + POSITION_BYTES * count
 }
 
 // What a request's first line asks.
@@ -136,7 +160,7 @@ fn request_of(desk: Field, rule: Field, n: Field, m: Field, bars: Field) -> Head
     if rule > 3 {
         return Header::Malformed;
     }
-    if bars > 512 {
+    if bars > MOST_BARS as u64 {
         return Header::Malformed;
     }
     Header::Asked(Request {

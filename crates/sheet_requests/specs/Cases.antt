@@ -18,17 +18,23 @@ use Rattle.sheet_columns.specs.Print.{printField}
 use Rattle.sheet_lines.specs.Header.{requestOf, readHeader, readPriceLine}
 use Rattle.sheet_lines.specs.Printed.{headLine, positionLines, answerText, lastLine}
 use Rattle.sheet_requests.specs.Answer.{ruleAnswer, ruleLine}
+use Rattle.sheet_requests.specs.Counts.{closing}
 use Rattle.sheet_requests.specs.Sheet.{lines, gathered, ending, outcome, sheet}
 
 -- document 01's example
 example :
     sheet (bytes "   7   2     1     2     4\n          10\n          12\n          12\n          11\n")
     ≡ bytes "   7   2   0     4\n   0\n   1\n   1\n  -1\n           0\n"
-unfolding sheet outcome lines gathered ending readHeader requestOf readPriceLine readField readPrice signed number ruleAnswer ruleLine answerText headLine positionLines lastLine printField answered doubleAnswer slices checked windowed accepted singleLine doubleLine midLine mean windowSum extreme pickFrom runningMean runningSum recur sumFrom fromBar signOf add sub div ofInt lt eq le toBits
+unfolding sheet outcome lines gathered ending closing
+    readHeader requestOf readPriceLine readField readPrice signed number
+    answerText headLine positionLines lastLine printField
+    ruleAnswer ruleLine answered doubleAnswer slices checked windowed accepted
+    singleLine doubleLine midLine mean windowSum extreme pickFrom runningMean runningSum recur sumFrom fromBar signOf
+    add sub div ofInt lt eq le toBits
 example = refl
 
--- no input; a request with no bars; windows out of order and then a good request of one bar; an input that ends inside a request;
--- a line that breaks its columns after a good request
+-- no input; a request with no bars; windows out of order and then a good request of one bar;
+-- an input that ends inside a request; a line that breaks its columns after a good request
 sheets :
     map (λ input. sheet (bytes input))
     (
@@ -48,5 +54,10 @@ sheets :
     ∷ "   3   3   0     1\n   0\n   0   0  10     0\n           1\n"
     ∷ []
     )
-unfolding sheet outcome lines gathered ending readHeader requestOf readPriceLine readField readPrice signed number ruleAnswer ruleLine answerText headLine positionLines lastLine printField answered doubleAnswer slices checked windowed accepted singleLine doubleLine midLine mean windowSum extreme pickFrom runningMean runningSum recur sumFrom fromBar signOf add sub div ofInt lt eq le toBits
+unfolding sheet outcome lines gathered ending closing
+    readHeader requestOf readPriceLine readField readPrice signed number
+    answerText headLine positionLines lastLine printField
+    ruleAnswer ruleLine answered doubleAnswer slices checked windowed accepted
+    singleLine doubleLine midLine mean windowSum extreme pickFrom runningMean runningSum recur sumFrom fromBar signOf
+    add sub div ofInt lt eq le toBits
 sheets = refl

@@ -11,8 +11,10 @@ use Rattle.sheet_lines.specs.declared.Request.{Request}
 use Rattle.sheet_lines.specs.declared.Header.{Header}
 use Rattle.sheet_lines.specs.declared.Header.the-variants.{Asked, Malformed}
 use Rattle.sheet_lines.specs.Header.{readHeader, readPriceLine}
-use Rattle.sheet_lines.specs.Printed.{headLine, answerText, lastLine}
-use Rattle.sheet_requests.specs.Answer.{ruleAnswer, ruleLine, oneMore, refusedAfter}
+use Rattle.sheet_lines.specs.Printed.{headLine, answerText}
+use Rattle.sheet_requests.specs.declared.Counts.{Counts}
+use Rattle.sheet_requests.specs.Answer.{ruleAnswer, ruleLine}
+use Rattle.sheet_requests.specs.Counts.{noneRefused, after, afterBroken, closing}
 
 -- ---- the lines
 
@@ -29,11 +31,10 @@ lines (b ∷ rest) = cond (eqb b 10) ((b ∷ []) ∷ lines rest) (lengthen b (li
 -- ---- the step
 
 -- Before a request; among its prices, of which fewer than all are there; and after a line that broke its columns.
--- The number is that of the refused requests so far.
 pub data State : Type 0 where
-  waiting : ℕ → State
-  collecting : ℕ → Request → List Float → State
-  stopped : ℕ → State
+  waiting : Counts → State
+  collecting : Counts → Request → List Float → State
+  stopped : Counts → State
 
 -- what a line prints, and the state after it
 pub record Step : Type 0 where
@@ -41,38 +42,42 @@ pub record Step : Type 0 where
   pub state : State
 
 -- desk 0, rule 0, refusal 10, count 0, and no further reading
-abbrev pub broken : ℕ → Step
-broken k = record { prints = headLine 0 0 10 0; state = stopped (oneMore k) }
+abbrev pub broken : Counts → Step
+broken c = record { prints = headLine 0 0 10 0; state = stopped (afterBroken c) }
 
 -- a request with all its prices is answered
-abbrev pub settled : ℕ → Request → List Float → Step
-settled k r prices =
-    record { prints = answerText r (ruleAnswer r prices) (ruleLine r prices); state = waiting (refusedAfter k (ruleAnswer r prices)) }
+abbrev pub settled : Counts → Request → List Float → Step
+settled c r prices =
+    record {
+      prints = answerText r (ruleAnswer r prices) (ruleLine r prices);
+      state = waiting (after c r (ruleAnswer r prices));
+    }
 
 -- a request with these prices: more are to come, or they are all there
-unfoldable pub gathered : ℕ → Request → List Float → Step
-gathered k r prices = cond (eqb (length prices) (r .bars)) (settled k r prices) (record { prints = []; state = collecting k r prices })
+unfoldable pub gathered : Counts → Request → List Float → Step
+gathered c r prices =
+    cond (eqb (length prices) (r .bars)) (settled c r prices) (record { prints = []; state = collecting c r prices })
 
-abbrev pub begun : ℕ → Header → Step
-begun k (Asked r) = gathered k r []
-begun k Malformed = broken k
+abbrev pub begun : Counts → Header → Step
+begun c (Asked r) = gathered c r []
+begun c Malformed = broken c
 
-abbrev pub priced : ℕ → Request → List Float → Price → Step
-priced k r prices (Ticks x) = gathered k r (prices ++ (x ∷ []))
-priced k r prices Unpriced = broken k
+abbrev pub priced : Counts → Request → List Float → Price → Step
+priced c r prices (Ticks x) = gathered c r (prices ++ (x ∷ []))
+priced c r prices Unpriced = broken c
 
 abbrev pub step : State → List ℕ → Step
-step (waiting k) line = begun k (readHeader line)
-step (collecting k r prices) line = priced k r prices (readPriceLine line)
-step (stopped k) line = record { prints = []; state = stopped k }
+step (waiting c) line = begun c (readHeader line)
+step (collecting c r prices) line = priced c r prices (readPriceLine line)
+step (stopped c) line = record { prints = []; state = stopped c }
 
 -- ---- the whole
 
 -- what is printed where the input ends: inside a request, that its lines break off
 unfoldable pub ending : State → List ℕ
-ending (waiting k) = lastLine k
-ending (collecting k r prices) = broken k .prints ++ lastLine (oneMore k)
-ending (stopped k) = lastLine k
+ending (waiting c) = closing c
+ending (collecting c r prices) = broken c .prints ++ closing (afterBroken c)
+ending (stopped c) = closing c
 
 -- what is printed from a state on
 unfoldable pub outcome : State → List (List ℕ) → List ℕ
@@ -81,4 +86,4 @@ outcome s (line ∷ rest) = step s line .prints ++ outcome (step s line .state) 
 
 -- All that the program writes for the input.
 unfoldable pub sheet : List ℕ → List ℕ
-sheet input = outcome (waiting 0) (lines input)
+sheet input = outcome (waiting noneRefused) (lines input)

@@ -1,11 +1,19 @@
-// A request's answer, and the count of refused requests.
+// A request's answer, the count of refused requests, and what is printed last.
 use calls::Answer;
 use sheet_lines::Request;
 ghost use mathlib.Core.Path.{_≡_};
-ghost use Prim.Native.Nat.{_≤_};
+ghost use Prim.Native.Nat.{_≤_, _+_};
 ghost use lib.ListN.{length, take};
-ghost use Rattle.calls.specs.Call.{Call};
-ghost use Rattle.sheet_requests.specs.Answer.{ruleAnswer, ruleLine, oneMore, refusedAfter};
+ghost use Rattle.sheet_columns.specs.inner.Adds.{Adds};
+ghost use Rattle.sheet_lines.specs.Header.{mostBars};
+ghost use Rattle.sheet_requests.specs.Answer.{workCells, RequestCall};
+ghost use Rattle.sheet_requests.specs.Counts.{noneRefused, oneMore, after, afterBroken, closing, closingBytes};
+
+// Eight work cells for each of the most bars.
+pub const WORK_CELLS: usize = 8 * sheet_lines::MOST_BARS;
+
+// The bytes of what is printed last.
+pub const CLOSING_BYTES: usize = sheet_lines::LAST_BYTES;
 
 // The refused requests so far.
 pub struct Counts {
@@ -13,9 +21,16 @@ pub struct Counts {
 }
 
 impl Counts {
+    // Before the first request.
+    pub fn none() -> Self
+        ensures { λ r. ⌜ r ≡ noneRefused ⌝ }
+    {
+        Counts { refused: 0 }
+    }
+
     // One refused request more; the count stays within its 12 columns.
-    pub fn one_more(self) -> Self
-        ensures { λ r. ⌜ r .refused ≡ oneMore (self .refused) ⌝ }
+    fn one_more(self) -> Self
+        ensures { λ r. ⌜ r ≡ oneMore self ⌝ }
     {
         if self.refused < 999999999999 {
             Counts {
@@ -26,22 +41,38 @@ impl Counts {
         }
     }
 
-    // The count after a request's answer.
-    pub fn after(self, answer: Answer) -> Self
-        ensures { λ r. ⌜ r .refused ≡ refusedAfter (self .refused) answer ⌝ }
+    // After the answer to a request; which request it was does not matter to one count for all.
+    pub fn after(self, request: Request, answer: Answer) -> Self
+        ensures { λ r. ⌜ r ≡ after self request answer ⌝ }
     {
         match answer {
             Answer::Cells(_) => self,
             Answer::Refused(_) => self.one_more(),
         }
     }
+
+    // After a line that breaks its columns.
+    pub fn broken(self) -> Self
+        ensures { λ r. ⌜ r ≡ afterBroken self ⌝ }
+    {
+        self.one_more()
+    }
+
+    // Prints all that is printed last from `at` on.
+    pub fn print(self, text: &mut [u8], at: usize)
+        requires { ⌜ at + closingBytes ≤ length (now text) ⌝ }
+        ensures { λ _. ⌜ Adds at (closing self) (at + closingBytes) (now (text .entry)) (now (text .exit)) ⌝ }
+    {
+        sheet_lines::print_last(text, at, self.refused);
+    }
 }
 
 // Answers the request by its rule, on the first prices of the series; the positions are in `out`.
 pub fn answer(request: Request, series: &[f64], out: &mut [f64], work: &mut [f64]) -> Answer
-    requires { ⌜ (request .bars ≤ length (now series)) × (length (now out) ≡ 512) × (length (now work) ≡ 4096) ⌝ }
-    ensures { λ r. ⌜ Call (ruleAnswer request (take (request .bars) (now (series .entry)))) (ruleLine request (take (request .bars) (now (series .entry))))
-        (now (out .entry)) r (now (out .exit)) ⌝ }
+    requires { ⌜ (request .bars ≤ length (now series))
+        × (length (now out) ≡ mostBars) × (length (now work) ≡ workCells) ⌝ }
+    ensures { λ r. ⌜ RequestCall request (take (request .bars) (now (series .entry)))
+        (now (out .entry)) (now (work .entry)) r (now (out .exit)) (now (work .exit)) ⌝ }
 {
     let bars = request.bars;
     let prices = &series[..bars];

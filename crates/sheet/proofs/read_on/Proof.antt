@@ -11,7 +11,6 @@ returns : tie.Need-returns
 returns c =
     let read = c .before .before in
     let a = read .before .before .before .args in (
-      omega arith,
       omega (arith, rw (length-take, length-drop) at (read .read-some .ensures)),
       take-at (take (a .kept) (now (a .block))) _ (a .kept) (length-take-le (a .kept) (now (a .block)) (omega arith)),
     )
@@ -24,7 +23,6 @@ read-on-spec =
     (λ c. search needs)  -- part-read-some-start
     (λ c. search needs)  -- part-read-some-end
     (λ c κs. search needs)  -- read-some-requires
-    (λ c. search needs)  -- add-result
     (λ c. search needs)  -- same-length
     returns
     )

@@ -1,4 +1,6 @@
--- `advance` meets its contract: the stage picks the step, and where it is stopped nothing more is read. Assumes nothing.
+-- `advance` meets its contract: the stage picks the step, and
+-- where it is stopped nothing more is read. Assumes nothing.
+use mathlib.Core.Path.{refl}
 use native.Mathlib.Omega.{arith}
 use borrow.Author.Needs.{needs}
 use Rattle.sheet_blocks.proofs.Lines.{outcome-stopped}
@@ -10,26 +12,32 @@ take-header-requires c κs =
     let told = c .before .before .before .before in
     let start = told .before .before .before .before .before .before .before .before in
     let enough = rw (told .enum-told .given .1) at (start .pre .0) in
-    (told .enum-told .given .1, omega arith, start .pre .1, start .pre .2)
+    (told .enum-told .given .1, omega arith, start .pre .1, start .pre .2, start .pre .3)
 
 take-prices-requires : tie.Need-take-prices-requires
 take-prices-requires c κs =
     let told = c .before .before .before .before .before in
     let start = told .before .before .before .before .before .before .before .before in
     let enough = rw (told .stage .given .1) at (start .pre .0) in
-    (told .stage .given .1, omega arith, start .pre .1, start .pre .2)
+    (told .stage .given .1, omega arith, start .pre .1, start .pre .2, start .pre .3)
 
 returns-3 : tie.Need-returns-3
 returns-3 c =
     let start = c .before .before .before .before .before .before .before .before in
     let told = c .enum-told2 .given .1 in
     let enough = rw told at (start .pre .0) in
-    let room = rw told at (start .pre .1 .room) in
-    record {
-      same = λ more. rw (told, outcome-stopped, outcome-stopped);
-      well = record { sound = rw told tt; within = omega arith; room = rw told (omega (arith, start .pre .1 .within)) };
-      forth = omega arith;
-    }
+    let room = rw told at (start .pre .1 .room) in (
+      record {
+        same = λ more. rw (told, outcome-stopped, outcome-stopped);
+        well = record {
+          sound = rw told tt;
+          within = omega arith;
+          room = rw told (omega (arith, start .pre .1 .within));
+        };
+        forth = omega arith;
+      },
+      refl,
+    )
 
 pub advance-spec : {M : Type 1} → statement M
 advance-spec =

@@ -10,7 +10,8 @@ use Rattle.sheet_blocks.proofs.feed.Statement.{statement}
 use Rattle.sheet_blocks.proofs.feed.Tie as tie
 
 abbrev Inv-loop : tie.InvT-loop
-Inv-loop block series₀ out₀ work₀ text₀ place₀ series out work text place = Feeding block place₀ series₀ text₀ place series out work text
+Inv-loop block series₀ out₀ work₀ text₀ place₀ series out work text place =
+    Feeding block place₀ series₀ work₀ text₀ place series out work text
 
 abbrev μ-loop : tie.MeasureT-loop
 μ-loop block series₀ out₀ work₀ text₀ place₀ series out work text place = length block - place .at
@@ -20,8 +21,13 @@ loop-holds c =
     let start = c .before .before .before .before .before in
     record {
       same = λ more. refl;
-      well = record { sound = start .pre .0; within = omega arith; room = rw zero-add (owed-few (start .args .sheet .stage) (start .pre .0)) };
+      well = record {
+        sound = start .pre .0;
+        within = omega arith;
+        room = rw zero-add (owed-few (start .args .sheet .stage) (start .pre .0));
+      };
       lent = start .pre .1;
+      clear = refl;
       long = refl;
     }
 
@@ -29,36 +35,48 @@ advance-requires : tie.Need-advance-requires Inv-loop μ-loop
 advance-requires c κs =
     let test = c .before .before .before .before in
     let at = test .before .before .before in
-    (rw (← test .before .before .wanted .ensures) (test .if1 .taken), at .loop .inv .well, at .loop .inv .lent)
+    let start = at .before .before .before .before .before .before in
+    let inv = at .loop .inv in (
+      rw (← test .before .before .wanted .ensures) (test .if1 .taken),
+      inv .well,
+      inv .lent,
+      rw (inv .long) (start .pre .2),
+    )
 
 loop-less : tie.Need-loop-less Inv-loop μ-loop
 loop-less c =
     let advance = c .before .before .before .before .before .before .before .before in
     let at = advance .before .before .before .before .before .before .before .before in
-    omega (arith, advance .advance .ensures .forth, advance .advance .ensures .well .within, at .loop .inv .well .within)
+    let onward = advance .advance .ensures .0 in
+    omega (arith, onward .forth, onward .well .within, at .loop .inv .well .within)
 
 loop-again : tie.Need-loop-again Inv-loop μ-loop
 loop-again c =
     let advance = c .before .before .before .before .before .before .before .before in
     let at = advance .before .before .before .before .before .before .before .before in
     let kept = advance .advance .kept in
-    let lent = at .loop .inv .lent in
-    let long = at .loop .inv .long in
+    let (onward, clear) = advance .advance .ensures in
+    let inv = at .loop .inv in
+    let lent = inv .lent in
+    let long = inv .long in
     record {
-      same = λ more. at .loop .inv .same more ∙ advance .advance .ensures .same more;
-      well = advance .advance .ensures .well;
-      lent = search needs;
+      same = λ more. inv .same more ∙ onward .same more;
+      well = onward .well;
+      lent = record { series-long = search needs; out-long = search needs; work-clear = clear ∙ lent .work-clear };
+      clear = clear ∙ inv .clear;
       long = search needs;
     }
 
 returns : tie.Need-returns Inv-loop μ-loop
 returns c =
-    let at = c .before .before .before in
-    record {
-      same = at .loop .inv .same;
-      well = at .loop .inv .well;
-      few = rw (← c .before .before .wanted .ensures) (c .if1 .left);
-    }
+    let inv = c .before .before .before .loop .inv in (
+      record {
+        same = inv .same;
+        well = inv .well;
+        few = rw (← c .before .before .wanted .ensures) (c .if1 .left);
+      },
+      inv .clear,
+    )
 
 pub feed-spec : {M : Type 1} → statement M
 feed-spec =

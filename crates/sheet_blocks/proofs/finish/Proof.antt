@@ -1,66 +1,22 @@
--- `finish` meets its contract: each arm prints what the end of the input gives in its stage. Assumes nothing.
-use mathlib.Core.Path.{_∙_}
-use native.Mathlib.Omega.{arith}
+-- `finish` meets its contract: after a failed read or write nothing is printed. Assumes nothing.
 use borrow.Author.Needs.{needs}
-use Rattle.sheet_blocks.proofs.Ends.{ends-waiting, ends-stopped, cut-waiting, cut-collecting}
+use Rattle.sheet_blocks.proofs.Ends.{nothing-last}
 use Rattle.sheet_blocks.proofs.finish.Statement.{statement}
 use Rattle.sheet_blocks.proofs.finish.Tie as tie
-
-returns : tie.Need-returns
-returns c =
-    let print = c .before .before in
-    let test = print .before .before in
-    record {
-      within = omega (arith, print .print-last .kept .0, test .before .before .before .before .before .pre .1);
-      is = λ series rest e. print .print-last .ensures .text ∙ rw (test .before .enum-told .given .1, ends-waiting _ rest (e ∙ test .if1 .taken));
-    }
-
-returns-2 : tie.Need-returns-2
-returns-2 c =
-    let print = c .before .before in
-    let test = print .before .before in
-    let told = test .before .enum-told .given .1 in
-    let few = rw told at (test .before .before .before .before .before .pre .0) in
-    record {
-      within = omega (arith, print .print-cut .kept .0, test .before .before .before .before .before .pre .1);
-      is = λ series rest e. print .print-cut .ensures ∙ rw (told, cut-waiting _ rest (λ z. test .if1 .left (rw e at z)) (rw e few));
-    }
-
-returns-3 : tie.Need-returns-3
-returns-3 c =
-    let print = c .before .before in
-    let told = print .before .before .enum-told2 .given .1 in
-    let few = rw told at (print .before .before .before .before .before .before .pre .0) in
-    record {
-      within = omega (arith, print .print-cut2 .kept .0, print .before .before .before .before .before .before .pre .1);
-      is = λ series rest e. print .print-cut2 .ensures ∙ rw (told, cut-collecting _ _ _ rest (rw e few));
-    }
-
-returns-4 : tie.Need-returns-4
-returns-4 c =
-    let print = c .before .before in
-    record {
-      within = omega (arith, print .print-last2 .kept .0, print .before .before .before .before .before .before .pre .1);
-      is = λ series rest e. print .print-last2 .ensures .text ∙ rw (print .before .before .enum-told3 .given .1, ends-stopped _ rest);
-    }
 
 pub finish-spec : {M : Type 1} → statement M
 finish-spec =
     tie.close
     (tie.spec
     (λ c. search needs)  -- enum-told
-    (λ c κs. search needs)  -- print-last-requires
-    (λ c κs. search needs)  -- print-cut-requires
+    (λ c κs. search needs)  -- print-end-requires
     (λ c. search needs)  -- enum-told-2
-    (λ c κs. search needs)  -- print-cut-requires-2
     (λ c. search needs)  -- enum-told-3
-    (λ c κs. search needs)  -- print-last-requires-2
+    (λ c. search needs)  -- enum-told-4
     (λ c. search needs)  -- same-length
-    returns
-    (λ c. search needs)  -- same-length-2
-    returns-2
-    (λ c. search needs)  -- same-length-3
-    returns-3
-    (λ c. search needs)  -- same-length-4
-    returns-4
+    (λ c. rw (c .before .before .before .before .enum-told .given .1)
+    (c .before .before .print-end .ensures))  -- returns
+    (λ c. nothing-last (λ state rest. rw (c .enum-told2 .given .1)))  -- returns-2
+    (λ c. nothing-last (λ state rest. rw (c .enum-told3 .given .1)))  -- returns-3
+    (λ c. nothing-last (λ state rest. rw (c .enum-told4 .given .1)))  -- returns-4
     )

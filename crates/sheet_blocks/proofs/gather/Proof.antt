@@ -13,17 +13,22 @@ returns c =
     let settle = c .before .before .before .before .before .before in
     let test = settle .before .before .before .before in
     let a = test .before .before .before .before .before .before .args in
-    let (made, stage, few) = settle .settle .ensures in
+    let (made, stage, few, clear) = settle .settle .ensures in
     let whole : a .got ≡ a .request .bars = test .if1 .taken in
-    (rw (all-there (a .counts .refused) (a .request) (now (a .series)) (a .got) (omega arith) whole) made, rw stage tt, rw stage (omega arith))
+    let all = all-there (a .counts) (a .request) (now (a .series)) (a .got) (omega arith) whole in
+    (record { made = rw all made; sound = rw stage tt; few = rw stage (omega arith) }, clear)
 
 returns-2 : tie.Need-returns-2
 returns-2 c =
     let a = c .before .before .before .before .before .before .args in
-    let more : a .got ≡ a .request .bars → ⊥ = c .if1 .left in (
-      rw (waits (a .counts .refused) (a .request) (now (a .series)) (a .got) (omega arith) more) (record { state = refl; text = add-none; place = refl }),
-      (omega arith, omega arith),
-      omega arith,
+    let more : a .got ≡ a .request .bars → ⊥ = c .if1 .left in
+    let some = waits (a .counts) (a .request) (now (a .series)) (a .got) (omega arith) more in (
+      record {
+        made = rw some (record { state = refl; text = add-none; place = refl });
+        sound = (omega arith, omega arith);
+        few = omega arith;
+      },
+      refl,
     )
 
 pub gather-spec : {M : Type 1} → statement M

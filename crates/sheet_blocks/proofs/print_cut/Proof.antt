@@ -1,4 +1,4 @@
--- `print_cut` meets its contract: the last line follows the broken request's. Assumes nothing.
+-- `print_cut` meets its contract: what is printed last follows the broken request's line. Assumes nothing.
 use native.Mathlib.Omega.{arith}
 use borrow.Author.Needs.{needs}
 use Rattle.sheet_columns.proofs.Printing.{add-more}
@@ -10,15 +10,15 @@ returns c =
     let last = c .before .before in
     let more = last .before .before in
     let head = more .before .before .before in
-    rw (← more .one-more .ensures) (add-more (head .print-head .ensures) (last .print-last .ensures) (omega arith) .text)
+    rw (← more .broken .ensures) (add-more (head .print-head .ensures) (last .print .ensures) (omega arith) .text)
 
 pub print-cut-spec : {M : Type 1} → statement M
 print-cut-spec =
     tie.close
     (tie.spec
     (λ c κs. search needs)  -- print-head-requires
-    (λ c κs. search needs)  -- one-more-requires
-    (λ c κs. search needs)  -- print-last-requires
+    (λ c κs. search needs)  -- broken-requires
+    (λ c κs. search needs)  -- print-requires
     (λ c. search needs)  -- same-length
     returns
     )

@@ -1,13 +1,15 @@
--- `take_header` meets its contract: the line is a request, which then gathers its prices, or it is broken. Assumes nothing.
-use mathlib.Core.Path.{sym, _∙_}
+-- `take_header` meets its contract: the line is a request, which
+-- then gathers its prices, or it is broken. Assumes nothing.
+use mathlib.Core.Path.{refl, sym, _∙_}
 use Prim.Native.Nat.{_+_}
 use native.Mathlib.Omega.{arith}
 use borrow.Author.Needs.{needs}
 use denote.Ref.{now}
+use Rattle.sheet_lines.proofs.Bars.{header-small}
 use Rattle.sheet_requests.specs.Sheet.{begun}
 use Rattle.sheet_blocks.proofs.Lines.{line-at}
 use Rattle.sheet_blocks.proofs.Strict.{header-reader}
-use Rattle.sheet_blocks.proofs.Steps.{Comes, gathers, stops, header-small}
+use Rattle.sheet_blocks.proofs.Steps.{Comes, gathers, stops}
 use Rattle.sheet_blocks.proofs.take_header.Statement.{statement}
 use Rattle.sheet_blocks.proofs.take_header.Tie as tie
 
@@ -15,11 +17,12 @@ use Rattle.sheet_blocks.proofs.take_header.Tie as tie
 read : (c : tie.After-read-header) →
     let a = c .before .before .before .before .before .before .before .before .args in
     let p = a .place in
-    Comes (now (a .block)) p (now (a .series)) (begun (p .sheet .counts .refused) (c .read-header .result)) (p .at + 27)
+    Comes (now (a .block)) p (now (a .series)) (begun (p .sheet .counts) (c .read-header .result)) (p .at + 27)
 read c more =
     let start = c .before .before .before .before .before .before .before .before in
     let p = start .args .place in
-    rw (start .pre .0, c .read-header .ensures) (line-at (header-reader (p .sheet .counts .refused)) (now (start .args .block)) more (p .at) (start .pre .1))
+    rw (start .pre .0, c .read-header .ensures)
+    (line-at (header-reader (p .sheet .counts)) (now (start .args .block)) more (p .at) (start .pre .1))
 
 returns : tie.Need-returns
 returns c =
@@ -27,8 +30,11 @@ returns c =
     let told = stop .before .before in
     let header = told .before .before in
     let start = header .before .before .before .before .before .before .before .before in
-    let room = rw (start .pre .0) at (start .pre .2 .room) in
-    stops (start .args .place .at + 27) (stop .stop .ensures) (λ more. read header more ∙ rw (told .enum-told .given .1)) (omega arith)
+    let room = rw (start .pre .0) at (start .pre .2 .room) in (
+      stops (start .args .place .at + 27) (stop .stop .ensures)
+          (λ more. read header more ∙ rw (told .enum-told .given .1)) (omega arith),
+      refl,
+    )
 
 gather-requires : tie.Need-gather-requires
 gather-requires c κs =
@@ -36,7 +42,7 @@ gather-requires c κs =
     let header = told .before .before in
     let start = header .before .before .before .before .before .before .before .before in
     let small = header-small _ _ (sym (header .read-header .ensures) ∙ told .request .given .1) in
-    omega (arith, start .pre .2 .room, start .pre .2 .within, start .pre .3)
+    (omega arith, small, start .pre .3, omega (arith, start .pre .2 .room, start .pre .2 .within, start .pre .4))
 
 returns-2 : tie.Need-returns-2
 returns-2 c =
@@ -45,7 +51,8 @@ returns-2 c =
     let header = told .before .before in
     let start = header .before .before .before .before .before .before .before .before in
     let room = rw (start .pre .0) at (start .pre .2 .room) in
-    gathers (gather .gather .ensures) (λ more. read header more ∙ rw (told .request .given .1)) (omega arith)
+    let (gathered, clear) = gather .gather .ensures in
+    (gathers gathered (λ more. read header more ∙ rw (told .request .given .1)) (omega arith), clear)
 
 pub take-header-spec : {M : Type 1} → statement M
 take-header-spec =

@@ -1,4 +1,6 @@
--- `take_prices` meets its contract: the lines are prices, which are gathered, or one of them is broken. Assumes nothing.
+-- `take_prices` meets its contract: the lines are prices, which
+-- are gathered, or one of them is broken. Assumes nothing.
+use mathlib.Core.Path.{refl, _∙_}
 use native.Mathlib.Omega.{arith}
 use borrow.Author.Needs.{needs}
 use Rattle.sheet_blocks.proofs.Steps.{gathers, stops}
@@ -17,13 +19,23 @@ gather-requires c κs =
     let start = run .before .before .before .before .before .before .before .before .before in
     let sound = rw (start .pre .0) at (start .pre .2 .sound) in
     let room = rw (start .pre .0) at (start .pre .2 .room) in
-    omega (arith, run .read-prices .ensures .pace, run .read-prices .ensures .most, run .read-prices .ensures .within, run .read-prices .ensures .long, start .pre .3)
+    let ran = run .read-prices .ensures in (
+      ran .most,
+      sound .1,
+      record {
+        series-long = ran .long ∙ start .pre .3 .series-long;
+        out-long = start .pre .3 .out-long;
+        work-clear = start .pre .3 .work-clear;
+      },
+      omega (arith, ran .pace, ran .most, ran .within, start .pre .4),
+    )
 
 stop-requires : tie.Need-stop-requires
 stop-requires c κs =
-    let start = c .before .before .before .before .before .before .before .before .before .before .before .before .before in
+    let run = c .before .before .before .before in
+    let start = run .before .before .before .before .before .before .before .before .before in
     let room = rw (start .pre .0) at (start .pre .2 .room) in
-    omega (arith, start .pre .3 .text-long)
+    omega (arith, start .pre .4)
 
 returns : tie.Need-returns
 returns c =
@@ -34,7 +46,11 @@ returns c =
     let ran = run .read-prices .ensures in
     let room = rw (start .pre .0) at (start .pre .2 .room) in
     let forth = ran .forth (test .if1 .taken) in
-    gathers (gather .gather .ensures) (λ more. rw (start .pre .0, ran .same _ more, test .if1 .taken)) (omega (arith, ran .pace, ran .within))
+    let (gathered, clear) = gather .gather .ensures in (
+      gathers gathered (λ more. rw (start .pre .0, ran .same _ more, test .if1 .taken))
+          (omega (arith, ran .pace, ran .within)),
+      clear,
+    )
 
 returns-2 : tie.Need-returns-2
 returns-2 c =
@@ -43,7 +59,11 @@ returns-2 c =
     let run = test .before .before .before in
     let start = run .before .before .before .before .before .before .before .before .before in
     let room = rw (start .pre .0) at (start .pre .2 .room) in
-    stops (run .read-prices .result .at) (stop .stop .ensures) (λ more. rw (start .pre .0, run .read-prices .ensures .same _ more, test .if1 .left)) (omega arith)
+    let ran = run .read-prices .ensures in (
+      stops (run .read-prices .result .at) (stop .stop .ensures)
+          (λ more. rw (start .pre .0, ran .same _ more, test .if1 .left)) (omega arith),
+      refl,
+    )
 
 pub take-prices-spec : {M : Type 1} → statement M
 take-prices-spec =

@@ -1,4 +1,5 @@
--- Where a request stands in a block of bytes, in the program's numbers and buffers, and what reading its prices promises. Assumes nothing.
+-- Where a request stands in a block of bytes, in the program's numbers
+-- and buffers, and what reading its prices promises. Assumes nothing.
 use mathlib.Core.Path.{_≡_}
 use mathlib.Core.Bool.{true, cond}
 use mathlib.Core.List.{List, _++_}
@@ -7,17 +8,26 @@ use lib.ListN.{length, take, drop}
 use lib.Ieee.{Float}
 use Rattle.sheet_columns.specs.inner.Adds.{Adds}
 use Rattle.sheet_lines.specs.declared.Request.{Request}
+use Rattle.sheet_lines.specs.Header.{mostBars}
+use Rattle.sheet_lines.specs.Printed.{headBytes, positionBytes}
+use Rattle.sheet_requests.specs.declared.Counts.{Counts}
+use Rattle.sheet_requests.specs.Counts.{noneRefused}
 use Rattle.sheet_blocks.specs.declared.Stage.{Stage}
 use Rattle.sheet_blocks.specs.declared.Stage.the-variants.{Waiting, Collecting, Stopped}
+use Rattle.sheet_blocks.specs.declared.Sheet.{Sheet}
 use Rattle.sheet_blocks.specs.declared.Place.{Place}
 use Rattle.sheet_blocks.specs.declared.Run.{Run}
 use Rattle.sheet_requests.specs.Sheet.{State, waiting, collecting, stopped, Step, broken, gathered, lines, outcome}
 
--- the state that a stage stands for, with the number of refused requests and the prices that lie in the series
-abbrev pub stateOf : Stage → ℕ → List Float → State
-stateOf Waiting k series = waiting k
-stateOf (Collecting r got) k series = collecting k r (take got series)
-stateOf Stopped k series = stopped k
+-- the state that a stage stands for, with the counts and the prices that lie in the series
+abbrev pub stateOf : Stage → Counts → List Float → State
+stateOf Waiting counts series = waiting counts
+stateOf (Collecting r got) counts series = collecting counts r (take got series)
+stateOf Stopped counts series = stopped counts
+
+-- before the first request
+abbrev pub beginning : Sheet
+beginning = record { stage = Waiting; counts = noneRefused }
 
 -- how many bytes the next line has; where nothing is read any more, one that is never there
 abbrev pub due : Stage → ℕ
@@ -28,13 +38,13 @@ due Stopped = 1
 -- how many bytes are to be printed for what was read
 abbrev pub owed : Stage → ℕ
 owed Waiting = 0
-owed (Collecting r got) = 5 * got + 19
+owed (Collecting r got) = headBytes + positionBytes * got
 owed Stopped = 0
 
 -- of a request that is not answered some price is missing, and all fit the series
 abbrev pub Sound : Stage → Type 0
 Sound Waiting = Unit {0}
-Sound (Collecting r got) = (got < r .bars) × (r .bars ≤ 512)
+Sound (Collecting r got) = (got < r .bars) × (r .bars ≤ mostBars)
 Sound Stopped = Unit {0}
 
 -- a step, and what comes after it
@@ -43,14 +53,25 @@ finally t rest = t .prints ++ outcome (t .state) rest
 
 -- The step t is made: r stands for its state, and its bytes are printed.
 pub record Stepped (t : Step) (series : List Float) (at filled : ℕ) (r : Place) (old now : List ℕ) : Type 0 where
-  pub state : stateOf (r .sheet .stage) (r .sheet .counts .refused) series ≡ t .state
+  pub state : stateOf (r .sheet .stage) (r .sheet .counts) series ≡ t .state
   pub text : Adds filled (t .prints) (r .filled) old now
   pub place : r .at ≡ at
 
--- The lines from `at` on are read as prices of the request, of which there were `got`, up to where the run ends; or one of them is broken.
-pub record Ran (block : List ℕ) (at : ℕ) (r : Request) (got : ℕ) (old : List Float) (run : Run) (now : List Float) : Type 0 where
-  pub same : (k : ℕ) (more : List ℕ) → outcome (collecting k r (take got old)) (lines (drop at block ++ more))
-      ≡ finally (cond (run .whole) (gathered k r (take (run .got) now)) (broken k)) (lines (drop (run .at) block ++ more))
+-- The step t is made, and what it printed and what is owed has room.
+pub record Gathered (t : Step) (series : List Float) (at filled : ℕ) (r : Place) (old now : List ℕ)
+    (room : ℕ) : Type 0 where
+  pub made : Stepped t series at filled r old now
+  pub sound : Sound (r .sheet .stage)
+  pub few : r .filled + owed (r .sheet .stage) ≤ room
+
+-- The lines from `at` on are read as prices of the request, of which
+-- there were `got`, up to where the run ends; or one of them is broken.
+pub record Ran (block : List ℕ) (at : ℕ) (r : Request) (got : ℕ) (old : List Float) (run : Run)
+    (now : List Float) : Type 0 where
+  pub same : (counts : Counts) (more : List ℕ)
+      → outcome (collecting counts r (take got old)) (lines (drop at block ++ more))
+      ≡ finally (cond (run .whole) (gathered counts r (take (run .got) now)) (broken counts))
+      (lines (drop (run .at) block ++ more))
   pub pace : run .at ≡ at + 13 * (run .got - got)
   pub forth : run .whole ≡ true → got < run .got
   pub most : run .got ≤ r .bars

@@ -9,7 +9,8 @@ above-zero-spec =
     tie.close
     (tie.spec
     (λ c. search needs)  -- enum-known-ticks
-    (λ c. few-is-float _ (c .before .before .before .before .pre _ (c .before .before .ticks .given .1)))  -- int-to-float-t4
+    (λ c. few-is-float _
+    (c .before .before .before .before .pre _ (c .before .before .ticks .given .1)))  -- int-to-float-t4
     (λ c. search needs)  -- enum-told
     (λ c. rw (c .before .before .ticks .given .1))  -- returns
     (λ c. search needs)  -- returns-2

@@ -17,13 +17,19 @@ abbrev μ-loop : tie.MeasureT-loop
 
 returns : tie.Need-returns Inv-loop μ-loop
 returns c =
-    let at = c .before .before .before .loop in
-    (omega arith, omega arith, at .inv .2 ∙ first-column _ _ _ (c .before .before .loop-test .taken) (omega arith) (c .if1 .taken))
+    let at = c .before .before .before .loop in (
+      omega arith,
+      omega arith,
+      at .inv .2 ∙ first-column _ _ _ (c .before .before .loop-test .taken) (omega arith) (c .if1 .taken),
+    )
 
 loop-again : tie.Need-loop-again Inv-loop μ-loop
 loop-again c =
-    let at = c .before .before .before .loop in
-    (omega arith, omega arith, at .inv .2 ∙ blank-column _ _ _ (c .before .before .loop-test .taken) (omega arith) (c .if1 .left))
+    let at = c .before .before .before .loop in (
+      omega arith,
+      omega arith,
+      at .inv .2 ∙ blank-column _ _ _ (c .before .before .loop-test .taken) (omega arith) (c .if1 .left),
+    )
 
 returns-2 : tie.Need-returns-2 Inv-loop μ-loop
 returns-2 c =

@@ -1,4 +1,5 @@
--- `digits` meets its contract: each turn takes one digit more, and the number stays below a power of ten. Assumes nothing.
+-- `digits` meets its contract: each turn takes one digit more,
+-- and the number stays below a power of ten. Assumes nothing.
 use mathlib.Core.Path.{_≡_, sym, _∙_}
 use Prim.Native.Nat.{_+_, _-_, _^_, _≤_, _<_}
 use native.Mathlib.Omega.{arith}
@@ -21,7 +22,8 @@ use Rattle.sheet_columns.proofs.digits.Tie as tie
 
 abbrev Inv-loop : tie.InvT-loop
 Inv-loop line from to value₀ i₀ value i =
-    (from ≤ i) × (i ≤ to) × (value < 10 ^ (i - from)) × (number (slice from to line) ≡ numberAfter value (slice i to line))
+    (from ≤ i) × (i ≤ to) × (value < 10 ^ (i - from))
+    × (number (slice from to line) ≡ numberAfter value (slice i to line))
 
 abbrev μ-loop : tie.MeasureT-loop
 μ-loop line from to value₀ i₀ value i = to - i
@@ -42,7 +44,9 @@ returns-2 c =
 returns-3 : tie.Need-returns-3 Inv-loop μ-loop
 returns-3 c =
     let at = c .before .before .before .before .loop in
-    sym (at .inv .3 ∙ high-column _ _ _ (c .before .before .before .loop-test .taken) (omega arith) _ (c .before .if2 .left) (c .if3 .taken))
+    sym
+    (at .inv .3 ∙ high-column _ _ _ (c .before .before .before .loop-test .taken) (omega arith) _ (c .before .if2 .left)
+    (c .if3 .taken))
 
 loop-again : tie.Need-loop-again Inv-loop μ-loop
 loop-again c =
@@ -53,7 +57,8 @@ loop-again c =
       omega arith,
       omega arith,
       rw next (digit-more _ _ (at .loop .i - start) (inv .2) (omega arith)),
-      inv .3 ∙ digit-column _ _ _ (c .before .before .before .loop-test .taken) (omega arith) _ (c .before .if2 .left) (c .if3 .left),
+      inv .3 ∙ digit-column _ _ _ (c .before .before .before .loop-test .taken) (omega arith) _ (c .before .if2 .left)
+          (c .if3 .left),
     )
 
 returns-4 : tie.Need-returns-4 Inv-loop μ-loop

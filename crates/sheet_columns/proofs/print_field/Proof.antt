@@ -10,7 +10,8 @@ returns : tie.Need-returns
 returns c =
     let at = c .before .before in
     let a = at .before .before .before .args in
-    rw (field-is (a .width) (a .n) (a .at + a .width - 1 - a .at) (omega arith)) (add-byte _ _ _ (at .print-leading .ensures) (omega arith))
+    rw (field-is (a .width) (a .n) (a .at + a .width - 1 - a .at) (omega arith))
+    (add-byte _ _ _ (at .print-leading .ensures) (omega arith))
 
 pub print-field-spec : {M : Type 1} → statement M
 print-field-spec =

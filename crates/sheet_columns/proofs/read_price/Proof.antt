@@ -1,4 +1,5 @@
--- `read_price` meets its contract: the column after the blanks says on which side of zero the price lies. Assumes nothing.
+-- `read_price` meets its contract: the column after the blanks
+-- says on which side of zero the price lies. Assumes nothing.
 use Prim.Native.Nat.{_+_, _<_}
 use native.Mathlib.Omega.{arith}
 use borrow.Author.Needs.{needs}
@@ -12,7 +13,8 @@ below-zero-requires : tie.Need-below-zero-requires
 below-zero-requires c κs =
     let at = c .before .before .before .before in
     let a = at .before .before .args in
-    rw (c .digits .ensures) (number-few (now (a .line)) (at .after-blanks .result + 1) (a .to) (omega arith) (omega arith))
+    rw (c .digits .ensures)
+    (number-few (now (a .line)) (at .after-blanks .result + 1) (a .to) (omega arith) (omega arith))
 
 above-zero-requires : tie.Need-above-zero-requires
 above-zero-requires c κs =
@@ -27,7 +29,12 @@ returns-2 c =
     let first = at .after-blanks .result in
     let a = at .before .before .args in
     let some : first < a .to = omega (arith, c .before .before .before .before .if1 .left) in
-    rw (at .after-blanks .ensures .2, minus-column (now (a .line)) first (a .to) some (omega arith) (c .before .before .if2 .taken), ← c .before .digits .ensures, ← c .below-zero .ensures)
+    rw (
+      at .after-blanks .ensures .2,
+      minus-column (now (a .line)) first (a .to) some (omega arith) (c .before .before .if2 .taken),
+      ← c .before .digits .ensures,
+      ← c .below-zero .ensures,
+    )
 
 returns-3 : tie.Need-returns-3
 unfolding readPrice
@@ -36,7 +43,12 @@ returns-3 c =
     let first = at .after-blanks .result in
     let a = at .before .before .args in
     let some : first < a .to = omega (arith, c .before .before .before .before .if1 .left) in
-    rw (at .after-blanks .ensures .2, plain-column (now (a .line)) first (a .to) some (omega arith) (c .before .before .if2 .left), ← c .before .digits2 .ensures, ← c .above-zero .ensures)
+    rw (
+      at .after-blanks .ensures .2,
+      plain-column (now (a .line)) first (a .to) some (omega arith) (c .before .before .if2 .left),
+      ← c .before .digits2 .ensures,
+      ← c .above-zero .ensures,
+    )
 
 pub read-price-spec : {M : Type 1} → statement M
 read-price-spec =

@@ -12,7 +12,8 @@ returns c =
     let at = c .args .at in
     add-byte _ (at + 4) (at + 5)
     (add-byte _ (at + 3) (at + 4)
-    (add-byte _ (at + 2) (at + 3) (add-byte _ (at + 1) (at + 2) (add-byte _ at (at + 1) add-none (omega arith)) (omega arith)) (omega arith))
+    (add-byte _ (at + 2) (at + 3)
+    (add-byte _ (at + 1) (at + 2) (add-byte _ at (at + 1) add-none (omega arith)) (omega arith)) (omega arith))
     (omega arith))
     (omega arith)
 

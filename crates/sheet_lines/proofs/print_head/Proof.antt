@@ -15,7 +15,9 @@ same-length c =
     let third = fourth .before .before .before .before in
     let second = third .before .before .before .before in
     let first = second .before .before .before .before in
-    simp length-set (fourth .print-field4 .kept .0 ∙ third .print-field3 .kept .0 ∙ second .print-field2 .kept .0 ∙ first .print-field .kept .0)
+    simp length-set
+    (fourth .print-field4 .kept .0 ∙ third .print-field3 .kept .0 ∙ second .print-field2 .kept .0
+    ∙ first .print-field .kept .0)
 
 returns : tie.Need-returns
 unfolding headLine
@@ -27,7 +29,8 @@ returns c =
     let at = first .before .before .before .args .at in
     add-more (first .print-field .ensures)
     (add-more (second .print-field2 .ensures)
-    (add-more (third .print-field3 .ensures) (add-byte _ (at + 18) (at + 19) (fourth .print-field4 .ensures) (omega arith)) (omega arith))
+    (add-more (third .print-field3 .ensures)
+    (add-byte _ (at + 18) (at + 19) (fourth .print-field4 .ensures) (omega arith)) (omega arith))
     (omega arith))
     (omega arith)
 

@@ -1,4 +1,5 @@
--- `read_header` meets its contract: the line feed decides, and each field is read from its own columns. Assumes nothing.
+-- `read_header` meets its contract: the line feed decides, and
+-- each field is read from its own columns. Assumes nothing.
 use native.Mathlib.Nat.{add-zero}
 use native.Mathlib.Omega.{arith}
 use borrow.Author.Needs.{needs}

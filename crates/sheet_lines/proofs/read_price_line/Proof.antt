@@ -1,4 +1,5 @@
--- `read_price_line` meets its contract: the line feed decides, and the price is read from the columns before it. Assumes nothing.
+-- `read_price_line` meets its contract: the line feed decides, and
+-- the price is read from the columns before it. Assumes nothing.
 use native.Mathlib.Nat.{add-zero}
 use native.Mathlib.Omega.{arith}
 use borrow.Author.Needs.{needs}
@@ -13,7 +14,12 @@ unfolding readPriceLine
 returns c =
     let at = c .before in
     let a = at .before .before .before .args in
-    rw (is-columned (now (a .block)) (a .at) 12 (omega arith) (at .if1 .taken), columns-at (now (a .block)) (a .at) 13 0 12 (omega arith), add-zero, ← c .read-price .ensures)
+    rw (
+      is-columned (now (a .block)) (a .at) 12 (omega arith) (at .if1 .taken),
+      columns-at (now (a .block)) (a .at) 13 0 12 (omega arith),
+      add-zero,
+      ← c .read-price .ensures,
+    )
 
 returns-2 : tie.Need-returns-2
 unfolding readPriceLine

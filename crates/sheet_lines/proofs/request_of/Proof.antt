@@ -1,4 +1,5 @@
--- `request_of` meets its contract: at each answer the tests on the way there pick the line of `requestOf`. Assumes nothing.
+-- `request_of` meets its contract: at each answer the tests on
+-- the way there pick the line of `requestOf`. Assumes nothing.
 use mathlib.Core.Path.{_≡_}
 use mathlib.Core.Bool.{cond}
 use borrow.Author.Tests.{le-leb, lt-leb}
@@ -46,7 +47,12 @@ unfolding requestOf
 returns-4 c =
     let to-n = c .before .before .before in
     let to-rule = to-n .before .before .before in
-    rw (to-rule .before .before .before .desk .given .1, to-rule .rule .given .1, to-n .n .given .1, c .enum-told4 .given .1)
+    rw (
+      to-rule .before .before .before .desk .given .1,
+      to-rule .rule .given .1,
+      to-n .n .given .1,
+      c .enum-told4 .given .1,
+    )
 
 returns-5 : tie.Need-returns-5
 unfolding requestOf
@@ -54,15 +60,31 @@ returns-5 c =
     let to-m = c .before .before .before in
     let to-n = to-m .before .before .before in
     let to-rule = to-n .before .before .before in
-    rw (to-rule .before .before .before .desk .given .1, to-rule .rule .given .1, to-n .n .given .1, to-m .m .given .1, c .enum-told5 .given .1)
+    rw (
+      to-rule .before .before .before .desk .given .1,
+      to-rule .rule .given .1,
+      to-n .n .given .1,
+      to-m .m .given .1,
+      c .enum-told5 .given .1,
+    )
 
 returns-8 : tie.Need-returns-8
 returns-8 c =
-    rw (numbers (c .before .before .before), le-leb _ _ (c .before .before .if1 .left), le-leb _ _ (c .before .if2 .left), lt-leb _ _ (c .if3 .taken))
+    rw (
+      numbers (c .before .before .before),
+      le-leb _ _ (c .before .before .if1 .left),
+      le-leb _ _ (c .before .if2 .left),
+      lt-leb _ _ (c .if3 .taken),
+    )
 
 returns-9 : tie.Need-returns-9
 returns-9 c =
-    rw (numbers (c .before .before .before), le-leb _ _ (c .before .before .if1 .left), le-leb _ _ (c .before .if2 .left), le-leb _ _ (c .if3 .left))
+    rw (
+      numbers (c .before .before .before),
+      le-leb _ _ (c .before .before .if1 .left),
+      le-leb _ _ (c .before .if2 .left),
+      le-leb _ _ (c .if3 .left),
+    )
 
 pub request-of-spec : {M : Type 1} → statement M
 request-of-spec =

@@ -1,38 +1,35 @@
--- `answer` meets its contract: the rule's number picks the rule, whose answer and cells these are. Assumes nothing.
-use mathlib.Core.Path.{sym}
+-- `answer` meets its contract: the rule's number picks the rule,
+-- whose answer, cells and work these are. Assumes nothing.
+use mathlib.Core.Path.{refl, sym}
 use native.Mathlib.Omega.{arith}
-use borrow.Author.Tests.{eq-eqb, ne-eqb}
 use borrow.Author.Needs.{needs}
 use lib.Seq.{length-take-le}
-use Rattle.sheet_requests.specs.Answer.{ruleAnswer, ruleLine}
-use Rattle.sheet_requests.proofs.Answers.{seen}
+use Rattle.sheet_requests.proofs.Answers.{by-single, by-double, by-middle}
 use Rattle.sheet_requests.proofs.answer.Statement.{statement}
 use Rattle.sheet_requests.proofs.answer.Tie as tie
 
 returns : tie.Need-returns
-unfolding ruleAnswer ruleLine
 returns c =
     let rule = c .before .before .before .before in
     let test = rule .before .before .before in
     let start = test .before .before .before .before .before .before in
-    rw (eq-eqb _ _ (test .if1 .taken)) (seen (rw (start .pre .1, start .pre .2) at (rule .single-sma-positions .ensures)))
+    by-single (test .if1 .taken) (rw (start .pre .1, start .pre .2) at (rule .single-sma-positions .ensures))
 
 returns-2 : tie.Need-returns-2
-unfolding ruleAnswer ruleLine
 returns-2 c =
     let rule = c .before .before in
     let test = rule .before .before in
     let start = test .before .before .before .before .before .before .before .before in
-    rw (ne-eqb _ _ (test .before .before .if1 .left), eq-eqb _ _ (test .if2 .taken)) (rw (start .pre .1) at (rule .double-sma-positions .ensures))
+    by-double (test .before .before .if1 .left) (test .if2 .taken)
+    (rw (start .pre .1) at (rule .double-sma-positions .ensures)) refl
 
 returns-3 : tie.Need-returns-3
-unfolding ruleAnswer ruleLine
 returns-3 c =
     let rule = c .before .before .before .before in
     let test = rule .before .before .before in
     let start = test .before .before .before .before .before .before .before .before in
-    rw (ne-eqb _ _ (test .before .before .if1 .left), ne-eqb _ _ (test .if2 .left))
-    (seen (rw (start .pre .1, start .pre .2) at (rule .mid-positions .ensures)))
+    by-middle (test .before .before .if1 .left) (test .if2 .left)
+    (rw (start .pre .1, start .pre .2) at (rule .mid-positions .ensures))
 
 pub answer-spec : {M : Type 1} → statement M
 answer-spec =
