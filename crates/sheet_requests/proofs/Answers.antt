@@ -42,7 +42,7 @@ module _ {r : Request} {prices out₀ work₀ : List Float} {a : Answer} {out₁
   unfolding ruleAnswer ruleLine ruleCleared
   by-single e w =
       let one = eq-eqb (r .rule) 1 e in
-      record { call = rw one (record { answer = w .answer; cells = w .cells }); work = rw one (w .work) }
+      record { call = rw one (w .call); work = rw one (w .work) }
 
   pub by-double : (r .rule ≡ 1 → ⊥) → r .rule ≡ 2
       → Call (doubleAnswer prices (r .n) (r .m) mostBars) (doubleLine (r .n) (r .m) (line prices)) out₀ a out₁
@@ -61,7 +61,7 @@ module _ {r : Request} {prices out₀ work₀ : List Float} {a : Answer} {out₁
   by-middle f g w =
       let one = ne-eqb (r .rule) 1 f in
       let two = ne-eqb (r .rule) 2 g in
-      record { call = rw (one, two) (record { answer = w .answer; cells = w .cells }); work = rw (one, two) (w .work) }
+      record { call = rw (one, two) (w .call); work = rw (one, two) (w .work) }
 
 -- a slice that is clear stays so
 clear-again : (k n : ℕ) → written k (λ i. plusZero) (replicate n plusZero) ≡ replicate n plusZero
