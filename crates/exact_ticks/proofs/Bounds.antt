@@ -117,14 +117,15 @@ means-are-numbers n s w h = record {
   at = λ i l. at-most-number (mean-bounded n (w .some) (omega (arith, w .narrow)) (line s) i (prices-bounded s i h l) i (le-refl i));
 }
 
--- in the first part of a slice they have a window
-pub means-room : (s : List Float) {n cells : ℕ} {old mid : List Float} → Window n → length s ≤ longestSeries → all accepted s ≡ true
-    → Writing (length s) (mean n (line s)) old mid → length s ≤ length old → length s + length s ≤ cells → Room (take (length s) mid) n cells
-means-room s {n} window short values w h l =
-    let long = part-long w h in
+-- in the first part of a slice they have windows of w means
+pub means-room : (s : List Float) {n w cells : ℕ} {old mid : List Float} → Window n → Window w → length s ≤ longestSeries
+    → all accepted s ≡ true → Writing (length s) (mean n (line s)) old mid → length s ≤ length old
+    → length s + length s ≤ cells → Room (take (length s) mid) w cells
+means-room s {n} window wide short values v h l =
+    let long = part-long v h in
     record {
-      window = window;
+      window = wide;
       short = rw long short;
       room = rw long l;
-      numbers = part-numbers w h (means-are-numbers n s window values);
+      numbers = part-numbers v h (means-are-numbers n s window values);
     }

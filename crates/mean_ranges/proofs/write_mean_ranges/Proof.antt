@@ -1,4 +1,4 @@
--- `write_ranges` meets its contract: the ranges of the means that stand in `out`. Assumes nothing.
+-- `write_mean_ranges` meets its contract: the ranges of the means that stand in the slice. Assumes nothing.
 use mathlib.Core.Path.{sym}
 use native.Mathlib.Omega.{arith}
 use borrow.Author.Needs.{needs}
@@ -7,27 +7,30 @@ use Rattle.extremes.specs.Extreme.{larger, smaller, extreme}
 use Rattle.extremes.proofs.Extreme.{causal-extreme}
 use Rattle.exact_ticks.proofs.Bounds.{means-room}
 use Rattle.cells.proofs.Parts.{part-long}
-use Rattle.rules_middle.proofs.Middle.{both-through}
-use Rattle.rules_middle.proofs.write_ranges.Statement.{statement}
-use Rattle.rules_middle.proofs.write_ranges.Tie as tie
+use Rattle.mean_ranges.proofs.Through.{both-through}
+use Rattle.mean_ranges.proofs.write_mean_ranges.Statement.{statement}
+use Rattle.mean_ranges.proofs.write_mean_ranges.Tie as tie
 
 write-ranges-requires : tie.Need-write-ranges-requires
 write-ranges-requires c κs =
     let means = c .before .before .before .before in
-    let pre = means .before .before .before .before .before .pre in
-    means-room (now (means .before .before .before .before .before .args .series)) (pre .window) (pre .short) (pre .values) (means .write-means-of-prices .ensures) (omega arith) (omega arith)
+    let start = means .before .before .before .before .before in
+    let (pre, wide) = start .pre in
+    let v = means .write-means-of-prices .ensures in
+    means-room (now (start .args .series)) (pre .window) wide (pre .short) (pre .values) v (omega arith) (omega arith)
 
 returns : tie.Need-returns
 returns c =
     let ranges = c .before .before in
     let means = ranges .before .before .before .before .before .write-means-of-prices .ensures in
-    let pre = ranges .before .before .before .before .before .before .before .before .before .before .pre in
-    let high = causal-extreme larger _ (pre .window .some) in
-    let low = causal-extreme smaller _ (pre .window .some) in
-    (means, both-through means (omega arith) (extreme larger _) (extreme smaller _) high low (ranges .write-ranges .ensures))
+    let some = ranges .before .before .before .before .before .before .before .before .before .before .pre .1 .some in
+    let high = causal-extreme larger _ some in
+    let low = causal-extreme smaller _ some in
+    let both = ranges .write-ranges .ensures in
+    (means, both-through means (omega arith) (extreme larger _) (extreme smaller _) high low both)
 
-pub write-ranges-spec : {M : Type 1} → statement M
-write-ranges-spec =
+pub write-mean-ranges-spec : {M : Type 1} → statement M
+write-mean-ranges-spec =
     tie.close
     (tie.spec
     (λ c κs. search needs)  -- write-means-of-prices-requires
