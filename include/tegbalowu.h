@@ -116,6 +116,11 @@ tegbalowu_answer tegbalowu_double_sma_positions(const double *series, size_t ser
 tegbalowu_answer tegbalowu_mid_positions(const double *series, size_t series_len, size_t n, double *out,
                                          size_t out_len, double *work, size_t work_len);
 
+/* Min-max scaling: where the mean of timeperiod values stands between the lowest and the highest of the last window
+ * means, from -1 to 1, from bar timeperiod+window-2; 0 where these are at most 1e-10 apart. */
+tegbalowu_answer tegbalowu_mms_positions(const double *series, size_t series_len, size_t timeperiod, size_t window,
+                                         double *out, size_t out_len, double *work, size_t work_len);
+
 #ifdef __cplusplus
 }
 #endif

@@ -11,6 +11,7 @@ ghost use Rattle.rules_single.specs.Single.{SingleCall};
 ghost use Rattle.rules_double.specs.Double.{DoubleCall};
 ghost use Rattle.rules_middle.specs.Middle.{MidCall};
 ghost use Rattle.capi.specs.Numbers.{Numbers, InNumbers};
+ghost use Rattle.rules_mms.specs.Mms.{MmsCall};
 
 // An answer in numbers: the refusal, or 0, and how many cells were written.
 #[repr(C)]
@@ -122,4 +123,18 @@ pub extern "C" fn tegbalowu_mid_positions(
         (now (out .exit)) (now (work .exit))) r ⌝ }
 {
     numbers(rules::mid_positions(series, n, out, work))
+}
+
+#[no_mangle]
+pub extern "C" fn tegbalowu_mms_positions(
+    series: &[f64],
+    timeperiod: usize,
+    window: usize,
+    out: &mut [f64],
+    work: &mut [f64],
+) -> CAnswer
+    ensures { λ r. ⌜ InNumbers (λ a. MmsCall (now (series .entry)) timeperiod window (now (out .entry))
+        (now (work .entry)) a (now (out .exit)) (now (work .exit))) r ⌝ }
+{
+    numbers(rules::mms_positions(series, timeperiod, window, out, work))
 }

@@ -4,6 +4,7 @@ ghost use Prim.Native.Nat.{_*_};
 ghost use Rattle.rules_single.specs.Single.{SingleCall};
 ghost use Rattle.rules_middle.specs.Middle.{MidCall};
 ghost use Rattle.rules_double.specs.Double.{DoubleCall};
+ghost use Rattle.rules_mms.specs.Mms.{MmsCall};
 
 // One average: the sign of price less the doubly averaged price, from bar 2n - 2 on.
 pub fn single_sma_positions(series: &[f64], n: usize, out: &mut [f64], work: &mut [f64]) -> Answer
@@ -38,6 +39,26 @@ pub fn double_sma_positions(series: &[f64], n: usize, m: usize, out: &mut [f64])
     let due = rules_double::answer_double(series, n, m, out.len());
     if calls::has_cells(due) {
         rules_double::write_double(series, n, m, out);
+    }
+    due
+}
+
+// Min-max scaling: where the mean stands between the lowest and the highest of the last means, from -1 to 1, from bar
+// timeperiod + window - 2 on.
+pub fn mms_positions(
+    series: &[f64],
+    timeperiod: usize,
+    window: usize,
+    out: &mut [f64],
+    work: &mut [f64],
+) -> Answer
+    ensures { λ r. ⌜ MmsCall (now (series .entry)) timeperiod window (now (out .entry)) (now (work .entry)) r
+        (now (out .exit)) (now (work .exit)) ⌝ }
+{
+    let due = rules_mms::answer_mms(series, timeperiod, window, out.len(), work.len());
+    if checks::cells_due(due, series.len(), work) {
+        rules_mms::write_mms(series, timeperiod, window, out, work);
+        cells::clear(work, 8 * series.len());
     }
     due
 }

@@ -7,7 +7,7 @@ ghost use Rattle.cells.specs.Written.{Writing};
 ghost use Rattle.windows.specs.Window.{mean};
 ghost use Rattle.rules_middle.specs.Middle.{againstMiddle, midLine};
 ghost use Rattle.window_means.specs.inner.Averaged.{Averaged};
-ghost use Rattle.rules_middle.specs.inner.Stages.{Ranges};
+ghost use Rattle.mean_ranges.specs.inner.Ranges.{Ranges};
 ghost use Rattle.cells.specs.inner.Touched.{Touched};
 ghost use Rattle.checks.specs.inner.Due.{Priced};
 
@@ -24,24 +24,11 @@ fn against_middle(average: f64, high: f64, low: f64) -> f64
     }
 }
 
-// Writes the mean of each bar to `out`, and the highest and the lowest of the last n means to two rows of `work`.
-fn write_ranges(series: &[f64], n: usize, out: &mut [f64], work: &mut [f64])
-    requires { ⌜ Priced 2 n (now series) (length (now out)) (length (now work)) ⌝ }
-    ensures { λ _. ⌜ Writing (length (now (series .entry))) (mean n (line (now (series .entry)))) (now (out .entry))
-        (now (out .exit))
-        × Ranges n (now (series .entry)) (now (work .entry)) (now (work .exit)) ⌝ }
-{
-    let bars = series.len();
-    window_means::write_means_of_prices(series, n, out);
-    extremes::write_ranges(&out[..bars], n, work);
-}
-
 // Writes each bar's position over the mean that stands in its cell.
 fn write_against_middles(series: &[f64], n: usize, out: &mut [f64], work: &[f64])
     requires { ⌜ Averaged n (now series) (mean n (line (now series))) (now out) ⌝ }
-    requires { ⌜ (2 * length (now series) ≤ length (now work)) × Ranges n (now series) (now work) (now work) ⌝ }
-    ensures { λ _. ⌜ Writing (length (now (series .entry))) (midLine n (line (now (series .entry))))
-        (now (out .entry)) (now (out .exit)) ⌝ }
+    requires { ⌜ (2 * length (now series) ≤ length (now work)) × Ranges n n (now series) (now work) (now work) ⌝ }
+    ensures { λ _. ⌜ Writing (length (now (series .entry))) (midLine n (line (now (series .entry)))) (now (out .entry)) (now (out .exit)) ⌝ }
 {
     let bars = series.len();
     let mut i = cells::fill_lead(out, 2 * n - 2, bars, 0.0);
@@ -54,10 +41,9 @@ fn write_against_middles(series: &[f64], n: usize, out: &mut [f64], work: &[f64]
 // Writes each bar's position. The first two rows of `work` are used.
 pub fn write_mid(series: &[f64], n: usize, out: &mut [f64], work: &mut [f64])
     requires { ⌜ Priced 2 n (now series) (length (now out)) (length (now work)) ⌝ }
-    ensures { λ _. ⌜ Writing (length (now (series .entry))) (midLine n (line (now (series .entry))))
-        (now (out .entry)) (now (out .exit))
+    ensures { λ _. ⌜ Writing (length (now (series .entry))) (midLine n (line (now (series .entry)))) (now (out .entry)) (now (out .exit))
         × Touched (2 * length (now (series .entry))) (now (work .entry)) (now (work .exit)) ⌝ }
 {
-    write_ranges(series, n, out, work);
+    mean_ranges::write_mean_ranges(series, n, n, out, work);
     write_against_middles(series, n, out, work);
 }

@@ -1,4 +1,5 @@
 -- What the crate's own functions ask of each other.
 pub mod Averaged
+pub mod Row
 pub mod Storing
 pub mod Ticks

@@ -12,6 +12,7 @@ ghost use Rattle.windows.specs.inner.Eight.{WindowRoom};
 ghost use Rattle.window_means.specs.inner.Storing.{storeEight, Begun, Reached};
 ghost use Rattle.values.specs.Accepted.{tick, all};
 ghost use Rattle.window_means.specs.inner.Ticks.{longTicks};
+ghost use Rattle.window_means.specs.inner.Row.{meansOfRow, RowRoom, RowReached};
 
 // Stores the eight lanes from cell i on.
 fn store_eight(means: &mut [f64], i: usize, eight: Lanes)
@@ -131,4 +132,78 @@ pub fn write_means_of_prices(series: &[f64], n: usize, means: &mut [f64])
         (now (means .exit)) ⌝ }
 {
     write_means_by(series, n, are_long_ticks(series, n), means);
+}
+
+// Writes the means of a row to another row of the same slice, from bar `first` on and sixteen at a time, and gives the
+// bar where fewer than sixteen are left.
+fn row_by_sixteen(
+    cells: &mut [f64],
+    from: usize,
+    to: usize,
+    bars: usize,
+    n: usize,
+    first: usize,
+) -> usize
+    requires { ⌜ RowRoom from to bars n first (length (now cells)) ⌝ }
+    ensures { λ r. ⌜ RowReached from to bars n first r (now (cells .entry)) (now (cells .exit)) ⌝ }
+{
+    let mut i = first;
+    while i + 16 <= bars {
+        let sixteen = windows::means_of_sixteen(cells, n, from + i);
+        store_eight(cells, to + i, sixteen.low);
+        store_eight(cells, to + i + 8, sixteen.high);
+        i += 16;
+    }
+    i
+}
+
+// The same for eight more bars, where eight are left.
+fn row_of_eight(
+    cells: &mut [f64],
+    from: usize,
+    to: usize,
+    bars: usize,
+    n: usize,
+    first: usize,
+) -> usize
+    requires { ⌜ RowRoom from to bars n first (length (now cells)) ⌝ }
+    ensures { λ r. ⌜ RowReached from to bars n first r (now (cells .entry)) (now (cells .exit)) ⌝ }
+{
+    if first + 8 <= bars {
+        let eight = windows::means_at(cells, n, from + first);
+        store_eight(cells, to + first, eight);
+        first + 8
+    } else {
+        first
+    }
+}
+
+// The same for each bar from `first` to the last.
+fn row_by_one(cells: &mut [f64], from: usize, to: usize, bars: usize, n: usize, first: usize)
+    requires { ⌜ RowRoom from to bars n first (length (now cells)) ⌝ }
+    ensures { λ _. ⌜ Writing (to + bars) (meansOfRow from to n first (now (cells .entry))) (now (cells .entry)) (now (cells .exit)) ⌝ }
+{
+    let mut i = first;
+    while i < bars {
+        cells[to + i] = windows::mean_at(cells, n, from + i);
+        i += 1;
+    }
+}
+
+// Writes the means of a row to another row of the same slice. The rows begin at cells `from` and `to` and have `bars`
+// cells each; each mean is of n cells, and they are written from bar `first` on. No other cell changes.
+pub fn write_means_of_row(
+    cells: &mut [f64],
+    from: usize,
+    to: usize,
+    bars: usize,
+    n: usize,
+    first: usize,
+)
+    requires { ⌜ RowRoom from to bars n first (length (now cells)) ⌝ }
+    ensures { λ _. ⌜ Writing (to + bars) (meansOfRow from to n first (now (cells .entry))) (now (cells .entry)) (now (cells .exit)) ⌝ }
+{
+    let fewer = row_by_sixteen(cells, from, to, bars, n, first);
+    let few = row_of_eight(cells, from, to, bars, n, fewer);
+    row_by_one(cells, from, to, bars, n, few);
 }

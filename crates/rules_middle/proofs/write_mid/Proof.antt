@@ -8,7 +8,7 @@ use Rattle.rules_middle.proofs.write_mid.Tie as tie
 
 write-against-middles-requires : tie.Need-write-against-middles-requires
 write-against-middles-requires c κs =
-    let ranges = c .before .before .before .before .before .before .write-ranges .ensures in (
+    let ranges = c .before .before .before .before .before .before .write-mean-ranges .ensures in (
       record { window = search needs; room = search needs; means = stands (ranges .0) },
       (search needs, stands (ranges .1)),
     )
@@ -16,17 +16,14 @@ write-against-middles-requires c κs =
 returns : tie.Need-returns
 returns c =
     let cells = c .before .before in
-    let ranges = cells .before .before .before .before .before .before .before .write-ranges .ensures in (
-      then-written (ranges .0) (cells .write-against-middles .ensures) (omega arith),
-      touched-more
-          (touched (ranges .1)) (omega arith),
-    )
+    let ranges = cells .before .before .before .before .before .before .before .write-mean-ranges .ensures in
+    (then-written (ranges .0) (cells .write-against-middles .ensures) (omega arith), touched-more (touched (ranges .1)) (omega arith))
 
 pub write-mid-spec : {M : Type 1} → statement M
 write-mid-spec =
     tie.close
     (tie.spec
-    (λ c κs. search needs)  -- write-ranges-requires
+    (λ c κs. search needs)  -- write-mean-ranges-requires
     write-against-middles-requires
     (λ c. search needs)  -- same-length
     (λ c. search needs)  -- same-length-2

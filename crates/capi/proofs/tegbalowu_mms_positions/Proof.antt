@@ -1,0 +1,16 @@
+-- `tegbalowu_mms_positions` meets its contract: it is the library's `mms_positions`, in numbers. Assumes nothing.
+use borrow.Author.Needs.{needs}
+use Rattle.capi.proofs.InNumbers.{told}
+use Rattle.capi.proofs.tegbalowu_mms_positions.Statement.{statement}
+use Rattle.capi.proofs.tegbalowu_mms_positions.Tie as tie
+
+pub tegbalowu-mms-positions-spec : {M : Type 1} → statement M
+tegbalowu-mms-positions-spec =
+    tie.close
+    (tie.spec
+    (λ c κs. search needs)  -- mms-positions-requires
+    (λ c κs. search needs)  -- numbers-requires
+    (λ c. search needs)  -- same-length
+    (λ c. search needs)  -- same-length-2
+    (λ c. search (needs, told))  -- returns
+    )

@@ -1,0 +1,43 @@
+-- `write_mean_ranges` meets its contract: the ranges of the means that stand in the slice. Assumes nothing.
+use mathlib.Core.Path.{sym}
+use native.Mathlib.Omega.{arith}
+use borrow.Author.Needs.{needs}
+use denote.Ref.{now}
+use Rattle.extremes.specs.Extreme.{larger, smaller, extreme}
+use Rattle.extremes.proofs.Extreme.{causal-extreme}
+use Rattle.exact_ticks.proofs.Bounds.{means-room}
+use Rattle.cells.proofs.Parts.{part-long}
+use Rattle.mean_ranges.proofs.Through.{both-through}
+use Rattle.mean_ranges.proofs.write_mean_ranges.Statement.{statement}
+use Rattle.mean_ranges.proofs.write_mean_ranges.Tie as tie
+
+write-ranges-requires : tie.Need-write-ranges-requires
+write-ranges-requires c κs =
+    let means = c .before .before .before .before in
+    let start = means .before .before .before .before .before in
+    let (pre, wide) = start .pre in
+    let v = means .write-means-of-prices .ensures in
+    means-room (now (start .args .series)) (pre .window) wide (pre .short) (pre .values) v (omega arith) (omega arith)
+
+returns : tie.Need-returns
+returns c =
+    let ranges = c .before .before in
+    let means = ranges .before .before .before .before .before .write-means-of-prices .ensures in
+    let some = ranges .before .before .before .before .before .before .before .before .before .before .pre .1 .some in
+    let high = causal-extreme larger _ some in
+    let low = causal-extreme smaller _ some in
+    let both = ranges .write-ranges .ensures in
+    (means, both-through means (omega arith) (extreme larger _) (extreme smaller _) high low both)
+
+pub write-mean-ranges-spec : {M : Type 1} → statement M
+write-mean-ranges-spec =
+    tie.close
+    (tie.spec
+    (λ c κs. search needs)  -- write-means-of-prices-requires
+    (λ c. search needs)  -- slice-reshare-prefix-write-ranges
+    (λ c. sym (part-long (c .before .before .before .write-means-of-prices .ensures) (omega arith)))  -- slice-aggregate-write-ranges
+    write-ranges-requires
+    (λ c. search needs)  -- same-length
+    (λ c. search needs)  -- same-length-2
+    returns
+    )

@@ -1,0 +1,2 @@
+-- The means of a series, and their ranges.
+pub mod inner

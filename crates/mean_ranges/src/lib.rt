@@ -1,0 +1,20 @@
+// The mean of each bar, and the highest and the lowest of the last means.
+ghost use lib.ListN.{length};
+ghost use Rattle.limits.specs.Limits.{Window};
+ghost use Rattle.cells.specs.Line.{line};
+ghost use Rattle.cells.specs.Written.{Writing};
+ghost use Rattle.windows.specs.Window.{mean};
+ghost use Rattle.checks.specs.inner.Due.{Priced};
+ghost use Rattle.mean_ranges.specs.inner.Ranges.{Ranges};
+
+// Writes the mean of each bar's n prices, and the highest and the lowest of the last w means to two rows.
+pub fn write_mean_ranges(series: &[f64], n: usize, w: usize, means: &mut [f64], rows: &mut [f64])
+    requires { ⌜ Priced 2 n (now series) (length (now means)) (length (now rows)) ⌝ }
+    requires { ⌜ Window w ⌝ }
+    ensures { λ _. ⌜ Writing (length (now (series .entry))) (mean n (line (now (series .entry)))) (now (means .entry)) (now (means .exit))
+        × Ranges n w (now (series .entry)) (now (rows .entry)) (now (rows .exit)) ⌝ }
+{
+    let bars = series.len();
+    window_means::write_means_of_prices(series, n, means);
+    extremes::write_ranges(&means[..bars], w, rows);
+}

@@ -1,0 +1,3 @@
+-- The min-max rule: what it answers and writes.
+pub mod Cases
+pub mod Mms
