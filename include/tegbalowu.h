@@ -120,6 +120,10 @@ tegbalowu_answer tegbalowu_mid_positions(const double *series, size_t series_len
  * means, from -1 to 1, from bar timeperiod+window-2; 0 where these are at most 1e-10 apart. */
 tegbalowu_answer tegbalowu_mms_positions(const double *series, size_t series_len, size_t timeperiod, size_t window,
                                          double *out, size_t out_len, double *work, size_t work_len);
+/* Exponential: the sign of price less the exponential average, with factor 2 / (n + 1), of the means of the last n
+ * prices. It starts n-1 bars after the first mean that is not 0, with the mean of n means; 0 earlier. */
+tegbalowu_answer tegbalowu_single_ema_positions(const double *series, size_t series_len, size_t n, double *out,
+                                                size_t out_len, double *work, size_t work_len);
 
 #ifdef __cplusplus
 }

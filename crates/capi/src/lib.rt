@@ -10,6 +10,7 @@ ghost use Rattle.smoother.specs.Smoother.{UltimateSmootherCall};
 ghost use Rattle.rules_single.specs.Single.{SingleCall};
 ghost use Rattle.rules_double.specs.Double.{DoubleCall};
 ghost use Rattle.rules_middle.specs.Middle.{MidCall};
+ghost use Rattle.rules_ema.specs.SingleEma.{SingleEmaCall};
 ghost use Rattle.capi.specs.Numbers.{Numbers, InNumbers};
 ghost use Rattle.rules_mms.specs.Mms.{MmsCall};
 
@@ -137,4 +138,14 @@ pub extern "C" fn tegbalowu_mms_positions(
         (now (work .entry)) a (now (out .exit)) (now (work .exit))) r ⌝ }
 {
     numbers(rules::mms_positions(series, timeperiod, window, out, work))
+pub extern "C" fn tegbalowu_single_ema_positions(
+    series: &[f64],
+    n: usize,
+    out: &mut [f64],
+    work: &mut [f64],
+) -> CAnswer
+    ensures { λ r. ⌜ InNumbers (λ a. SingleEmaCall (now (series .entry)) n (now (out .entry)) (now (work .entry)) a
+        (now (out .exit)) (now (work .exit))) r ⌝ }
+{
+    numbers(rules::single_ema_positions(series, n, out, work))
 }

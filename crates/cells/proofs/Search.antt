@@ -26,3 +26,27 @@ firstBar-most t (suc j) e = go (t 0) (firstBar-most (λ i. t (suc i)) j e)
     go : (p : Bool) → firstBar (λ i. t (suc i)) (suc j) ≤ j → cond p 0 (suc (firstBar (λ i. t (suc i)) (suc j))) ≤ suc j
     go true h = omega arith
     go false h = omega arith
+
+-- ---- what a loop that searches keeps
+
+-- no bar before bar k passes
+abbrev pub NoneBefore : (ℕ → Bool) → ℕ → Type 0
+NoneBefore t k = (j : ℕ) → j < k → t j ≡ false
+
+-- bar k is the first that passes
+pub firstBar-found : (t : ℕ → Bool) (k l : ℕ) → NoneBefore t k → t k ≡ true → k < l → firstBar t l ≡ k
+unfolding firstBar
+firstBar-found t k zero none e h = absurd (omega arith)
+firstBar-found t zero (suc l) none e h = rw e
+firstBar-found t (suc k) (suc l) none e h =
+    rw (
+      none 0 (omega arith),
+      firstBar-found (λ j. t (suc j)) k l (λ j m. none (suc j) (suc-le-suc m)) e (omega arith),
+    )
+
+-- none does
+pub firstBar-none : (t : ℕ → Bool) (l : ℕ) → NoneBefore t l → firstBar t l ≡ l
+unfolding firstBar
+firstBar-none t zero none = refl
+firstBar-none t (suc l) none =
+    rw (none 0 (omega arith), firstBar-none (λ j. t (suc j)) l (λ j m. none (suc j) (suc-le-suc m)))

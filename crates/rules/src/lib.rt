@@ -5,6 +5,7 @@ ghost use Rattle.rules_single.specs.Single.{SingleCall};
 ghost use Rattle.rules_middle.specs.Middle.{MidCall};
 ghost use Rattle.rules_double.specs.Double.{DoubleCall};
 ghost use Rattle.rules_mms.specs.Mms.{MmsCall};
+ghost use Rattle.rules_ema.specs.SingleEma.{SingleEmaCall};
 
 // One average: the sign of price less the doubly averaged price, from bar 2n - 2 on.
 pub fn single_sma_positions(series: &[f64], n: usize, out: &mut [f64], work: &mut [f64]) -> Answer
@@ -58,6 +59,15 @@ pub fn mms_positions(
     let due = rules_mms::answer_mms(series, timeperiod, window, out.len(), work.len());
     if checks::cells_due(due, series.len(), work) {
         rules_mms::write_mms(series, timeperiod, window, out, work);
+// Exponential: the sign of price less the exponential average of the means, from n - 1 bars after the first mean that
+// is not 0 on.
+pub fn single_ema_positions(series: &[f64], n: usize, out: &mut [f64], work: &mut [f64]) -> Answer
+    ensures { λ r. ⌜ SingleEmaCall (now (series .entry)) n (now (out .entry)) (now (work .entry)) r (now (out .exit))
+        (now (work .exit)) ⌝ }
+{
+    let due = checks::answer_window_with_work(series, n, out.len(), work.len());
+    if checks::cells_due(due, series.len(), work) {
+        rules_ema::write_ema(series, n, out);
         cells::clear(work, 8 * series.len());
     }
     due

@@ -1,0 +1,146 @@
+-- The exponential rule: the search for its start, its cells, and where it does not look ahead. Assumes nothing.
+use mathlib.Core.Path.{_≡_, refl, sym, _∙_}
+use mathlib.Core.Bool.{Bool, true, false, cond}
+use mathlib.Core.List.{List}
+use Prim.Native.Nat.{ℕ, suc, _+_, _-_, _<_, _≤_}
+use native.Mathlib.Nat.{le-refl}
+use native.Mathlib.Omega.{arith}
+use borrow.Author.Tests.{ltb-true, lt-ltb, le-ltb}
+use lib.Dec.{ltb}
+use lib.ListN.{length, take}
+use lib.Ieee.{Float, binary64, sub}
+use Rattle.cells.specs.Line.{Line, line, plusZero, Same, Causal}
+use Rattle.cells.proofs.Line.{before-bar, from-bar, causal-same, causal-from}
+use Rattle.cells.specs.Written.{Writing}
+use Rattle.cells.proofs.Written.{writing-same, then-written}
+use Rattle.cells.proofs.Parts.{part-long, part-is}
+use Rattle.cells.specs.Search.{firstBar, nonZero}
+use Rattle.cells.proofs.Search.{
+  firstBar-same,
+  firstBar-met,
+  firstBar-most,
+  firstBar-found,
+  firstBar-none,
+  NoneBefore,
+}
+use Rattle.cells.specs.Recur.{carried}
+use Rattle.cells.proofs.Carried.{carried-same, carried-seed, carried-next}
+use Rattle.rounding.specs.Leaves.{signOf}
+use Rattle.windows.specs.Window.{mean}
+use Rattle.windows.proofs.Window.{causal-mean}
+use Rattle.averages_exponential.specs.Blend.{blend}
+use Rattle.averages_exponential.specs.Ema.{emaAlpha}
+use Rattle.rules_ema.specs.SingleEma.{firstUsable, emaOfMeans, singleEmaFrom, singleEmaLine}
+
+-- ---- the search
+
+-- bar k is not 0, and the bars before it are
+pub usable-found : (k l : ℕ) (f : Line) → NoneBefore (λ j. nonZero (f j)) k → nonZero (f k) ≡ true → k < l
+    → firstUsable l f ≡ k
+unfolding firstUsable
+usable-found k l f none e h = rw (firstBar-found (λ j. nonZero (f j)) k l none e h, lt-ltb k l h)
+
+-- every bar is 0
+pub usable-none : (l : ℕ) (f : Line) → NoneBefore (λ j. nonZero (f j)) l → firstUsable l f ≡ 0
+unfolding firstUsable
+usable-none l f none = rw (firstBar-none (λ j. nonZero (f j)) l none, le-ltb l l (omega arith))
+
+pub usable-same : (l : ℕ) (f g : Line) → ((j : ℕ) → j < l → f j ≡ g j) → firstUsable l f ≡ firstUsable l g
+unfolding firstUsable
+usable-same l f g same =
+    rw (firstBar-same (λ j. nonZero (f j)) (λ j. nonZero (g j)) l (λ j m. rw (same j m)))
+
+inside : (j l : ℕ) (t : Bool) → ltb j l ≡ t → cond t j 0 ≤ l
+inside j l true e = let h = ltb-true j l e in omega arith
+inside j l false e = omega arith
+
+pub usable-inside : (l : ℕ) (f : Line) → firstUsable l f ≤ l
+unfolding firstUsable
+usable-inside l f = inside (firstBar (λ j. nonZero (f j)) l) l _ refl
+
+-- ---- the cells
+
+module _ (start n : ℕ) (f : Line) where
+  -- the average begins with the mean of the last n means
+  pub first-average : {x : Float} → x ≡ mean n (mean n f) start → x ≡ emaOfMeans start n f start
+  unfolding emaOfMeans
+  first-average e = e ∙ sym (carried-seed _ _ _ _ _ start (omega arith))
+
+  -- and goes on with each bar's mean
+  pub next-average : (i : ℕ) {x m y : Float} → x ≡ emaOfMeans start n f i → m ≡ mean n f (i + 1)
+      → y ≡ blend (emaAlpha n) x m → start ≤ i
+      → y ≡ emaOfMeans start n f (i + 1)
+  unfolding emaOfMeans
+  next-average i p q e h = e ∙ rw (p, q) (sym (carried-next _ _ _ _ _ i h))
+
+  -- the position of bar i
+  pub position-at : (i : ℕ) {x p : Float} → x ≡ emaOfMeans start n f i → p ≡ signOf (sub binary64 (f i) x) → start ≤ i
+      → p ≡ singleEmaFrom start n f i
+  unfolding singleEmaFrom
+  position-at i e g h = rw (g, e, from-bar start plusZero _ i h)
+
+-- bars before it have none
+pub lead-written : (start n : ℕ) (f : Line) {k : ℕ} {old now : List Float} → Writing k (λ i. plusZero) old now
+    → k ≤ start
+    → Writing k (singleEmaFrom start n f) old now
+unfolding singleEmaFrom
+lead-written start n f w h = writing-same w (λ i l. sym (before-bar start plusZero _ i (omega arith)))
+
+-- ---- the stages, where the means of l bars stand in the first part of a slice
+
+module _ (n : ℕ) (f : Line) {l : ℕ} {old mid : List Float} (w : Writing l (mean n f) old mid) (h : l ≤ length old) where
+  -- the search among them
+  pub start-found : {r : ℕ} → r ≡ firstUsable (length (take l mid)) (line (take l mid)) → r ≡ firstUsable l (mean n f)
+  start-found e = e ∙ rw (part-long w h) (usable-same l _ _ (part-is w h))
+
+  -- the mean of n of them
+  pub seed-found : (start : ℕ) {x : Float} → x ≡ mean n (line (take l mid)) start → start < l
+      → x ≡ mean n (mean n f) start
+  seed-found start e k = e ∙ causal-mean n _ _ start (λ j m. part-is w h j (omega arith))
+
+  -- the cells from the start that was found are the rule's
+  pub found-written : {r : ℕ} {now : List Float} → r ≡ firstUsable (length (take l mid)) (line (take l mid))
+      → Writing l (singleEmaFrom (r + (n - 1)) n f) mid now → Writing l (singleEmaLine l n f) old now
+  unfolding singleEmaLine
+  found-written e v = then-written w (rw (← start-found e) v) (le-refl l)
+
+-- ---- no look-ahead, once the start is known
+
+pub causal-single-ema-from : (start n : ℕ) → Causal (singleEmaFrom start n)
+unfolding singleEmaFrom emaOfMeans
+causal-single-ema-from start n =
+    causal-from start plusZero
+    (λ f g b s h.
+    let means = causal-same (causal-mean n) f g b s in
+    rw (
+      s b (omega arith),
+      carried-same plusZero (blend (emaAlpha n)) start (mean n (mean n f) start) (mean n (mean n g) start) (mean n f)
+          (mean n g) b
+          (λ l. causal-mean n (mean n f) (mean n g) start (λ i q. means i (omega arith)))
+          means,
+    ))
+
+module _ (l l′ n : ℕ) (f g : Line) (b : ℕ) (h : b < l) (h′ : b < l′) (s : Same f g b) where
+  -- one of the means up to bar b is not 0: both searches end there, or before
+  starts-same : (j : ℕ) → j ≤ b → nonZero (mean n f j) ≡ true → firstUsable l (mean n f) ≡ firstUsable l′ (mean n g)
+  unfolding firstUsable
+  starts-same j m e =
+      let t : ℕ → Bool = λ i. nonZero (mean n f i) in
+      let u : ℕ → Bool = λ i. nonZero (mean n g i) in
+      let same : (i : ℕ) → i < suc j → t i ≡ u i = λ i k. rw (causal-same (causal-mean n) f g b s i (omega arith)) in
+      let e′ = sym (same j (omega arith)) ∙ e in
+      let k = firstBar-most t j e in
+      rw (
+        firstBar-met t j l e (omega arith),
+        firstBar-met u j l′ e′ (omega arith),
+        ← firstBar-same t u (suc j) same,
+        lt-ltb (firstBar t (suc j)) l (omega arith),
+        lt-ltb (firstBar t (suc j)) l′ (omega arith),
+      )
+
+  -- From the first mean that is not 0 on, the cells need nothing after their own bar.
+  pub single-ema-settles : (j : ℕ) → j ≤ b → nonZero (mean n f j) ≡ true
+      → Same (singleEmaLine l n f) (singleEmaLine l′ n g) b
+  unfolding singleEmaLine
+  single-ema-settles j m e i k =
+      rw (starts-same j m e) (causal-same (causal-single-ema-from (firstUsable l′ (mean n g) + (n - 1)) n) f g b s i k)

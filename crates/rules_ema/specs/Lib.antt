@@ -1,0 +1,4 @@
+-- The exponential rule: what it answers and writes, and small cases.
+pub mod Cases
+pub mod SingleEma
+pub mod inner
