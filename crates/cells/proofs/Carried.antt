@@ -1,13 +1,14 @@
--- Lines that carry their last cell have no look-ahead, where their seed has none. Assumes nothing.
+-- Lines that carry their last cell have no look-ahead, where their seed has none; their cells, bar by bar. Assumes nothing.
 use mathlib.Core.Path.{_≡_, refl}
 use mathlib.Core.Bool.{Bool, true, false, cond}
-use Prim.Native.Nat.{ℕ, _+_, _-_, _≤_}
+use Prim.Native.Nat.{ℕ, suc, _+_, _-_, _<_, _≤_}
 use native.Mathlib.Omega.{arith}
 use borrow.Author.Tests.{leb-true}
 use lib.Dec.{leb}
 use lib.Ieee.{Float}
 use Rattle.cells.specs.Line.{Line, fromBar, Same, Causal}
-use Rattle.cells.specs.Recur.{carried}
+use Rattle.cells.specs.Recur.{recur, carried}
+use Rattle.cells.proofs.Line.{from-bar}
 use Rattle.cells.proofs.Recur.{recur-same}
 
 cond-when : {A : Type 0} (t : Bool) (x y d : A) → (t ≡ true → x ≡ y) → cond t x d ≡ cond t y d
@@ -31,3 +32,19 @@ pub causal-carried : (d : Float) (step : Float → Float → Float) (a : ℕ) (s
     → ((f g : Line) → Same f g a → seed f ≡ seed g) → Causal (λ f. carried d step a (seed f) f)
 causal-carried d step a seed h f g b s =
     carried-same d step a (seed f) (seed g) f g b (λ l. h f g (λ j m. s j (omega arith))) s
+
+-- ---- its cells, as a loop finds them
+
+module _ (d : Float) (step : Float → Float → Float) (a : ℕ) (seed : Float) (f : Line) where
+  pub carried-seed : carried d step a seed f a ≡ seed
+  unfolding carried recur
+  carried-seed =
+      let none : a - a ≡ 0 = omega arith in
+      rw (from-bar a d _ a (omega arith), none)
+
+  pub carried-next : (i : ℕ) → a < i → carried d step a seed f i ≡ step (carried d step a seed f (i - 1)) (f i)
+  unfolding carried recur
+  carried-next i h =
+      let one : i - a ≡ suc (i - 1 - a) = omega arith in
+      let bar : a + 1 + (i - 1 - a) ≡ i = omega arith in
+      rw (from-bar a d _ i (omega arith), from-bar a d _ (i - 1) (omega arith), one, bar)
