@@ -17,7 +17,7 @@ ghost use Rattle.averages_exponential.specs.ExponentialSmoothing.{Expone
 ghost use Rattle.averages_exponential.specs.inner.Blending.{Seeded, HalfWay, Middle, Smoothing, Smooth};
 
 // alpha of x and the rest of `last`.
-fn blended(alpha: f64, last: f64, x: f64) -> f64
+pub fn blended(alpha: f64, last: f64, x: f64) -> f64
     ensures { λ r. ⌜ r ≡ blend alpha last x ⌝ }
 {
     alpha * x + (1.0 - alpha) * last

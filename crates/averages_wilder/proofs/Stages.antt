@@ -9,7 +9,7 @@ use Rattle.cells.proofs.Carried.{carried-seed, carried-next}
 use Rattle.windows.specs.Window.{over}
 use Rattle.windows.specs.inner.Sums.{Summing}
 use Rattle.windows.proofs.Window.{one-added}
-use Rattle.averages_wilder.specs.declared.Averages.{Averages}
+use Rattle.changes.specs.declared.Averages.{Averages}
 use Rattle.averages_wilder.specs.Wilder.{wilderStep, wilderSeed, wilder}
 use Rattle.averages_wilder.specs.WilderRsi.{wilderCell, wilderRsiLine}
 use Rattle.averages_wilder.specs.inner.Averaged.{Averaged}

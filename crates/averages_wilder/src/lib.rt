@@ -1,5 +1,6 @@
 // Wilder's averages of gains and losses, and the relative strength index that is made of them.
 use calls::Answer;
+use changes::Averages;
 ghost use mathlib.Core.Path.{_≡_};
 ghost use Prim.Native.Nat.{_-_, _*_, _<_, _≤_};
 ghost use lib.ListN.{length};
@@ -9,12 +10,6 @@ ghost use Rattle.cells.specs.Written.{Writing};
 ghost use Rattle.averages_wilder.specs.Wilder.{wilderStep};
 ghost use Rattle.averages_wilder.specs.WilderRsi.{wilderCell, wilderRsiLine, WilderRsiCall};
 ghost use Rattle.averages_wilder.specs.inner.Averaged.{Averaged};
-
-// Averages of gains and of losses.
-struct Averages {
-    gain: f64,
-    loss: f64,
-}
 
 // Wilder's next average: n - 1 parts of the last one and one part of x.
 pub fn step(last: f64, n: usize, x: f64) -> f64

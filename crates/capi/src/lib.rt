@@ -9,6 +9,8 @@ ghost use Rattle.smoother.specs.Smoother.{UltimateSmootherCall};
 ghost use Rattle.rules_single.specs.Single.{SingleCall};
 ghost use Rattle.rules_double.specs.Double.{DoubleCall};
 ghost use Rattle.rules_middle.specs.Middle.{MidCall};
+ghost use Rattle.averages_wilder.specs.WilderRsi.{WilderRsiCall};
+ghost use Rattle.rsx.specs.Rsx.{RsxCall};
 ghost use Rattle.capi.specs.Numbers.{Numbers, InNumbers};
 
 // An answer in numbers: the refusal, or 0, and how many cells were written.
@@ -116,4 +118,31 @@ pub extern "C" fn tegbalowu_mid_positions(
     ensures { λ r. ⌜ InNumbers (λ a. MidCall (now (series .entry)) n (now (out .entry)) (now (work .entry)) a (now (out .exit)) (now (work .exit))) r ⌝ }
 {
     numbers(rules::mid_positions(series, n, out, work))
+}
+
+#[no_mangle]
+pub extern "C" fn tegbalowu_wilder_rsi(
+    series: &[f64],
+    n: usize,
+    out: &mut [f64],
+    work: &mut [f64],
+) -> CAnswer
+    ensures { λ r. ⌜ InNumbers (λ a. WilderRsiCall (now (series .entry)) n (now (out .entry)) (now (work .entry)) a
+        (now (out .exit)) (now (work .exit))) r ⌝ }
+{
+    numbers(averages_wilder::wilder_rsi(series, n, out, work))
+}
+
+#[no_mangle]
+pub extern "C" fn tegbalowu_rsx_ss2(
+    close: &[f64],
+    period: usize,
+    smooth_period: usize,
+    out: &mut [f64],
+    work: &mut [f64],
+) -> CAnswer
+    ensures { λ r. ⌜ InNumbers (λ a. RsxCall (now (close .entry)) period «smooth_period» (now (out .entry))
+        (now (work .entry)) a (now (out .exit)) (now (work .exit))) r ⌝ }
+{
+    numbers(rsx::rsx_ss2(close, period, smooth_period, out, work))
 }

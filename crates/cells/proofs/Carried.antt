@@ -1,4 +1,4 @@
--- Lines that carry their last cell have no look-ahead, where their seed has none; their cells, bar by bar. Assumes nothing.
+-- Lines that carry their last cell: their cells bar by bar, and no look-ahead where the seed has none. Assumes nothing.
 use mathlib.Core.Path.{_≡_, refl}
 use mathlib.Core.Bool.{Bool, true, false, cond}
 use Prim.Native.Nat.{ℕ, suc, _+_, _-_, _<_, _≤_}

@@ -5,6 +5,12 @@ ghost use lib.ListN.{length};
 ghost use Rattle.cells.specs.Line.{line, plusZero};
 ghost use Rattle.changes.specs.Changes.{change, gain, loss, rsiFormula, rsi};
 
+// An average gain and an average loss.
+pub struct Averages {
+    pub gain: f64,
+    pub loss: f64,
+}
+
 // The value of bar i less that of the bar before.
 pub fn change_at(series: &[f64], i: usize) -> f64
     requires { ⌜ (0 < i) × (i < length (now series)) ⌝ }

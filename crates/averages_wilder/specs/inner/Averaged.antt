@@ -3,7 +3,7 @@ use mathlib.Core.Path.{_≡_}
 use Prim.Native.Nat.{ℕ}
 use Rattle.cells.specs.Line.{Line}
 use Rattle.changes.specs.Changes.{gains, losses}
-use Rattle.averages_wilder.specs.declared.Averages.{Averages}
+use Rattle.changes.specs.declared.Averages.{Averages}
 use Rattle.averages_wilder.specs.Wilder.{wilder}
 
 -- Wilder's averages of the gains and of the losses of f, at bar i
