@@ -124,6 +124,14 @@ tegbalowu_answer tegbalowu_mms_positions(const double *series, size_t series_len
  * prices. It starts n-1 bars after the first mean that is not 0, with the mean of n means; 0 earlier. */
 tegbalowu_answer tegbalowu_single_ema_positions(const double *series, size_t series_len, size_t n, double *out,
                                                 size_t out_len, double *work, size_t work_len);
+/* Wilder's relative strength index, from bar n; NaN earlier. 100 where the average loss is 0. */
+tegbalowu_answer tegbalowu_wilder_rsi(const double *series, size_t series_len, size_t n, double *out, size_t out_len,
+                                      double *work, size_t work_len);
+
+/* The relative strength index of exponential averages with factor 1 / period, NaN at bar 0, smoothed with smooth_period, from
+ * 0 to 512: the first four cells copy the index. A smooth_period of 0 is answered with count 0. */
+tegbalowu_answer tegbalowu_rsx_ss2(const double *close, size_t close_len, size_t period, size_t smooth_period,
+                                   double *out, size_t out_len, double *work, size_t work_len);
 
 #ifdef __cplusplus
 }

@@ -11,6 +11,8 @@ ghost use Rattle.rules_single.specs.Single.{SingleCall};
 ghost use Rattle.rules_double.specs.Double.{DoubleCall};
 ghost use Rattle.rules_middle.specs.Middle.{MidCall};
 ghost use Rattle.rules_ema.specs.SingleEma.{SingleEmaCall};
+ghost use Rattle.averages_wilder.specs.WilderRsi.{WilderRsiCall};
+ghost use Rattle.rsx.specs.Rsx.{RsxCall};
 ghost use Rattle.capi.specs.Numbers.{Numbers, InNumbers};
 ghost use Rattle.rules_mms.specs.Mms.{MmsCall};
 
@@ -139,6 +141,7 @@ pub extern "C" fn tegbalowu_mms_positions(
 {
     numbers(rules::mms_positions(series, timeperiod, window, out, work))
 pub extern "C" fn tegbalowu_single_ema_positions(
+pub extern "C" fn tegbalowu_wilder_rsi(
     series: &[f64],
     n: usize,
     out: &mut [f64],
@@ -148,4 +151,22 @@ pub extern "C" fn tegbalowu_single_ema_positions(
         (now (out .exit)) (now (work .exit))) r ⌝ }
 {
     numbers(rules::single_ema_positions(series, n, out, work))
+    ensures { λ r. ⌜ InNumbers (λ a. WilderRsiCall (now (series .entry)) n (now (out .entry)) (now (work .entry)) a
+        (now (out .exit)) (now (work .exit))) r ⌝ }
+{
+    numbers(averages_wilder::wilder_rsi(series, n, out, work))
+}
+
+#[no_mangle]
+pub extern "C" fn tegbalowu_rsx_ss2(
+    close: &[f64],
+    period: usize,
+    smooth_period: usize,
+    out: &mut [f64],
+    work: &mut [f64],
+) -> CAnswer
+    ensures { λ r. ⌜ InNumbers (λ a. RsxCall (now (close .entry)) period «smooth_period» (now (out .entry))
+        (now (work .entry)) a (now (out .exit)) (now (work .exit))) r ⌝ }
+{
+    numbers(rsx::rsx_ss2(close, period, smooth_period, out, work))
 }

@@ -1,7 +1,7 @@
--- Lines that carry their last cell have no look-ahead, where their seed has none. Assumes nothing.
+-- Lines that carry their last cell: their cells bar by bar, and no look-ahead where the seed has none. Assumes nothing.
 use mathlib.Core.Path.{_≡_, refl}
 use mathlib.Core.Bool.{Bool, true, false, cond}
-use Prim.Native.Nat.{ℕ, suc, _+_, _-_, _≤_}
+use Prim.Native.Nat.{ℕ, suc, _+_, _-_, _<_, _≤_}
 use native.Mathlib.Omega.{arith}
 use borrow.Author.Tests.{leb-true}
 use lib.Dec.{leb}
@@ -51,3 +51,9 @@ module _ (d : Float) (step : Float → Float → Float) (a : ℕ) (seed : Float)
       let one : i + 1 - a ≡ suc (i - a) = omega arith in
       let bar : a + 1 + (i - a) ≡ i + 1 = omega arith in
       rw (from-bar a d _ (i + 1) (omega arith), from-bar a d _ i h, one, bar)
+
+  -- the same, told from the later bar
+  pub carried-later : (i : ℕ) → a < i → carried d step a seed f i ≡ step (carried d step a seed f (i - 1)) (f i)
+  carried-later i h =
+      let bar : i - 1 + 1 ≡ i = omega arith in
+      rw bar at (carried-next (i - 1) (omega arith))

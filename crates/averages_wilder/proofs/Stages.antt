@@ -1,0 +1,43 @@
+-- Wilder's averages of gains and losses, as the loops find them. Assumes nothing.
+use mathlib.Core.Path.{_≡_, refl}
+use Prim.Native.Nat.{ℕ, _+_, _-_, _<_, _≤_}
+use native.Mathlib.Omega.{arith}
+use lib.Ieee.{Float, nan, binary64, add}
+use Rattle.cells.specs.Line.{Line, plusZero}
+use Rattle.cells.proofs.Line.{from-bar}
+use Rattle.cells.proofs.Carried.{carried-seed, carried-later}
+use Rattle.windows.specs.Window.{over}
+use Rattle.windows.specs.inner.Sums.{Summing}
+use Rattle.windows.proofs.Window.{one-added}
+use Rattle.changes.specs.declared.Averages.{Averages}
+use Rattle.averages_wilder.specs.Wilder.{wilderStep, wilderSeed, wilder}
+use Rattle.averages_wilder.specs.WilderRsi.{wilderCell, wilderRsiLine}
+use Rattle.averages_wilder.specs.inner.Averaged.{Averaged}
+
+-- one more bar is summed
+pub summed : {f : Line} {k : ℕ} {x y : Float} → Summing plusZero f 1 k x → y ≡ f (1 + k)
+    → Summing plusZero f 1 (k + 1) (add binary64 x y)
+summed s e = rw e (one-added s)
+
+-- the seed, from the sum of the bars 1 to n
+pub seed-of : (n : ℕ) (f : Line) {k : ℕ} {x : Float} → Summing plusZero f 1 k x → k ≡ n → over n x ≡ wilder n n f n
+unfolding wilder
+seed-of n f s e =
+    let start : n + 1 - n ≡ 1 = omega arith in
+    rw (carried-seed nan (wilderStep n) n (wilderSeed n n f) f n refl, s .is, e, start)
+
+-- the next cell
+pub next-of : (n i : ℕ) (f : Line) {x y : Float} → x ≡ wilder n n f (i - 1) → y ≡ f i → n < i
+    → wilderStep n x y ≡ wilder n n f i
+unfolding wilder
+next-of n i f e g h = rw (carried-later nan (wilderStep n) n (wilderSeed n n f) f i h, e, g)
+
+-- the cell of bar i
+pub rsi-at : (n i : ℕ) (f : Line) (r : Averages) → Averaged n f i r → n ≤ i
+    → wilderCell (r .gain) (r .loss) ≡ wilderRsiLine n f i
+unfolding wilderRsiLine
+rsi-at n i f r a h = rw (a .gain, a .loss, from-bar n nan _ i h)
+
+-- the bar, written in another way
+pub same-bar : {n i j : ℕ} {f : Line} {r : Averages} → Averaged n f i r → i ≡ j → Averaged n f j r
+same-bar a e = rw (← e) a

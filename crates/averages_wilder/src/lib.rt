@@ -1,0 +1,106 @@
+// Wilder's averages of gains and losses, and the relative strength index that is made of them.
+use calls::Answer;
+use changes::Averages;
+ghost use mathlib.Core.Path.{_≡_};
+ghost use Prim.Native.Nat.{_-_, _*_, _<_, _≤_};
+ghost use lib.ListN.{length};
+ghost use Rattle.limits.specs.Limits.{Window};
+ghost use Rattle.cells.specs.Line.{line};
+ghost use Rattle.cells.specs.Written.{Writing};
+ghost use Rattle.averages_wilder.specs.Wilder.{wilderStep};
+ghost use Rattle.averages_wilder.specs.WilderRsi.{wilderCell, wilderRsiLine, WilderRsiCall};
+ghost use Rattle.averages_wilder.specs.inner.Averaged.{Averaged};
+
+// Wilder's next average: n - 1 parts of the last one and one part of x.
+pub fn step(last: f64, n: usize, x: f64) -> f64
+    requires { ⌜ Window n ⌝ }
+    ensures { λ r. ⌜ r ≡ wilderStep n last x ⌝ }
+{
+    (last * ((n - 1) as f64) + x) / (n as f64)
+}
+
+// The cell of two averages: 100 where the average loss is 0.
+fn cell(averages: Averages) -> f64
+    ensures { λ r. ⌜ r ≡ wilderCell (averages .gain) (averages .loss) ⌝ }
+{
+    if averages.loss == 0.0 {
+        100.0
+    } else {
+        changes::strength(averages.gain, averages.loss)
+    }
+}
+
+// The means of the first n gains and losses, each summed from +0.0.
+fn seed(series: &[f64], n: usize) -> Averages
+    requires { ⌜ Window n × (n < length (now series)) ⌝ }
+    ensures { λ r. ⌜ Averaged n (line (now (series .entry))) n r ⌝ }
+{
+    let mut gain = 0.0;
+    let mut loss = 0.0;
+    let mut k = 0;
+    while k < n {
+        let change = changes::change_at(series, 1 + k);
+        gain = gain + changes::gain_of(change);
+        loss = loss + changes::loss_of(change);
+        k += 1;
+    }
+    Averages {
+        gain: gain / (n as f64),
+        loss: loss / (n as f64),
+    }
+}
+
+// The averages of bar i, from those of the bar before.
+fn next(series: &[f64], n: usize, i: usize, last: Averages) -> Averages
+    requires { ⌜ Window n × (n < i) × (i < length (now series)) ⌝ }
+    requires { ⌜ Averaged n (line (now series)) (i - 1) last ⌝ }
+    ensures { λ r. ⌜ Averaged n (line (now (series .entry))) i r ⌝ }
+{
+    let change = changes::change_at(series, i);
+    Averages {
+        gain: step(last.gain, n, changes::gain_of(change)),
+        loss: step(last.loss, n, changes::loss_of(change)),
+    }
+}
+
+// Writes the cells from bar n on, where those before it stand.
+fn write_from_seed(series: &[f64], n: usize, out: &mut [f64])
+    requires { ⌜ Window n × (n < length (now series)) × (length (now series) ≤ length (now out)) ⌝ }
+    requires { ⌜ Writing n (wilderRsiLine n (line (now series))) (now out) (now out) ⌝ }
+    ensures { λ _. ⌜ Writing (length (now (series .entry))) (wilderRsiLine n (line (now (series .entry))))
+        (now (out .entry)) (now (out .exit)) ⌝ }
+{
+    let mut averages = seed(series, n);
+    let mut i = n;
+    while i + 1 < series.len() {
+        out[i] = cell(averages);
+        i += 1;
+        averages = next(series, n, i, averages);
+    }
+    out[i] = cell(averages);
+}
+
+// Writes the index of every bar, NaN before bar n.
+fn write_wilder_rsi(series: &[f64], n: usize, out: &mut [f64])
+    requires { ⌜ Window n × (length (now series) ≤ length (now out)) ⌝ }
+    ensures { λ _. ⌜ Writing (length (now (series .entry))) (wilderRsiLine n (line (now (series .entry))))
+        (now (out .entry)) (now (out .exit)) ⌝ }
+{
+    let first = averages::fill_nan(out, n, series.len());
+    if first < series.len() {
+        write_from_seed(series, n, out);
+    }
+}
+
+// Wilder's relative strength index: see `wilderRsiLine`.
+pub fn wilder_rsi(series: &[f64], n: usize, out: &mut [f64], work: &mut [f64]) -> Answer
+    ensures { λ r. ⌜ WilderRsiCall (now (series .entry)) n (now (out .entry)) (now (work .entry)) r
+        (now (out .exit)) (now (work .exit)) ⌝ }
+{
+    let due = checks::answer_window_with_work(series, n, out.len(), work.len());
+    if checks::cells_due(due, series.len(), work) {
+        write_wilder_rsi(series, n, out);
+        cells::clear(work, 8 * series.len());
+    }
+    due
+}
