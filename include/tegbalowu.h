@@ -73,6 +73,11 @@ tegbalowu_answer tegbalowu_double_sma_positions(const double *series, size_t ser
 tegbalowu_answer tegbalowu_mid_positions(const double *series, size_t series_len, size_t n, double *out,
                                          size_t out_len, double *work, size_t work_len);
 
+/* Rank: the share of the n-1 means before the present one that lie below it, moved from 0..1 to -1..1 and rounded to
+ * hundredths, half away from zero, so that -0.0 is possible; from bar 2n-2, 0 earlier. n = 1 gives NaN at every bar. */
+tegbalowu_answer tegbalowu_rank_positions(const double *series, size_t series_len, size_t n, double *out,
+                                          size_t out_len, double *work, size_t work_len);
+
 #ifdef __cplusplus
 }
 #endif

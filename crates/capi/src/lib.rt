@@ -9,6 +9,7 @@ ghost use Rattle.smoother.specs.Smoother.{UltimateSmootherCall};
 ghost use Rattle.rules_single.specs.Single.{SingleCall};
 ghost use Rattle.rules_double.specs.Double.{DoubleCall};
 ghost use Rattle.rules_middle.specs.Middle.{MidCall};
+ghost use Rattle.rules_rank.specs.Rank.{RankCall};
 ghost use Rattle.capi.specs.Numbers.{Numbers, InNumbers};
 
 // An answer in numbers: the refusal, or 0, and how many cells were written.
@@ -116,4 +117,17 @@ pub extern "C" fn tegbalowu_mid_positions(
     ensures { λ r. ⌜ InNumbers (λ a. MidCall (now (series .entry)) n (now (out .entry)) (now (work .entry)) a (now (out .exit)) (now (work .exit))) r ⌝ }
 {
     numbers(rules::mid_positions(series, n, out, work))
+}
+
+#[no_mangle]
+pub extern "C" fn tegbalowu_rank_positions(
+    series: &[f64],
+    n: usize,
+    out: &mut [f64],
+    work: &mut [f64],
+) -> CAnswer
+    ensures { λ r. ⌜ InNumbers (λ a. RankCall (now (series .entry)) n (now (out .entry)) (now (work .entry)) a
+        (now (out .exit)) (now (work .exit))) r ⌝ }
+{
+    numbers(rules::rank_positions(series, n, out, work))
 }

@@ -4,6 +4,7 @@ ghost use Prim.Native.Nat.{_*_};
 ghost use Rattle.rules_single.specs.Single.{SingleCall};
 ghost use Rattle.rules_middle.specs.Middle.{MidCall};
 ghost use Rattle.rules_double.specs.Double.{DoubleCall};
+ghost use Rattle.rules_rank.specs.Rank.{RankCall};
 
 // One average: the sign of price less the doubly averaged price, from bar 2n - 2 on.
 pub fn single_sma_positions(series: &[f64], n: usize, out: &mut [f64], work: &mut [f64]) -> Answer
@@ -36,6 +37,20 @@ pub fn double_sma_positions(series: &[f64], n: usize, m: usize, out: &mut [f64])
     let due = rules_double::answer_double(series, n, m, out.len());
     if calls::has_cells(due) {
         rules_double::write_double(series, n, m, out);
+    }
+    due
+}
+
+// Rank: how many of the n - 1 means before the present one lie below it, moved to -1 .. 1 and rounded to hundredths, from
+// bar 2n - 2 on.
+pub fn rank_positions(series: &[f64], n: usize, out: &mut [f64], work: &mut [f64]) -> Answer
+    ensures { λ r. ⌜ RankCall (now (series .entry)) n (now (out .entry)) (now (work .entry)) r (now (out .exit))
+        (now (work .exit)) ⌝ }
+{
+    let due = checks::answer_window_with_work(series, n, out.len(), work.len());
+    if checks::cells_due(due, series.len(), work) {
+        rules_rank::write_rank(series, n, out, work);
+        cells::clear(work, 8 * series.len());
     }
     due
 }
