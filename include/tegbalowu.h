@@ -78,6 +78,11 @@ tegbalowu_answer tegbalowu_mid_positions(const double *series, size_t series_len
 tegbalowu_answer tegbalowu_rank_positions(const double *series, size_t series_len, size_t n, double *out,
                                           size_t out_len, double *work, size_t work_len);
 
+/* Rolling rank: the place, from 1, in the sorted window of the first value less than 1e-8 away from the present one, from
+ * bar window-1; 0 earlier. A window of 0 is no empty answer here: it gives 0 at every bar. */
+tegbalowu_answer tegbalowu_rolling_rank(const double *series, size_t series_len, size_t window, uint64_t *out,
+                                        size_t out_len, double *work, size_t work_len);
+
 #ifdef __cplusplus
 }
 #endif

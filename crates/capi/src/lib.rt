@@ -10,6 +10,7 @@ ghost use Rattle.rules_single.specs.Single.{SingleCall};
 ghost use Rattle.rules_double.specs.Double.{DoubleCall};
 ghost use Rattle.rules_middle.specs.Middle.{MidCall};
 ghost use Rattle.rules_rank.specs.Rank.{RankCall};
+ghost use Rattle.rules_rank.specs.RollingRank.{RollingRankCall};
 ghost use Rattle.capi.specs.Numbers.{Numbers, InNumbers};
 
 // An answer in numbers: the refusal, or 0, and how many cells were written.
@@ -130,4 +131,17 @@ pub extern "C" fn tegbalowu_rank_positions(
         (now (out .exit)) (now (work .exit))) r ⌝ }
 {
     numbers(rules::rank_positions(series, n, out, work))
+}
+
+#[no_mangle]
+pub extern "C" fn tegbalowu_rolling_rank(
+    series: &[f64],
+    window: usize,
+    out: &mut [u64],
+    work: &mut [f64],
+) -> CAnswer
+    ensures { λ r. ⌜ InNumbers (λ a. RollingRankCall (now (series .entry)) window (now (out .entry)) (now (work .entry)) a
+        (now (out .exit)) (now (work .exit))) r ⌝ }
+{
+    numbers(rules::rolling_rank(series, window, out, work))
 }
