@@ -132,6 +132,15 @@ tegbalowu_answer tegbalowu_wilder_rsi(const double *series, size_t series_len, s
  * 0 to 512: the first four cells copy the index. A smooth_period of 0 is answered with count 0. */
 tegbalowu_answer tegbalowu_rsx_ss2(const double *close, size_t close_len, size_t period, size_t smooth_period,
                                    double *out, size_t out_len, double *work, size_t work_len);
+/* Rank: the share of the n-1 means before the present one that lie below it, moved from 0..1 to -1..1 and rounded to
+ * hundredths, half away from zero, so that -0.0 is possible; from bar 2n-2, 0 earlier. n = 1 gives NaN at every bar. */
+tegbalowu_answer tegbalowu_rank_positions(const double *series, size_t series_len, size_t n, double *out,
+                                          size_t out_len, double *work, size_t work_len);
+
+/* Rolling rank: the place, from 1, in the sorted window of the first value less than 1e-8 away from the present one, from
+ * bar window-1; 0 earlier. A window of 0 is no empty answer here: it gives 0 at every bar. */
+tegbalowu_answer tegbalowu_rolling_rank(const double *series, size_t series_len, size_t window, uint64_t *out,
+                                        size_t out_len, double *work, size_t work_len);
 
 #ifdef __cplusplus
 }

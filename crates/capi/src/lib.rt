@@ -13,6 +13,8 @@ ghost use Rattle.rules_middle.specs.Middle.{MidCall};
 ghost use Rattle.rules_ema.specs.SingleEma.{SingleEmaCall};
 ghost use Rattle.averages_wilder.specs.WilderRsi.{WilderRsiCall};
 ghost use Rattle.rsx.specs.Rsx.{RsxCall};
+ghost use Rattle.rules_rank.specs.Rank.{RankCall};
+ghost use Rattle.rules_rank.specs.RollingRank.{RollingRankCall};
 ghost use Rattle.capi.specs.Numbers.{Numbers, InNumbers};
 ghost use Rattle.rules_mms.specs.Mms.{MmsCall};
 
@@ -142,6 +144,7 @@ pub extern "C" fn tegbalowu_mms_positions(
     numbers(rules::mms_positions(series, timeperiod, window, out, work))
 pub extern "C" fn tegbalowu_single_ema_positions(
 pub extern "C" fn tegbalowu_wilder_rsi(
+pub extern "C" fn tegbalowu_rank_positions(
     series: &[f64],
     n: usize,
     out: &mut [f64],
@@ -169,4 +172,21 @@ pub extern "C" fn tegbalowu_rsx_ss2(
         (now (work .entry)) a (now (out .exit)) (now (work .exit))) r ⌝ }
 {
     numbers(rsx::rsx_ss2(close, period, smooth_period, out, work))
+    ensures { λ r. ⌜ InNumbers (λ a. RankCall (now (series .entry)) n (now (out .entry)) (now (work .entry)) a
+        (now (out .exit)) (now (work .exit))) r ⌝ }
+{
+    numbers(rules::rank_positions(series, n, out, work))
+}
+
+#[no_mangle]
+pub extern "C" fn tegbalowu_rolling_rank(
+    series: &[f64],
+    window: usize,
+    out: &mut [u64],
+    work: &mut [f64],
+) -> CAnswer
+    ensures { λ r. ⌜ InNumbers (λ a. RollingRankCall (now (series .entry)) window (now (out .entry)) (now (work .entry)) a
+        (now (out .exit)) (now (work .exit))) r ⌝ }
+{
+    numbers(rules::rolling_rank(series, window, out, work))
 }

@@ -6,6 +6,8 @@ ghost use Rattle.rules_middle.specs.Middle.{MidCall};
 ghost use Rattle.rules_double.specs.Double.{DoubleCall};
 ghost use Rattle.rules_mms.specs.Mms.{MmsCall};
 ghost use Rattle.rules_ema.specs.SingleEma.{SingleEmaCall};
+ghost use Rattle.rules_rank.specs.Rank.{RankCall};
+ghost use Rattle.rules_rank.specs.RollingRank.{RollingRankCall};
 
 // One average: the sign of price less the doubly averaged price, from bar 2n - 2 on.
 pub fn single_sma_positions(series: &[f64], n: usize, out: &mut [f64], work: &mut [f64]) -> Answer
@@ -63,11 +65,30 @@ pub fn mms_positions(
 // is not 0 on.
 pub fn single_ema_positions(series: &[f64], n: usize, out: &mut [f64], work: &mut [f64]) -> Answer
     ensures { λ r. ⌜ SingleEmaCall (now (series .entry)) n (now (out .entry)) (now (work .entry)) r (now (out .exit))
+// Rank: how many of the n - 1 means before the present one lie below it, moved to -1 .. 1 and rounded to hundredths, from
+// bar 2n - 2 on.
+pub fn rank_positions(series: &[f64], n: usize, out: &mut [f64], work: &mut [f64]) -> Answer
+    ensures { λ r. ⌜ RankCall (now (series .entry)) n (now (out .entry)) (now (work .entry)) r (now (out .exit))
         (now (work .exit)) ⌝ }
 {
     let due = checks::answer_window_with_work(series, n, out.len(), work.len());
     if checks::cells_due(due, series.len(), work) {
         rules_ema::write_ema(series, n, out);
+        rules_rank::write_rank(series, n, out, work);
+        cells::clear(work, 8 * series.len());
+    }
+    due
+}
+
+// Rolling rank: the place, from 1, in the sorted window of the first value less than 1e-8 away from the present one, from bar
+// window - 1 on; 0 before it, and at every bar for a window of none.
+pub fn rolling_rank(series: &[f64], window: usize, out: &mut [u64], work: &mut [f64]) -> Answer
+    ensures { λ r. ⌜ RollingRankCall (now (series .entry)) window (now (out .entry)) (now (work .entry)) r
+        (now (out .exit)) (now (work .exit)) ⌝ }
+{
+    let due = rules_rank::answer_rolling_rank(series, window, out.len(), work.len());
+    if checks::cells_due(due, series.len(), work) {
+        rules_rank::write_rolling_rank(series, window, out);
         cells::clear(work, 8 * series.len());
     }
     due

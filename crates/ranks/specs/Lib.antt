@@ -1,0 +1,3 @@
+-- Counts of neighbouring cells.
+pub mod Counted
+pub mod inner

@@ -1,0 +1,5 @@
+pub mod Causal
+pub mod Cells
+pub mod Distances
+pub mod Place
+pub mod RollingCells

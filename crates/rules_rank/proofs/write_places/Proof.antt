@@ -1,0 +1,61 @@
+-- `write_places` meets its contract: each turn counts the values well below the bar's own and writes its place. Assumes nothing.
+use Prim.Native.Nat.{_-_, _≤_, min}
+use native.Mathlib.Omega.{arith}
+use borrow.Author.Needs.{needs}
+use denote.Ref.{now}
+use lib.Ieee.{ofBits, round}
+use lib.ListN.{length}
+use Rattle.cells.specs.Line.{line}
+use Rattle.cells.specs.Written.{Writing}
+use Rattle.cells.proofs.Written.{one-more, stands, then-written, ends}
+use Rattle.rounding.specs.Literals.{tenToMinus}
+use Rattle.rules_rank.specs.RollingRank.{rollingRankLine}
+use Rattle.rules_rank.proofs.RollingCells.{none-placed, placed}
+use Rattle.rules_rank.proofs.write_places.Statement.{statement}
+use Rattle.rules_rank.proofs.write_places.Tie as tie
+
+abbrev Inv-loop : tie.InvT-loop
+Inv-loop series window out₀ bars i₀ out i =
+    (min (window - 1) (length series) ≤ i) × (i ≤ length series) × Writing i (rollingRankLine window (line series)) out₀ out
+
+abbrev μ-loop : tie.MeasureT-loop
+μ-loop series window out₀ bars i₀ out i = length series - i
+
+loop-again : tie.Need-loop-again Inv-loop μ-loop
+unfolding tenToMinus round ofBits
+loop-again c =
+    let at = c .before .before .before in
+    let start = at .before .before .before .before .before .before .before .before in
+    let place = placed (now (start .args .series)) _ (at .loop .i) (start .pre .2) (c .count-below-by .ensures) (omega arith) in
+    (omega arith, omega arith, one-more (at .loop .inv .2) place (omega arith))
+
+returns : tie.Need-returns Inv-loop μ-loop
+returns c =
+    let at = c .before in
+    then-written (at .before .before .before .fill-none .ensures) (ends (at .loop .inv .2) (omega arith)) (omega arith)
+
+pub write-places-spec : {M : Type 1} → statement M
+write-places-spec =
+    tie.close
+    (tie.spec
+    Inv-loop
+    μ-loop
+    (λ c. search needs)  -- sub-smaller
+    (λ c κs. search needs)  -- smaller-requires
+    (λ c κs. search needs)  -- fill-none-requires
+    (λ c. (omega arith, omega arith, stands (none-placed _ _ (c .before .before .fill-none .ensures) (omega arith))))  -- loop-holds
+    (λ c. search needs)  -- add-count-below-by
+    (λ c. search needs)  -- sub-count-below-by
+    (λ c. search needs)  -- sub-count-below-by-2
+    (λ c. search needs)  -- mul-count-below-by
+    (λ c. search needs)  -- shared-slice-read-count-below-by
+    (λ c κs. search needs)  -- count-below-by-requires
+    (λ c. search needs)  -- add-out
+    (λ c. search needs)  -- mul-out
+    (λ c. search needs)  -- slice-write-out
+    (λ c. search needs)  -- add-i
+    (λ c. search needs)  -- loop-less
+    loop-again
+    (λ c. search needs)  -- same-length
+    returns
+    )

@@ -1,0 +1,6 @@
+pub mod Rank
+pub mod RankCases
+pub mod RollingRank
+pub mod RollingRankCases
+pub mod Sorted
+pub mod inner
