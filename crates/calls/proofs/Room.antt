@@ -1,4 +1,5 @@
--- The table of refusals in the forms that the checks meet it, and what is known of a call that it let pass. Assumes nothing.
+-- The table of refusals in the forms that the checks meet it, and what is known of a call that it let pass. Assumes
+-- nothing.
 use mathlib.Core.Path.{_≡_, refl, sym, _∙_}
 use mathlib.Core.Bool.{Bool, true, false, _&&_, _||_, true≢false}
 use mathlib.Core.List.{List, [], _∷_}

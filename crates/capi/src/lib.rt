@@ -185,7 +185,8 @@ pub extern "C" fn tegbalowu_rolling_rank(
     out: &mut [u64],
     work: &mut [f64],
 ) -> CAnswer
-    ensures { λ r. ⌜ InNumbers (λ a. RollingRankCall (now (series .entry)) window (now (out .entry)) (now (work .entry)) a
+    ensures { λ r. ⌜ InNumbers (λ a. RollingRankCall (now (series .entry)) window (now (out .entry))
+            (now (work .entry)) a
         (now (out .exit)) (now (work .exit))) r ⌝ }
 {
     numbers(rules::rolling_rank(series, window, out, work))

@@ -50,13 +50,15 @@ near-at-most (fin true m e) p q =
 accepted-at-most : (x : Float) → accepted x ≡ true → AtMost (2 ^ 30) x
 unfolding accepted
 accepted-at-most x e =
-    let (p, q) = and-parts (le (fin true 1 (pos 30)) x) (le x (fin false 1 (pos 30))) (and-parts (within 30 x) _ e .0) in
+    let (p, q) = and-parts (le (fin true 1 (pos 30)) x) (le x (fin false 1 (pos 30)))
+    (and-parts (within 30 x) _ e .0) in
     near-at-most x (subst T (sym p) tt) (subst T (sym q) tt)
 
 -- ---- sums, means and extremes of a line
 
 -- what holds of 0.0 and from bar c on
-pub from-bar-holds : (P : Float → Type 0) (c : ℕ) (g : Line) (i : ℕ) → P plusZero → (c ≤ i → P (g i)) → P (fromBar c plusZero g i)
+pub from-bar-holds : (P : Float → Type 0) (c : ℕ) (g : Line) (i : ℕ) → P plusZero → (c ≤ i → P (g i))
+    → P (fromBar c plusZero g i)
 unfolding fromBar
 from-bar-holds P c g i z h = go (leb c i) (leb→le c i)
   where
@@ -78,11 +80,13 @@ module _ (b : ℕ) (f : Line) (i : ℕ) (h : Bounded b f i) where
   sum-bounded a zero r = zero-at-most _ true
   sum-bounded a (suc k) r = add-at-most (sum-bounded a k (omega arith)) (h (a + k) (omega arith)) (omega arith)
 
-  pub running-bounded : (n k : ℕ) → ((n + 2 * k) * b ≤ 2 ^ 53) × (n + k ≤ i + 1) → AtMost ((n + 2 * k) * b) (runningSum addThenSubtract n f k)
+  pub running-bounded : (n k : ℕ) → ((n + 2 * k) * b ≤ 2 ^ 53) × (n + k ≤ i + 1)
+      → AtMost ((n + 2 * k) * b) (runningSum addThenSubtract n f k)
   unfolding runningSum recur
   running-bounded n zero r = rw add-zero (sum-bounded 0 n (omega arith))
   running-bounded n (suc k) r =
-      let s : AtMost ((n + 2 * k) * b + b) _ = add-at-most (running-bounded n k (omega arith)) (h (n + k) (omega arith)) (omega arith) in
+      let s : AtMost ((n + 2 * k) * b + b) _ = add-at-most (running-bounded n k (omega arith))
+      (h (n + k) (omega arith)) (omega arith) in
       sub-at-most s (h k (omega arith)) (omega arith)
 
   picked-bounded : (pick : Float → Float → Float) → ((x y : Float) → AtMost b x → AtMost b y → AtMost b (pick x y))
@@ -99,11 +103,13 @@ module _ (n : ℕ) (N : 0 < n) (M : n ≤ 2 ^ 12) (f : Line) (i : ℕ) (h : Boun
       from-bar-holds (AtMost (2 ^ 30)) (n - 1) _ j (zero-at-most _ false)
       (λ k. div-at-most (sum-bounded (2 ^ 30) f i h (j + 1 - n) n (omega arith)) n (omega arith))
 
-  extreme-bounded : (pick : Float → Float → Float) → ((x y : Float) → AtMost (2 ^ 30) x → AtMost (2 ^ 30) y → AtMost (2 ^ 30) (pick x y))
+  extreme-bounded : (pick : Float → Float → Float)
+      → ((x y : Float) → AtMost (2 ^ 30) x → AtMost (2 ^ 30) y → AtMost (2 ^ 30) (pick x y))
       → AtMost (2 ^ 30) (extreme pick n f i)
   unfolding extreme
   extreme-bounded pick p =
-      from-bar-holds (AtMost (2 ^ 30)) (n - 1) _ i (zero-at-most _ false) (λ k. picked-bounded (2 ^ 30) f i h pick p (i + 1 - n) (n - 1) (omega arith))
+      from-bar-holds (AtMost (2 ^ 30)) (n - 1) _ i (zero-at-most _ false)
+      (λ k. picked-bounded (2 ^ 30) f i h pick p (i + 1 - n) (n - 1) (omega arith))
 
   pub highest-bounded : AtMost (2 ^ 30) (extreme larger n f i)
   highest-bounded = extreme-bounded larger (λ x y p q. either (lt x y) q p)
@@ -112,13 +118,16 @@ module _ (n : ℕ) (N : 0 < n) (M : n ≤ 2 ^ 12) (f : Line) (i : ℕ) (h : Boun
   lowest-bounded = extreme-bounded smaller (λ x y p q. either (lt y x) q p)
 
 -- the means of accepted prices are numbers
-pub means-are-numbers : (n : ℕ) (s : List Float) → Window n → all accepted s ≡ true → Numbers (mean n (line s)) (length s)
+pub means-are-numbers : (n : ℕ) (s : List Float) → Window n → all accepted s ≡ true
+    → Numbers (mean n (line s)) (length s)
 means-are-numbers n s w h = record {
-  at = λ i l. at-most-number (mean-bounded n (w .some) (omega (arith, w .narrow)) (line s) i (prices-bounded s i h l) i (le-refl i));
+  at = λ i l. at-most-number (mean-bounded n (w .some) (omega (arith, w .narrow)) (line s) i (prices-bounded s i h l)
+      i (le-refl i));
 }
 
 -- in the first part of a slice they have windows of w means
-pub means-room : (s : List Float) {n w cells : ℕ} {old mid : List Float} → Window n → Window w → length s ≤ longestSeries
+pub means-room : (s : List Float) {n w cells : ℕ} {old mid : List Float} → Window n → Window w
+    → length s ≤ longestSeries
     → all accepted s ≡ true → Writing (length s) (mean n (line s)) old mid → length s ≤ length old
     → length s + length s ≤ cells → Room (take (length s) mid) w cells
 means-room s {n} window wide short values v h l =

@@ -27,4 +27,5 @@ pub both-through : {k : ℕ} {g : Line} {old mid : List Float} → Writing k g o
 both-through {k} {g} {mid = mid} w h F G p q v =
     let t = line (take k mid) in
     let same : (i : ℕ) → i < k → (j : ℕ) → j ≤ i → t j ≡ g j = λ i l j m. part-is w h j (omega arith) in
-    writing-same (rw (part-long w h) at v) (beside-same k k _ _ _ _ (λ i l. p t g i (same i l)) (λ i l. q t g i (same i l)))
+    writing-same (rw (part-long w h) at v)
+    (beside-same k k _ _ _ _ (λ i l. p t g i (same i l)) (λ i l. q t g i (same i l)))

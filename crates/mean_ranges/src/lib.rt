@@ -11,7 +11,8 @@ ghost use Rattle.mean_ranges.specs.inner.Ranges.{Ranges};
 pub fn write_mean_ranges(series: &[f64], n: usize, w: usize, means: &mut [f64], rows: &mut [f64])
     requires { ⌜ Priced 2 n (now series) (length (now means)) (length (now rows)) ⌝ }
     requires { ⌜ Window w ⌝ }
-    ensures { λ _. ⌜ Writing (length (now (series .entry))) (mean n (line (now (series .entry)))) (now (means .entry)) (now (means .exit))
+    ensures { λ _. ⌜ Writing (length (now (series .entry))) (mean n (line (now (series .entry)))) (now (means .entry))
+        (now (means .exit))
         × Ranges n w (now (series .entry)) (now (rows .entry)) (now (rows .exit)) ⌝ }
 {
     let bars = series.len();

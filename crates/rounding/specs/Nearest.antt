@@ -1,5 +1,5 @@
--- What it is to be the number of a format nearest to a fraction. Every finite number is a whole number of units, the format's
--- smallest value 2 ^ -low, with a sign. Assumes nothing.
+-- What it is to be the number of a format nearest to a fraction. Every finite number is a whole number of units, the
+-- format's smallest value 2 ^ -low, with a sign. Assumes nothing.
 use mathlib.Core.Path.{_≡_}
 use mathlib.Core.Bool.{Bool, cond}
 use Prim.Native.Nat.{ℕ, _*_, _/_, _^_, _≤_, _%_}

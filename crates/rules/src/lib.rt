@@ -65,8 +65,8 @@ pub fn mms_positions(
 // is not 0 on.
 pub fn single_ema_positions(series: &[f64], n: usize, out: &mut [f64], work: &mut [f64]) -> Answer
     ensures { λ r. ⌜ SingleEmaCall (now (series .entry)) n (now (out .entry)) (now (work .entry)) r (now (out .exit))
-// Rank: how many of the n - 1 means before the present one lie below it, moved to -1 .. 1 and rounded to hundredths, from
-// bar 2n - 2 on.
+// Rank: how many of the n - 1 means before the present one lie below it, moved to -1 .. 1 and rounded to hundredths,
+// from bar 2n - 2 on.
 pub fn rank_positions(series: &[f64], n: usize, out: &mut [f64], work: &mut [f64]) -> Answer
     ensures { λ r. ⌜ RankCall (now (series .entry)) n (now (out .entry)) (now (work .entry)) r (now (out .exit))
         (now (work .exit)) ⌝ }
@@ -80,8 +80,8 @@ pub fn rank_positions(series: &[f64], n: usize, out: &mut [f64], work: &mut [f64
     due
 }
 
-// Rolling rank: the place, from 1, in the sorted window of the first value less than 1e-8 away from the present one, from bar
-// window - 1 on; 0 before it, and at every bar for a window of none.
+// Rolling rank: the place, from 1, in the sorted window of the first value less than 1e-8 away from the present one,
+// from bar window - 1 on; 0 before it, and at every bar for a window of none.
 pub fn rolling_rank(series: &[f64], window: usize, out: &mut [u64], work: &mut [f64]) -> Answer
     ensures { λ r. ⌜ RollingRankCall (now (series .entry)) window (now (out .entry)) (now (work .entry)) r
         (now (out .exit)) (now (work .exit)) ⌝ }

@@ -20,7 +20,8 @@ causal-mid n p =
       causal-then (causal-mean n) (causal-extreme smaller n p) f g b s,
     ))
 
-pub mid-at : (n : ℕ) (f : Line) (i : ℕ) {m h l : Float} → m ≡ mean n f i → h ≡ extreme larger n (mean n f) i → l ≡ extreme smaller n (mean n f) i
+pub mid-at : (n : ℕ) (f : Line) (i : ℕ) {m h l : Float} → m ≡ mean n f i → h ≡ extreme larger n (mean n f) i → l
+    ≡ extreme smaller n (mean n f) i
     → 2 * n - 2 ≤ i → againstMiddle m h l ≡ midLine n f i
 unfolding midLine
 mid-at n f i e g k p = rw (e, g, k, from-bar (2 * n - 2) plusZero _ i p)

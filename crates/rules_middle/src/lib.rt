@@ -28,7 +28,8 @@ fn against_middle(average: f64, high: f64, low: f64) -> f64
 fn write_against_middles(series: &[f64], n: usize, out: &mut [f64], work: &[f64])
     requires { ⌜ Averaged n (now series) (mean n (line (now series))) (now out) ⌝ }
     requires { ⌜ (2 * length (now series) ≤ length (now work)) × Ranges n n (now series) (now work) (now work) ⌝ }
-    ensures { λ _. ⌜ Writing (length (now (series .entry))) (midLine n (line (now (series .entry)))) (now (out .entry)) (now (out .exit)) ⌝ }
+    ensures { λ _. ⌜ Writing (length (now (series .entry))) (midLine n (line (now (series .entry))))
+        (now (out .entry)) (now (out .exit)) ⌝ }
 {
     let bars = series.len();
     let mut i = cells::fill_lead(out, 2 * n - 2, bars, 0.0);
@@ -41,7 +42,8 @@ fn write_against_middles(series: &[f64], n: usize, out: &mut [f64], work: &[f64]
 // Writes each bar's position. The first two rows of `work` are used.
 pub fn write_mid(series: &[f64], n: usize, out: &mut [f64], work: &mut [f64])
     requires { ⌜ Priced 2 n (now series) (length (now out)) (length (now work)) ⌝ }
-    ensures { λ _. ⌜ Writing (length (now (series .entry))) (midLine n (line (now (series .entry)))) (now (out .entry)) (now (out .exit))
+    ensures { λ _. ⌜ Writing (length (now (series .entry))) (midLine n (line (now (series .entry))))
+        (now (out .entry)) (now (out .exit))
         × Touched (2 * length (now (series .entry))) (now (work .entry)) (now (work .exit)) ⌝ }
 {
     mean_ranges::write_mean_ranges(series, n, n, out, work);

@@ -193,7 +193,8 @@ shorter : (d g c : ℕ) (bound : Float) → 0 < c → g ≤ d → lt (round bina
 shorter d g c bound C h e =
     let small = round binary64 false g c in
     let large = round binary64 false d c in
-    let order = not-below small large (round-number false g c) (round-number false d c) (round-mono binary64 g c d c C C (mul-le-mul-right c h)) in
+    let order = not-below small large (round-number false g c) (round-number false d c)
+    (round-mono binary64 g c d c C C (mul-le-mul-right c h)) in
     either-way _ (λ z. true≢false (sym e ∙ lt-between false large small bound (round-number false g c) order z))
 
 -- ---- three numbers on one scale
@@ -402,7 +403,13 @@ well-below-is v x z X = go (ltb (lower C p r) (upper C p r)) refl
     go : (t : Bool) → ltb (lower C p r) (upper C p r) ≡ t → belowBy (tenToMinus 8) v x ≡ wellBelow v x
     go true e =
         let d = round binary64 false (gap (lower C p r) (upper C p r)) (s .c) in
-        rw (order-is C p r ∙ e, size-is C p r, less, more (r .sign) (p .sign) (r .count) (p .count) (s .c) (ltb-true _ _ e))
+        rw (
+          order-is C p r ∙ e,
+          size-is C p r,
+          less,
+          more (r .sign) (p .sign) (r .count) (p .count) (s .c)
+              (ltb-true _ _ e),
+        )
         (le-is (tenToMinus 8) d near-number (round-number false _ (s .c)))
     go false e =
         rw (order-is C p r ∙ e, less) (no-more (r .sign) (p .sign) (r .count) (p .count) (s .c) C (ltb-false _ _ e))

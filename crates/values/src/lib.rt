@@ -66,8 +66,8 @@ pub fn cap(x: f64) -> f64
     if x < 2147483648.0 { x } else { 2147483648.0 }
 }
 
-// The bits of the numbers of s from index `first` up to `end`, one upon the other (OR), so that none has larger ones. What is
-// not below 2^31 counts as that.
+// The bits of the numbers of s from index `first` up to `end`, one upon the other (OR), so that none has larger ones.
+// What is not below 2^31 counts as that.
 pub fn bits_together(s: &[f64], first: usize, end: usize) -> u64
     requires { ⌜ end ≤ length (now s) ⌝ }
     ensures { λ r. ⌜ BitsOf (line (now (s .entry))) first (end - first) r ⌝ }

@@ -90,7 +90,8 @@ module _ {from to bars n first e : ℕ} {old now : List Float} (g : RowRoom from
 
 -- ---- bars side by side
 
-pub eight-moved : (a b : ℕ) {f g : Line} {r : Lanes} → Eight g a r → ((k : ℕ) → k < 8 → g (a + k) ≡ f (b + k)) → Eight f b r
+pub eight-moved : (a b : ℕ) {f g : Line} {r : Lanes} → Eight g a r → ((k : ℕ) → k < 8 → g (a + k) ≡ f (b + k))
+    → Eight f b r
 eight-moved a b {f} {g} e h =
     let first : g a ≡ f b = rw (add-zero, add-zero) at (h 0 (omega arith)) in
     record {
@@ -111,9 +112,9 @@ sixteen-moved a b {f} {g} e h = record {
   high =
       eight-moved (a + 8) (b + 8) (e .high)
       (λ k l.
-        let x : a + 8 + k ≡ a + (8 + k) = omega arith in
-        let y : b + 8 + k ≡ b + (8 + k) = omega arith in
-        rw (x, y) (h (8 + k) (omega arith)));
+      let x : a + 8 + k ≡ a + (8 + k) = omega arith in
+      let y : b + 8 + k ≡ b + (8 + k) = omega arith in
+      rw (x, y) (h (8 + k) (omega arith)));
 }
 
 -- ---- on from a bar that was reached
@@ -122,12 +123,14 @@ pub row-goes-on : {from to bars n first r e : ℕ} {old mid now : List Float} �
     → RowReached from to bars n first r old mid → Writing e (meansOfRow from to n r mid) mid now
     → (to + r ≤ e) × (e ≤ to + bars) → Writing e (meansOfRow from to n first old) old now
 row-goes-on {from} {to} {bars} {n} {first} {r} {e} {old} {mid} g w v (p, q) =
-    writing-same (then-written (w .means) v p) (λ j l. same j l (ltb j (to + r)) (ltb→lt j (to + r)) (nltb→le j (to + r)))
+    writing-same (then-written (w .means) v p)
+    (λ j l. same j l (ltb j (to + r)) (ltb→lt j (to + r)) (nltb→le j (to + r)))
   where
     same : (j : ℕ) → j < e → (t : Bool) → (T t → j < to + r) → (T (not t) → to + r ≤ j)
         → meansOfRow from to n r mid j ≡ meansOfRow from to n first old j
     same j l true x y =
-        row-before from to n r mid j (x tt) ∙ read-back j nan (w .means) (let h = x tt in let i = w .inside in omega arith)
+        row-before from to n r mid j (x tt)
+        ∙ read-back j nan (w .means) (let h = x tt in let i = w .inside in omega arith)
     same j l false x y =
         let h = y tt in
         let bar : j ≡ to + (j - to) = omega arith in

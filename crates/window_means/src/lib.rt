@@ -181,7 +181,8 @@ fn row_of_eight(
 // The same for each bar from `first` to the last.
 fn row_by_one(cells: &mut [f64], from: usize, to: usize, bars: usize, n: usize, first: usize)
     requires { ⌜ RowRoom from to bars n first (length (now cells)) ⌝ }
-    ensures { λ _. ⌜ Writing (to + bars) (meansOfRow from to n first (now (cells .entry))) (now (cells .entry)) (now (cells .exit)) ⌝ }
+    ensures { λ _. ⌜ Writing (to + bars) (meansOfRow from to n first (now (cells .entry))) (now (cells .entry))
+        (now (cells .exit)) ⌝ }
 {
     let mut i = first;
     while i < bars {
@@ -201,7 +202,8 @@ pub fn write_means_of_row(
     first: usize,
 )
     requires { ⌜ RowRoom from to bars n first (length (now cells)) ⌝ }
-    ensures { λ _. ⌜ Writing (to + bars) (meansOfRow from to n first (now (cells .entry))) (now (cells .entry)) (now (cells .exit)) ⌝ }
+    ensures { λ _. ⌜ Writing (to + bars) (meansOfRow from to n first (now (cells .entry))) (now (cells .entry))
+        (now (cells .exit)) ⌝ }
 {
     let fewer = row_by_sixteen(cells, from, to, bars, n, first);
     let few = row_of_eight(cells, from, to, bars, n, fewer);

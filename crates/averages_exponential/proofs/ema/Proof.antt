@@ -30,8 +30,14 @@ fits c = fits-parts _ _ _ (told c)
 answer-smooth-requires : tie.Need-answer-smooth-requires
 answer-smooth-requires c κs =
     let at-sum = c .before .before .before .before in
-    let h = fits (at-sum .before) in
-    (record { inside = omega arith; bits = none-within _ _ (bits-first _ _ (at-sum .sum-first .ensures .bits)) (omega arith) }, h .room)
+    let h = fits (at-sum .before) in (
+      record {
+        inside = omega arith;
+        bits = none-within _ _ (bits-first _ _ (at-sum .sum-first .ensures .bits))
+            (omega arith);
+      },
+      h .room,
+    )
 
 returns : tie.Need-returns
 unfolding ofBits

@@ -35,7 +35,8 @@ write-mean-ranges-spec =
     (tie.spec
     (λ c κs. search needs)  -- write-means-of-prices-requires
     (λ c. search needs)  -- slice-reshare-prefix-write-ranges
-    (λ c. sym (part-long (c .before .before .before .write-means-of-prices .ensures) (omega arith)))  -- slice-aggregate-write-ranges
+    -- slice-aggregate-write-ranges
+    (λ c. sym (part-long (c .before .before .before .write-means-of-prices .ensures) (omega arith)))
     write-ranges-requires
     (λ c. search needs)  -- same-length
     (λ c. search needs)  -- same-length-2

@@ -27,7 +27,8 @@ count-below-spec =
     (λ c. search needs)  -- mul-one-if
     (λ c. search needs)  -- shared-slice-read-one-if
     (λ c κs. search needs)  -- one-if-requires
-    (λ c. let next = one-counted (c .before .before .before .loop .inv .1) (c .one-if .ensures) in search needs)  -- add-passed
+    -- add-passed
+    (λ c. let next = one-counted (c .before .before .before .loop .inv .1) (c .one-if .ensures) in search needs)
     (λ c. search needs)  -- add-k
     (λ c. search needs)  -- loop-less
     (λ c. (omega arith, one-counted (c .before .before .before .loop .inv .1) (c .one-if .ensures)))  -- loop-again

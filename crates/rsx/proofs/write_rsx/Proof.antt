@@ -24,7 +24,8 @@ unfolding rsxLine
 returns c =
     let cells = c .before .before in
     let index = cells .before .before .before .before .before .write-index .ensures in
-    let smoothed = through index (omega arith) (smooth (coefficients _)) (causal-smooth _) (cells .write-smooth .ensures) in
+    let smoothed = through index (omega arith) (smooth (coefficients _)) (causal-smooth _)
+    (cells .write-smooth .ensures) in
     (smoothed, touched index)
 
 pub write-rsx-spec : {M : Type 1} → statement M

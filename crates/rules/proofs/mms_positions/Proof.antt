@@ -14,7 +14,8 @@ use Rattle.rules.proofs.mms_positions.Tie as tie
 -- where cells are due
 opened : (c : tie.Then1) →
     let a = c .before .before .before .before .before .before .before .before .before .args in
-    Priced 8 (a .timeperiod) (now (a .series)) (length (now (a .out))) (length (c .before .before .before .cells-due .last .1 .1 .0))
+    Priced 8 (a .timeperiod) (now (a .series)) (length (now (a .out)))
+    (length (c .before .before .before .cells-due .last .1 .1 .0))
     × Window (a .window)
 opened c =
     let due = c .before .before .before in
@@ -45,8 +46,10 @@ mms-positions-spec =
     (λ c κs. search needs)  -- answer-mms-requires
     (λ c κs. clearable _ _ _ _ (c .before .answer-mms .ensures))  -- cells-due-requires
     (λ c κs. let o = opened (c .before .before) in (fewer-rows (o .0) (omega arith), o .1))  -- write-mms-requires
-    (λ c. let o = opened (c .before .before .before .before .before .before .before .before) in search needs)  -- mul-clear
-    (λ c κs. let o = opened (c .before .before .before .before .before .before .before .before) in search needs)  -- clear-requires
+    -- mul-clear
+    (λ c. let o = opened (c .before .before .before .before .before .before .before .before) in search needs)
+    -- clear-requires
+    (λ c κs. let o = opened (c .before .before .before .before .before .before .before .before) in search needs)
     (λ c. search needs)  -- same-length
     (λ c. search needs)  -- same-length-2
     returns

@@ -13,7 +13,8 @@ use Rattle.rules.proofs.rank_positions.Tie as tie
 -- where cells are due
 opened : (c : tie.Then1) →
     let a = c .before .before .before .before .before .before .before .before .before .args in
-    Priced 8 (a .n) (now (a .series)) (length (now (a .out))) (length (c .before .before .before .cells-due .last .1 .1 .0))
+    Priced 8 (a .n) (now (a .series)) (length (now (a .out)))
+    (length (c .before .before .before .cells-due .last .1 .1 .0))
 opened c =
     let due = c .before .before .before in
     priced _ _ _ _ (due .before .before .answer-window-with-work .ensures) (due .cells-due .ensures) (c .if1 .taken)
@@ -24,7 +25,9 @@ returns c =
     let cells = clear .before .before .before .before .before .before in
     let then = cells .before .before .before in
     let due = then .before .before .before in
-    written-call (due .before .before .answer-window-with-work .ensures) (all-bars _ _ _ _ _) (rw (then .if1 .taken) at (due .cells-due .ensures)) (cells .write-rank .ensures) (omega arith) (clear .clear .ensures)
+    written-call (due .before .before .answer-window-with-work .ensures) (all-bars _ _ _ _ _)
+    (rw (then .if1 .taken) at (due .cells-due .ensures)) (cells .write-rank .ensures) (omega arith)
+    (clear .clear .ensures)
 
 pub rank-positions-spec : {M : Type 1} → statement M
 rank-positions-spec =
@@ -33,11 +36,14 @@ rank-positions-spec =
     (λ c κs. search needs)  -- answer-window-with-work-requires
     (λ c κs. clearable _ _ _ _ (c .before .answer-window-with-work .ensures))  -- cells-due-requires
     (λ c κs. fewer-rows (opened (c .before .before)) (omega arith))  -- write-rank-requires
-    (λ c. let o = opened (c .before .before .before .before .before .before .before .before) in search needs)  -- mul-clear
-    (λ c κs. let o = opened (c .before .before .before .before .before .before .before .before) in search needs)  -- clear-requires
+    -- mul-clear
+    (λ c. let o = opened (c .before .before .before .before .before .before .before .before) in search needs)
+    -- clear-requires
+    (λ c κs. let o = opened (c .before .before .before .before .before .before .before .before) in search needs)
     (λ c. search needs)  -- same-length
     (λ c. search needs)  -- same-length-2
     returns
     (λ c. search needs)  -- same-length-3
-    (λ c. let due = c .before .before .before in empty-call (due .before .before .answer-window-with-work .ensures) (rw (c .if1 .left) at (due .cells-due .ensures)))  -- returns-2
+    (λ c. let due = c .before .before .before in empty-call (due .before .before .answer-window-with-work .ensures)
+    (rw (c .if1 .left) at (due .cells-due .ensures)))  -- returns-2
     )

@@ -1,5 +1,5 @@
--- `rolling_rank` meets its contract: the answer is the table's, and where it has cells they are written and the work slice is
--- cleared. Assumes nothing.
+-- `rolling_rank` meets its contract: the answer is the table's, and where it has cells they are written and the work
+-- slice is cleared. Assumes nothing.
 use native.Mathlib.Omega.{arith}
 use borrow.Author.Needs.{needs}
 use denote.Ref.{now}
@@ -25,7 +25,9 @@ returns c =
     let cells = clear .before .before .before .before in
     let then = cells .before .before in
     let due = then .before .before .before in
-    written-call (due .before .before .answer-rolling-rank .ensures) (rolling-bars _ _ _ _) (rw (then .if1 .taken) at (due .cells-due .ensures)) (cells .write-rolling-rank .ensures, untouched {k = 0}) (omega arith) (clear .clear .ensures)
+    written-call (due .before .before .answer-rolling-rank .ensures) (rolling-bars _ _ _ _)
+    (rw (then .if1 .taken) at (due .cells-due .ensures)) (cells .write-rolling-rank .ensures, untouched {k = 0})
+    (omega arith) (clear .clear .ensures)
 
 pub rolling-rank-spec : {M : Type 1} → statement M
 rolling-rank-spec =
@@ -40,5 +42,6 @@ rolling-rank-spec =
     (λ c. search needs)  -- same-length-2
     returns
     (λ c. search needs)  -- same-length-3
-    (λ c. let due = c .before .before .before in empty-call (due .before .before .answer-rolling-rank .ensures) (rw (c .if1 .left) at (due .cells-due .ensures)))  -- returns-2
+    (λ c. let due = c .before .before .before in empty-call (due .before .before .answer-rolling-rank .ensures)
+    (rw (c .if1 .left) at (due .cells-due .ensures)))  -- returns-2
     )

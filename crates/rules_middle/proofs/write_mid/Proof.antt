@@ -16,8 +16,11 @@ write-against-middles-requires c κs =
 returns : tie.Need-returns
 returns c =
     let cells = c .before .before in
-    let ranges = cells .before .before .before .before .before .before .before .write-mean-ranges .ensures in
-    (then-written (ranges .0) (cells .write-against-middles .ensures) (omega arith), touched-more (touched (ranges .1)) (omega arith))
+    let ranges = cells .before .before .before .before .before .before .before .write-mean-ranges .ensures in (
+      then-written (ranges .0) (cells .write-against-middles .ensures) (omega arith),
+      touched-more
+          (touched (ranges .1)) (omega arith),
+    )
 
 pub write-mid-spec : {M : Type 1} → statement M
 write-mid-spec =

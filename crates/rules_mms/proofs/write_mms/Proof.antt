@@ -16,8 +16,11 @@ write-scaled-requires c κs =
 returns : tie.Need-returns
 returns c =
     let cells = c .before .before in
-    let ranges = cells .before .before .before .before .before .before .before .write-mean-ranges .ensures in
-    (then-written (ranges .0) (cells .write-scaled .ensures) (omega arith), touched-more (touched (ranges .1)) (omega arith))
+    let ranges = cells .before .before .before .before .before .before .before .write-mean-ranges .ensures in (
+      then-written (ranges .0) (cells .write-scaled .ensures) (omega arith),
+      touched-more (touched (ranges .1))
+          (omega arith),
+    )
 
 pub write-mms-spec : {M : Type 1} → statement M
 write-mms-spec =

@@ -29,7 +29,11 @@ write-positions-spec =
     (λ c. search needs)  -- slice-write-positions
     (λ c. search needs)  -- add-below
     (λ c. search needs)  -- loop-less
-    (λ c. unfold ofBits in (omega arith, one-more (c .before .before .loop .inv .1) (rw (c .whole-rank .ensures)) (omega arith)))  -- loop-again
+    (λ c. unfold ofBits in (
+      omega arith,
+      one-more (c .before .before .loop .inv .1) (rw (c .whole-rank .ensures))
+          (omega arith),
+    ))  -- loop-again
     (λ c. search needs)  -- same-length
     (λ c. ends (c .before .loop .inv .1) (omega arith))  -- returns
     )

@@ -17,7 +17,8 @@ returns c =
     let count = refusal .before .before in (
       rw (← count .count-of .ensures, ← refusal .refusal-of .ensures)
           (add-more (head .print-head .ensures) (positions .print-positions .ensures) refl),
-      ap (λ (k : ℕ). count .before .before .before .args .at + headBytes + positionBytes * k) (count .count-of .ensures),
+      ap (λ (k : ℕ). count .before .before .before .args .at + headBytes + positionBytes * k)
+          (count .count-of .ensures),
     )
 
 pub print-answer-spec : {M : Type 1} → statement M

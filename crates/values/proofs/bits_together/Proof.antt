@@ -10,7 +10,8 @@ use Rattle.cells.specs.Line.{line}
 use Rattle.values.proofs.bits_together.Tie as tie
 
 abbrev Inv-loop : tie.InvT-loop
-Inv-loop s first end together₀ i₀ together i = (first ≤ i) × (i - first ≤ end - first) × BitsOf (line s) first (i - first) together
+Inv-loop s first end together₀ i₀ together i = (first ≤ i) × (i - first ≤ end - first)
+    × BitsOf (line s) first (i - first) together
 
 abbrev μ-loop : tie.MeasureT-loop
 μ-loop s first end together₀ i₀ together i = end - i
@@ -34,6 +35,11 @@ bits-together-spec =
     (λ c. rw (c .cap .ensures) (capped-number _))  -- float-to-bits-together
     (λ c. search needs)  -- add-i
     (λ c. search needs)  -- loop-less
-    (λ c. (omega arith, omega arith, more-bits _ _ (c .before .before .before .loop .inv .2) (c .cap .ensures) (omega arith)))  -- loop-again
+    (λ c. (
+      omega arith,
+      omega arith,
+      more-bits _ _ (c .before .before .before .loop .inv .2) (c .cap .ensures)
+          (omega arith),
+    ))  -- loop-again
     returns
     )

@@ -25,7 +25,8 @@ loop-again c =
     let at = sixteen .before .before .before in
     let room = at .before .before .pre in
     let w = at .loop .inv .2 in
-    let moved = sixteen-moved _ _ (sixteen .means-of-sixteen .ensures) (for-row room w (omega arith) (at .loop .i) (omega arith)) in
+    let moved = sixteen-moved _ _ (sixteen .means-of-sixteen .ensures)
+    (for-row room w (omega arith) (at .loop .i) (omega arith)) in
     let cells = sixteen-stored _ w moved (store .store-eight .ensures) (second .store-eight2 .ensures) (omega arith) in
     (omega arith, omega arith, ends cells (omega arith))
 
