@@ -10,13 +10,14 @@ ghost use Rattle.smoother.specs.Smoother.{UltimateSmootherCall};
 ghost use Rattle.rules_single.specs.Single.{SingleCall};
 ghost use Rattle.rules_double.specs.Double.{DoubleCall};
 ghost use Rattle.rules_middle.specs.Middle.{MidCall};
-ghost use Rattle.rules_ema.specs.SingleEma.{SingleEmaCall};
+ghost use Rattle.capi.specs.Numbers.{Numbers, InNumbers};
 ghost use Rattle.averages_wilder.specs.WilderRsi.{WilderRsiCall};
 ghost use Rattle.rsx.specs.Rsx.{RsxCall};
+ghost use Rattle.rules_ema.specs.SingleEma.{SingleEmaCall};
+ghost use Rattle.rules_mms.specs.Mms.{MmsCall};
 ghost use Rattle.rules_rank.specs.Rank.{RankCall};
 ghost use Rattle.rules_rank.specs.RollingRank.{RollingRankCall};
-ghost use Rattle.capi.specs.Numbers.{Numbers, InNumbers};
-ghost use Rattle.rules_mms.specs.Mms.{MmsCall};
+ghost use Rattle.rules_triple.specs.Triple.{TripleCall};
 
 // An answer in numbers: the refusal, or 0, and how many cells were written.
 #[repr(C)]
@@ -142,9 +143,25 @@ pub extern "C" fn tegbalowu_mms_positions(
         (now (work .entry)) a (now (out .exit)) (now (work .exit))) r ⌝ }
 {
     numbers(rules::mms_positions(series, timeperiod, window, out, work))
+}
+
+#[no_mangle]
+pub extern "C" fn tegbalowu_triple_sma_positions(
+    series: &[f64],
+    m1: usize,
+    m2: usize,
+    m3: usize,
+    out: &mut [i32],
+    work: &mut [f64],
+) -> CAnswer
+    ensures { λ r. ⌜ InNumbers (λ a. TripleCall (now (series .entry)) m1 m2 m3 (now (out .entry))
+        (now (work .entry)) a (now (out .exit)) (now (work .exit))) r ⌝ }
+{
+    numbers(rules::triple_sma_positions(series, m1, m2, m3, out, work))
+}
+
+#[no_mangle]
 pub extern "C" fn tegbalowu_single_ema_positions(
-pub extern "C" fn tegbalowu_wilder_rsi(
-pub extern "C" fn tegbalowu_rank_positions(
     series: &[f64],
     n: usize,
     out: &mut [f64],
@@ -154,6 +171,15 @@ pub extern "C" fn tegbalowu_rank_positions(
         (now (out .exit)) (now (work .exit))) r ⌝ }
 {
     numbers(rules::single_ema_positions(series, n, out, work))
+}
+
+#[no_mangle]
+pub extern "C" fn tegbalowu_wilder_rsi(
+    series: &[f64],
+    n: usize,
+    out: &mut [f64],
+    work: &mut [f64],
+) -> CAnswer
     ensures { λ r. ⌜ InNumbers (λ a. WilderRsiCall (now (series .entry)) n (now (out .entry)) (now (work .entry)) a
         (now (out .exit)) (now (work .exit))) r ⌝ }
 {
@@ -172,6 +198,15 @@ pub extern "C" fn tegbalowu_rsx_ss2(
         (now (work .entry)) a (now (out .exit)) (now (work .exit))) r ⌝ }
 {
     numbers(rsx::rsx_ss2(close, period, smooth_period, out, work))
+}
+
+#[no_mangle]
+pub extern "C" fn tegbalowu_rank_positions(
+    series: &[f64],
+    n: usize,
+    out: &mut [f64],
+    work: &mut [f64],
+) -> CAnswer
     ensures { λ r. ⌜ InNumbers (λ a. RankCall (now (series .entry)) n (now (out .entry)) (now (work .entry)) a
         (now (out .exit)) (now (work .exit))) r ⌝ }
 {
@@ -185,8 +220,7 @@ pub extern "C" fn tegbalowu_rolling_rank(
     out: &mut [u64],
     work: &mut [f64],
 ) -> CAnswer
-    ensures { λ r. ⌜ InNumbers (λ a. RollingRankCall (now (series .entry)) window (now (out .entry))
-            (now (work .entry)) a
+    ensures { λ r. ⌜ InNumbers (λ a. RollingRankCall (now (series .entry)) window (now (out .entry)) (now (work .entry)) a
         (now (out .exit)) (now (work .exit))) r ⌝ }
 {
     numbers(rules::rolling_rank(series, window, out, work))

@@ -4,10 +4,11 @@ ghost use Prim.Native.Nat.{_*_};
 ghost use Rattle.rules_single.specs.Single.{SingleCall};
 ghost use Rattle.rules_middle.specs.Middle.{MidCall};
 ghost use Rattle.rules_double.specs.Double.{DoubleCall};
-ghost use Rattle.rules_mms.specs.Mms.{MmsCall};
 ghost use Rattle.rules_ema.specs.SingleEma.{SingleEmaCall};
+ghost use Rattle.rules_mms.specs.Mms.{MmsCall};
 ghost use Rattle.rules_rank.specs.Rank.{RankCall};
 ghost use Rattle.rules_rank.specs.RollingRank.{RollingRankCall};
+ghost use Rattle.rules_triple.specs.Triple.{TripleCall};
 
 // One average: the sign of price less the doubly averaged price, from bar 2n - 2 on.
 pub fn single_sma_positions(series: &[f64], n: usize, out: &mut [f64], work: &mut [f64]) -> Answer
@@ -61,27 +62,62 @@ pub fn mms_positions(
     let due = rules_mms::answer_mms(series, timeperiod, window, out.len(), work.len());
     if checks::cells_due(due, series.len(), work) {
         rules_mms::write_mms(series, timeperiod, window, out, work);
+        cells::clear(work, 8 * series.len());
+    }
+    due
+}
+
+// Triple: 1 where the mean is above its long average and its short average above the middle one, -1 where both are below,
+// from bar m1 + m3 - 2 on.
+pub fn triple_sma_positions(
+    series: &[f64],
+    m1: usize,
+    m2: usize,
+    m3: usize,
+    out: &mut [i32],
+    work: &mut [f64],
+) -> Answer
+    ensures { λ r. ⌜ TripleCall (now (series .entry)) m1 m2 m3 (now (out .entry)) (now (work .entry)) r
+        (now (out .exit)) (now (work .exit)) ⌝ }
+{
+    let due = rules_triple::answer_triple(series, m1, m2, m3, out.len(), work.len());
+    if checks::cells_due(due, series.len(), work) {
+        rules_triple::write_triple(series, m1, m2, m3, out, work);
+        cells::clear(work, 8 * series.len());
+    }
+    due
+}
+
 // Exponential: the sign of price less the exponential average of the means, from n - 1 bars after the first mean that
 // is not 0 on.
 pub fn single_ema_positions(series: &[f64], n: usize, out: &mut [f64], work: &mut [f64]) -> Answer
     ensures { λ r. ⌜ SingleEmaCall (now (series .entry)) n (now (out .entry)) (now (work .entry)) r (now (out .exit))
-// Rank: how many of the n - 1 means before the present one lie below it, moved to -1 .. 1 and rounded to hundredths,
-// from bar 2n - 2 on.
+        (now (work .exit)) ⌝ }
+{
+    let due = checks::answer_window_with_work(series, n, out.len(), work.len());
+    if checks::cells_due(due, series.len(), work) {
+        rules_ema::write_ema(series, n, out);
+        cells::clear(work, 8 * series.len());
+    }
+    due
+}
+
+// Rank: how many of the n - 1 means before the present one lie below it, moved to -1 .. 1 and rounded to hundredths, from
+// bar 2n - 2 on.
 pub fn rank_positions(series: &[f64], n: usize, out: &mut [f64], work: &mut [f64]) -> Answer
     ensures { λ r. ⌜ RankCall (now (series .entry)) n (now (out .entry)) (now (work .entry)) r (now (out .exit))
         (now (work .exit)) ⌝ }
 {
     let due = checks::answer_window_with_work(series, n, out.len(), work.len());
     if checks::cells_due(due, series.len(), work) {
-        rules_ema::write_ema(series, n, out);
         rules_rank::write_rank(series, n, out, work);
         cells::clear(work, 8 * series.len());
     }
     due
 }
 
-// Rolling rank: the place, from 1, in the sorted window of the first value less than 1e-8 away from the present one,
-// from bar window - 1 on; 0 before it, and at every bar for a window of none.
+// Rolling rank: the place, from 1, in the sorted window of the first value less than 1e-8 away from the present one, from bar
+// window - 1 on; 0 before it, and at every bar for a window of none.
 pub fn rolling_rank(series: &[f64], window: usize, out: &mut [u64], work: &mut [f64]) -> Answer
     ensures { λ r. ⌜ RollingRankCall (now (series .entry)) window (now (out .entry)) (now (work .entry)) r
         (now (out .exit)) (now (work .exit)) ⌝ }
