@@ -1,0 +1,2 @@
+pub mod Crossover
+pub mod FourRows
