@@ -13,7 +13,8 @@
  *      other than -0.0; tick_mean also wants whole values within 16,777,216
  *   6  an f64 parameter that is not finite
  *   7  a window above 4,096, or a smoother period not whole from 0 to 512
- *   9  double_sma_positions: n at least m
+ *   8  triple_sma_positions: m3 above the series' length
+ *   9  double_sma_positions: n at least m; triple_sma_positions: not m1 < m2 < m3
  *
  * A series of length 0 or a window of 0 is answered with count 0.
  *
@@ -77,6 +78,13 @@ tegbalowu_answer tegbalowu_mid_positions(const double *series, size_t series_len
  * means, from -1 to 1, from bar timeperiod+window-2; 0 where these are at most 1e-10 apart. */
 tegbalowu_answer tegbalowu_mms_positions(const double *series, size_t series_len, size_t timeperiod, size_t window,
                                          double *out, size_t out_len, double *work, size_t work_len);
+
+/* Triple: +1 where the mean of m1 values is above its own mean over m3 and its mean over m1 above that over m2, -1 where
+ * both are below, else 0; from bar m1+m3-2. Refused with 8 where m3 is above series_len, then with 9 unless
+ * m1 < m2 < m3. */
+tegbalowu_answer tegbalowu_triple_sma_positions(const double *series, size_t series_len, size_t m1, size_t m2,
+                                                size_t m3, int32_t *out, size_t out_len, double *work,
+                                                size_t work_len);
 
 #ifdef __cplusplus
 }

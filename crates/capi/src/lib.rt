@@ -11,6 +11,7 @@ ghost use Rattle.rules_double.specs.Double.{DoubleCall};
 ghost use Rattle.rules_middle.specs.Middle.{MidCall};
 ghost use Rattle.capi.specs.Numbers.{Numbers, InNumbers};
 ghost use Rattle.rules_mms.specs.Mms.{MmsCall};
+ghost use Rattle.rules_triple.specs.Triple.{TripleCall};
 
 // An answer in numbers: the refusal, or 0, and how many cells were written.
 #[repr(C)]
@@ -131,4 +132,19 @@ pub extern "C" fn tegbalowu_mms_positions(
         (now (work .entry)) a (now (out .exit)) (now (work .exit))) r ⌝ }
 {
     numbers(rules::mms_positions(series, timeperiod, window, out, work))
+}
+
+#[no_mangle]
+pub extern "C" fn tegbalowu_triple_sma_positions(
+    series: &[f64],
+    m1: usize,
+    m2: usize,
+    m3: usize,
+    out: &mut [i32],
+    work: &mut [f64],
+) -> CAnswer
+    ensures { λ r. ⌜ InNumbers (λ a. TripleCall (now (series .entry)) m1 m2 m3 (now (out .entry))
+        (now (work .entry)) a (now (out .exit)) (now (work .exit))) r ⌝ }
+{
+    numbers(rules::triple_sma_positions(series, m1, m2, m3, out, work))
 }

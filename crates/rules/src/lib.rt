@@ -5,6 +5,7 @@ ghost use Rattle.rules_single.specs.Single.{SingleCall};
 ghost use Rattle.rules_middle.specs.Middle.{MidCall};
 ghost use Rattle.rules_double.specs.Double.{DoubleCall};
 ghost use Rattle.rules_mms.specs.Mms.{MmsCall};
+ghost use Rattle.rules_triple.specs.Triple.{TripleCall};
 
 // One average: the sign of price less the doubly averaged price, from bar 2n - 2 on.
 pub fn single_sma_positions(series: &[f64], n: usize, out: &mut [f64], work: &mut [f64]) -> Answer
@@ -56,6 +57,27 @@ pub fn mms_positions(
     let due = rules_mms::answer_mms(series, timeperiod, window, out.len(), work.len());
     if checks::cells_due(due, series.len(), work) {
         rules_mms::write_mms(series, timeperiod, window, out, work);
+        cells::clear(work, 8 * series.len());
+    }
+    due
+}
+
+// Triple: 1 where the mean is above its long average and its short average above the middle one, -1 where both are below,
+// from bar m1 + m3 - 2 on.
+pub fn triple_sma_positions(
+    series: &[f64],
+    m1: usize,
+    m2: usize,
+    m3: usize,
+    out: &mut [i32],
+    work: &mut [f64],
+) -> Answer
+    ensures { λ r. ⌜ TripleCall (now (series .entry)) m1 m2 m3 (now (out .entry)) (now (work .entry)) r
+        (now (out .exit)) (now (work .exit)) ⌝ }
+{
+    let due = rules_triple::answer_triple(series, m1, m2, m3, out.len(), work.len());
+    if checks::cells_due(due, series.len(), work) {
+        rules_triple::write_triple(series, m1, m2, m3, out, work);
         cells::clear(work, 8 * series.len());
     }
     due

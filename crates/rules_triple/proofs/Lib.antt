@@ -1,2 +1,3 @@
 pub mod Crossover
 pub mod FourRows
+pub mod Open
