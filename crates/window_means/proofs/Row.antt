@@ -3,7 +3,7 @@ use mathlib.Core.Path.{_≡_, refl, sym, ap, _∙_}
 use mathlib.Core.Bool.{Bool, true, false, not}
 use mathlib.Core.List.{List, [], _∷_}
 use Prim.Native.Nat.{ℕ, zero, suc, _+_, _-_, _<_, _≤_, zero-le, suc-le-suc}
-use native.Mathlib.Nat.{add-zero}
+use native.Mathlib.Nat.{add-zero, zero-add}
 use native.Mathlib.Omega.{arith}
 use borrow.Author.Tests.{le-leb, lt-leb}
 use lib.Dec.{T, ltb, ltb→lt, nltb→le}
@@ -18,7 +18,7 @@ use Rattle.windows.specs.declared.Sixteen.{Sixteen}
 use Rattle.windows.specs.inner.Eight.{Eight, SixteenOf}
 use Rattle.windows.specs.Window.{over, sumFrom, windowSum, mean}
 use Rattle.windows.proofs.Window.{causal-mean}
-use Rattle.window_means.specs.inner.Row.{rowAt, meansOfRow, RowRoom, RowReached}
+use Rattle.window_means.specs.inner.Row.{rowAt, meansOfRow, RowRoom, RowReached, RowHolds}
 
 -- ---- a window of a row is one of the slice
 
@@ -65,14 +65,17 @@ none-of-row from to n first old = record {
 
 module _ {from to bars n first e : ℕ} {old now : List Float} (g : RowRoom from to bars n first (length old))
     (w : Writing e (meansOfRow from to n first old) old now) (r : to ≤ e) where
-  -- the first row is as it was
-  pub row-stays : (i : ℕ) → i < bars → rowAt from now i ≡ rowAt from old i
-  row-stays i l =
-      read-back (from + i) nan w (omega arith) ∙ row-before from to n first old (from + i) (omega arith)
+  -- every cell before the second row is as it was
+  pub cell-stays : (j : ℕ) → j < to → line now j ≡ line old j
+  cell-stays j l = read-back j nan w (omega arith) ∙ row-before from to n first old j (omega arith)
 
-  -- and so are its means
-  pub means-stay : (i : ℕ) → i < bars → mean n (rowAt from now) i ≡ mean n (rowAt from old) i
-  means-stay i l = causal-mean n (rowAt from now) (rowAt from old) i (λ j m. row-stays j (omega arith))
+  -- and so are the means of the first row
+  means-stay : (i : ℕ) → i < bars → mean n (rowAt from now) i ≡ mean n (rowAt from old) i
+  means-stay i l = causal-mean n (rowAt from now) (rowAt from old) i (λ j m. cell-stays (from + j) (omega arith))
+
+  -- another row that ends before the second one
+  pub row-kept : {at lo : ℕ} {f : Line} → RowHolds at lo bars f old → at + bars ≤ to → RowHolds at lo bars f now
+  row-kept {at} h l = record { cell = λ i m. cell-stays (at + i) (omega arith) ∙ h .cell i m }
 
   -- one of them is the cell that is asked of the second row
   pub mean-for-row : (i : ℕ) → first ≤ i → i < bars
@@ -153,3 +156,21 @@ row-room g w =
       apart = g .apart;
       room = omega arith;
     }
+
+-- ---- rows that hold a line
+
+-- the first cells of a slice are a row
+pub first-row : {bars : ℕ} {f : Line} {old now : List Float} → Writing bars f old now → bars ≤ length old
+    → RowHolds 0 0 bars f now
+first-row w h = record { cell = λ i l. rw zero-add (read-back i nan w (omega arith)) }
+
+-- the means of a row that holds f are those of f
+pub row-written : {from to bars n first : ℕ} {f : Line} {old now : List Float} → RowRoom from to bars n first (length old)
+    → Writing (to + bars) (meansOfRow from to n first old) old now → RowHolds from 0 bars f old
+    → RowHolds to first bars (mean n f) now
+row-written {from} {to} {n = n} {first} {f} {old} g w h = record {
+  cell = λ i l.
+      read-back (to + i) nan w (omega arith)
+      ∙ row-cell from to n first old i (l .0)
+      ∙ causal-mean n (rowAt from old) f i (λ j m. h .cell j (omega arith));
+}

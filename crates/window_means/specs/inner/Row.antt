@@ -1,7 +1,8 @@
 -- The means of one row of a slice, in another row of it. Assumes nothing.
+use mathlib.Core.Path.{_≡_}
 use mathlib.Core.Bool.{cond}
 use mathlib.Core.List.{List}
-use Prim.Native.Nat.{ℕ, _+_, _-_, _≤_, min}
+use Prim.Native.Nat.{ℕ, _+_, _-_, _<_, _≤_, min}
 use lib.Dec.{leb}
 use lib.Ieee.{Float}
 use Rattle.cells.specs.Line.{Line, line}
@@ -31,3 +32,7 @@ pub record RowReached (from to bars n first r : ℕ) (old now : List Float) : Ty
   pub on : first ≤ r
   pub inside : r ≤ bars
   pub means : Writing (to + r) (meansOfRow from to n first old) old now
+
+-- the row that begins at cell `at` holds the line f from bar `first` on
+pub record RowHolds (at first bars : ℕ) (f : Line) (now : List Float) : Type 0 where
+  pub cell : (i : ℕ) → (first ≤ i) × (i < bars) → rowAt at now i ≡ f i

@@ -1,0 +1,3 @@
+pub mod Crossover
+pub mod FourRows
+pub mod Open

@@ -1,0 +1,4 @@
+-- The triple rule: what it answers and writes.
+pub mod Cases
+pub mod Triple
+pub mod inner
