@@ -16,10 +16,10 @@ use Rattle.cells.proofs.Touched.{touched-more, written-over-all}
 use Rattle.calls.specs.declared.Refusal.{Refusal}
 use Rattle.calls.specs.declared.Answer.{Answer}
 use Rattle.calls.specs.declared.Answer.the-variants.{Cells, Refused}
-use Rattle.calls.specs.Answer.{countOf, clearedOf, answered}
+use Rattle.calls.specs.Answer.{countOf, clearedOf, andThen, checked, answered}
 use Rattle.calls.specs.Call.{Cleared, WorkCall}
 use Rattle.calls.proofs.Call.{AllBars, all-called, none-called}
-use Rattle.calls.proofs.Room.{room, answered-room, answered-windows}
+use Rattle.calls.proofs.Room.{Room, room, answered-room, answered-windows, andThen-cells, checked-room}
 use Rattle.checks.specs.inner.Due.{CellsDue, Priced}
 
 -- ---- the test
@@ -108,3 +108,29 @@ fewer-rows {s = s} p h =
       work-long = omega (arith, mul-le-mul-right (length s) h);
       values = p .values;
     }
+
+-- ---- a call with one series and a work slice, whatever comes after the checks of its slices and values
+
+module _ (s : List Float) (out work : ℕ) (next : Answer) {r : Answer}
+    (e : r ≡ andThen (checked accepted (s ∷ []) (out ∷ []) (work ∷ [])) next) where
+  -- where it has a count, there is room for its cells, and the count is that of what comes after
+  pub checked-then : {k : ℕ} → r ≡ Cells k → Room accepted s out (work ∷ []) × (next ≡ Cells k)
+  checked-then {k} p =
+      let parts = andThen-cells (checked accepted (s ∷ []) (out ∷ []) (work ∷ [])) next k (sym e ∙ p) in
+      (checked-room accepted s out (work ∷ []) _ (parts .0), parts .1)
+
+  -- its work slice has room to be cleared
+  pub clearable-then : clearedOf r (8 * length s) ≤ work
+  clearable-then = go r refl
+    where
+      go : (a : Answer) → r ≡ a → clearedOf a (8 * length s) ≤ work
+      go (Refused q) p = omega arith
+      go (Cells k) p = checked-then p .0 .work-long .0
+
+  -- there is room where it has cells
+  pub room-then : 0 < countOf r → Room accepted s out (work ∷ [])
+  room-then h = go r refl h
+    where
+      go : (a : Answer) → r ≡ a → 0 < countOf a → Room accepted s out (work ∷ [])
+      go (Cells k) p h = checked-then p .0
+      go (Refused q) p h = let none : 0 < 0 = h in absurd (omega arith)
