@@ -1,4 +1,4 @@
--- Lines that carry their last cell: their cells bar by bar, and no look-ahead where the seed has none. Assumes nothing.
+-- Lines that carry their last cell have no look-ahead, where their seed has none; their cells, bar by bar. Assumes nothing.
 use mathlib.Core.Path.{_≡_, refl}
 use mathlib.Core.Bool.{Bool, true, false, cond}
 use Prim.Native.Nat.{ℕ, suc, _+_, _-_, _<_, _≤_}
@@ -8,16 +8,15 @@ use lib.Dec.{leb}
 use lib.Ieee.{Float}
 use Rattle.cells.specs.Line.{Line, fromBar, Same, Causal}
 use Rattle.cells.specs.Recur.{recur, carried}
-use Rattle.cells.proofs.Recur.{recur-same}
 use Rattle.cells.proofs.Line.{from-bar}
+use Rattle.cells.proofs.Recur.{recur-same}
 
 cond-when : {A : Type 0} (t : Bool) (x y d : A) → (t ≡ true → x ≡ y) → cond t x d ≡ cond t y d
 cond-when true x y d h = h refl
 cond-when false x y d h = refl
 
 -- two lines that begin at bar a, and agree at bar b if it is not before bar a
-pub from-same : {A : Type 0} (a : ℕ) (d : A) (f g : ℕ → A) (b : ℕ) → (a ≤ b → f b ≡ g b) → fromBar a d f b
-    ≡ fromBar a d g b
+pub from-same : {A : Type 0} (a : ℕ) (d : A) (f g : ℕ → A) (b : ℕ) → (a ≤ b → f b ≡ g b) → fromBar a d f b ≡ fromBar a d g b
 unfolding fromBar
 from-same a d f g b h = cond-when (leb a b) (f b) (g b) d (λ e. h (leb-true a b e))
 
@@ -34,26 +33,18 @@ pub causal-carried : (d : Float) (step : Float → Float → Float) (a : ℕ) (s
 causal-carried d step a seed h f g b s =
     carried-same d step a (seed f) (seed g) f g b (λ l. h f g (λ j m. s j (omega arith))) s
 
--- ---- what a loop that carries keeps
+-- ---- its cells, as a loop finds them
 
 module _ (d : Float) (step : Float → Float → Float) (a : ℕ) (seed : Float) (f : Line) where
-  -- the first cell
-  pub carried-seed : (i : ℕ) → i ≡ a → carried d step a seed f i ≡ seed
+  pub carried-seed : carried d step a seed f a ≡ seed
   unfolding carried recur
-  carried-seed i e =
-      let none : i - a ≡ 0 = omega arith in
-      rw (from-bar a d _ i (omega arith), none)
+  carried-seed =
+      let none : a - a ≡ 0 = omega arith in
+      rw (from-bar a d _ a (omega arith), none)
 
-  -- each later one, made of the last cell and its bar
-  pub carried-next : (i : ℕ) → a ≤ i → carried d step a seed f (i + 1) ≡ step (carried d step a seed f i) (f (i + 1))
+  pub carried-next : (i : ℕ) → a < i → carried d step a seed f i ≡ step (carried d step a seed f (i - 1)) (f i)
   unfolding carried recur
   carried-next i h =
-      let one : i + 1 - a ≡ suc (i - a) = omega arith in
-      let bar : a + 1 + (i - a) ≡ i + 1 = omega arith in
-      rw (from-bar a d _ (i + 1) (omega arith), from-bar a d _ i h, one, bar)
-
-  -- the same, told from the later bar
-  pub carried-later : (i : ℕ) → a < i → carried d step a seed f i ≡ step (carried d step a seed f (i - 1)) (f i)
-  carried-later i h =
-      let bar : i - 1 + 1 ≡ i = omega arith in
-      rw bar at (carried-next (i - 1) (omega arith))
+      let one : i - a ≡ suc (i - 1 - a) = omega arith in
+      let bar : a + 1 + (i - 1 - a) ≡ i = omega arith in
+      rw (from-bar a d _ i (omega arith), from-bar a d _ (i - 1) (omega arith), one, bar)

@@ -64,14 +64,18 @@ module _ (start n : ℕ) (f : Line) where
   -- the average begins with the mean of the last n means
   pub first-average : {x : Float} → x ≡ mean n (mean n f) start → x ≡ emaOfMeans start n f start
   unfolding emaOfMeans
-  first-average e = e ∙ sym (carried-seed _ _ _ _ _ start (omega arith))
+  first-average e = e ∙ sym (carried-seed _ _ start _ _)
 
   -- and goes on with each bar's mean
   pub next-average : (i : ℕ) {x m y : Float} → x ≡ emaOfMeans start n f i → m ≡ mean n f (i + 1)
       → y ≡ blend (emaAlpha n) x m → start ≤ i
       → y ≡ emaOfMeans start n f (i + 1)
   unfolding emaOfMeans
-  next-average i p q e h = e ∙ rw (p, q) (sym (carried-next _ _ _ _ _ i h))
+  next-average i p q e h =
+      let last : i + 1 - 1 ≡ i = omega arith in
+      let next =
+      carried-next plusZero (blend (emaAlpha n)) start (mean n (mean n f) start) (mean n f) (i + 1) (omega arith) in
+      e ∙ rw (p, q) (sym (rw last at next))
 
   -- the position of bar i
   pub position-at : (i : ℕ) {x p : Float} → x ≡ emaOfMeans start n f i → p ≡ signOf (sub binary64 (f i) x) → start ≤ i
