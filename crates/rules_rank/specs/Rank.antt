@@ -1,5 +1,5 @@
--- rank_positions: how many of the means before the present one lie below it, moved to -1 .. 1 and rounded to hundredths, as
--- `rank_positions` of pure.rs has it. Assumes nothing.
+-- rank_positions of pure.rs: how many of the means before the present one lie below it, moved to -1 .. 1 and rounded to
+-- hundredths. Assumes nothing.
 use mathlib.Core.List.{List, [], _∷_}
 use Prim.Native.Nat.{ℕ, _+_, _-_, _*_}
 use lib.IntN.{pos}
@@ -38,4 +38,5 @@ rankLine n f = fromBar (2 * n - 2) plusZero (λ i. rankOf (belowNow n (mean n f)
 -- what a call of `rank_positions` promises
 abbrev pub RankCall : List Float → ℕ → List Float → List Float → Answer → List Float → List Float → Type 0
 RankCall s n out₀ work₀ =
-    WorkCall (answered accepted s (n ∷ []) (length out₀) (length work₀ ∷ [])) (rankLine n (line s)) out₀ (length s) work₀
+    WorkCall (answered accepted s (n ∷ []) (length out₀) (length work₀ ∷ [])) (rankLine n (line s)) out₀ (length s)
+    work₀

@@ -1,5 +1,6 @@
--- rolling_rank: the place, from 1, in the sorted window of the first value less than 1e-8 away from the present one; 0 where
--- there is none. No sorting: the values before that place are those that lie below by 1e-8 or more. Assumes nothing.
+-- rolling_rank of pure.rs: the place, from 1, in the sorted window of the first value less than 1e-8 away from the
+-- present one; 0 where there is none. No sorting: the values before that place are those that lie below by 1e-8 or
+-- more. Assumes nothing.
 use mathlib.Core.Bool.{Bool, not, _&&_}
 use mathlib.Core.List.{List, [], _∷_}
 use Prim.Native.Nat.{ℕ, zero, suc, _-_}
@@ -23,8 +24,8 @@ near value x = lt (magnitudeOf (sub binary64 x value)) (tenToMinus 8)
 abbrev pub wellBelow : Float → Float → Bool
 wellBelow value x = lt x value && not (near value x)
 
--- one more than how many of the last w cells lie well below that of bar i; 0 before bar w - 1, and at every bar for a window
--- of none
+-- one more than how many of the last w cells lie well below that of bar i; 0 before bar w - 1, and at every bar for a
+-- window of none
 unfoldable pub rollingRankLine : ℕ → Line → ℕ → ℕ
 rollingRankLine zero f = λ i. 0
 rollingRankLine (suc k) f = fromBar k 0 (λ i. suc (countFrom (wellBelow (f i)) f (i - k) (suc k)))
