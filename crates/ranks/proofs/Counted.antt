@@ -38,11 +38,8 @@ module _ {test : Float → Bool} {f : Line} {a : ℕ} where
   pub one-counted : {k x y : ℕ} → Counting test f a k x → y ≡ cond (test (f (a + k))) 1 0
       → Counting test f a (k + 1) (x + y)
   unfolding countFrom
-  one-counted {k} {x} {y} c e = record {
-    is = rw (add-one, c .is, e) (go (test (f (a + k))) _);
-    most = few
-        (test (f (a + k))) e;
-  }
+  one-counted {k} {x} {y} c e =
+      let t = test (f (a + k)) in record { is = rw (add-one, c .is, e) (go t _); most = few t e }
     where
       go : (t : Bool) (n : ℕ) → n + cond t 1 0 ≡ cond t (suc n) n
       go true n = add-one n

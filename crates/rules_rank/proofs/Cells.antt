@@ -1,5 +1,5 @@
 -- A bar's position from what the stages before it wrote. Assumes nothing.
-use mathlib.Core.Path.{_≡_, refl, sym, _∙_}
+use mathlib.Core.Path.{_≡_, sym, _∙_}
 use mathlib.Core.List.{List}
 use Prim.Native.Nat.{ℕ, _+_, _-_, _*_, _<_, _≤_}
 use native.Mathlib.Omega.{arith}
@@ -14,7 +14,7 @@ use Rattle.windows.specs.Window.{mean}
 use Rattle.ranks.specs.Counted.{below}
 use Rattle.ranks.specs.inner.Counting.{Counting}
 use Rattle.ranks.proofs.Counted.{countFrom-same}
-use Rattle.rules_rank.specs.Rank.{rankOf, belowNow, rankLine}
+use Rattle.rules_rank.specs.Rank.{belowNow, rankLine}
 use Rattle.rules_rank.specs.inner.Rows.{RankRows}
 
 -- no position is due

@@ -1,7 +1,7 @@
 -- Distances between finite numbers, as rounded differences say them: which values are near, and which lie well below.
 -- Assumes nothing.
 use mathlib.Core.Path.{_≡_, refl, sym, ap, _∙_}
-use mathlib.Core.Bool.{Bool, true, false, not, _&&_, _||_, cond, Bool·beq, true≢false}
+use mathlib.Core.Bool.{Bool, true, false, not, _&&_, _||_, cond, true≢false}
 use Prim.Native.Nat.{ℕ, zero, suc, _+_, _-_, _*_, _^_, _<_, _≤_}
 use native.Mathlib.Nat.{
   zero-lt-suc,
@@ -160,7 +160,7 @@ order-parts true true a b =
     like b a (eqb a b) (λ e. eq-eqb a b (sym e)) (λ l. ne-eqb a b (λ (e : a ≡ b). omega arith))
 
 -- x is at most y where y is not below x
-le-is : (x y : Float) → isNan x ≡ false → isNan y ≡ false → le x y ≡ not (lt y x)
+pub le-is : (x y : Float) → isNan x ≡ false → isNan y ≡ false → le x y ≡ not (lt y x)
 unfolding le lt eq isNan
 le-is nan y p q = absurd (true≢false p)
 le-is (inf s) nan p q = absurd (true≢false q)
@@ -193,8 +193,8 @@ shorter : (d g c : ℕ) (bound : Float) → 0 < c → g ≤ d → lt (round bina
 shorter d g c bound C h e =
     let small = round binary64 false g c in
     let large = round binary64 false d c in
-    let order = not-below small large (round-number false g c) (round-number false d c)
-    (round-mono binary64 g c d c C C (mul-le-mul-right c h)) in
+    let less = round-mono binary64 g c d c C C (mul-le-mul-right c h) in
+    let order = not-below small large (round-number false g c) (round-number false d c) less in
     either-way _ (λ z. true≢false (sym e ∙ lt-between false large small bound (round-number false g c) order z))
 
 -- ---- three numbers on one scale
@@ -403,13 +403,8 @@ well-below-is v x z X = go (ltb (lower C p r) (upper C p r)) refl
     go : (t : Bool) → ltb (lower C p r) (upper C p r) ≡ t → belowBy (tenToMinus 8) v x ≡ wellBelow v x
     go true e =
         let d = round binary64 false (gap (lower C p r) (upper C p r)) (s .c) in
-        rw (
-          order-is C p r ∙ e,
-          size-is C p r,
-          less,
-          more (r .sign) (p .sign) (r .count) (p .count) (s .c)
-              (ltb-true _ _ e),
-        )
+        let above = more (r .sign) (p .sign) (r .count) (p .count) (s .c) (ltb-true _ _ e) in
+        rw (order-is C p r ∙ e, size-is C p r, less, above)
         (le-is (tenToMinus 8) d near-number (round-number false _ (s .c)))
     go false e =
         rw (order-is C p r ∙ e, less) (no-more (r .sign) (p .sign) (r .count) (p .count) (s .c) C (ltb-false _ _ e))

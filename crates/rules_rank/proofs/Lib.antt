@@ -1,3 +1,4 @@
+pub mod Bounds
 pub mod Causal
 pub mod Cells
 pub mod Distances

@@ -1,6 +1,6 @@
 -- The cells of `rolling_rank`: before the first whole window, and from a count on. Assumes nothing.
 use mathlib.Core.Path.{_≡_, refl, sym, ap, _∙_}
-use mathlib.Core.Bool.{Bool, true}
+use mathlib.Core.Bool.{Bool, true, false}
 use mathlib.Core.List.{List, [], _∷_}
 use Prim.Native.Nat.{ℕ, zero, suc, _+_, _-_, _*_, _<_, _≤_}
 use native.Mathlib.Numerals.{add-one}
@@ -45,12 +45,12 @@ rolling-from (suc k) f i p h =
     let first : i + 1 - suc k ≡ i - k = omega arith in
     let last : i - k + k ≡ i = omega arith in
     let others : suc k - 1 ≡ k = omega arith in
-    from-bar k 0 _ i (omega arith) ∙ rw (first, others)
-    (ap suc (last-failed (wellBelow (f i)) f (i - k) k (rw (last, self (f i)))))
+    let own : wellBelow (f i) (f (i - k + k)) ≡ false = rw (last, self (f i)) in
+    from-bar k 0 _ i (omega arith) ∙ rw (first, others) (ap suc (last-failed (wellBelow (f i)) f (i - k) k own))
 
 -- so it lies from 1 to the window
-pub rolling-within : (w : ℕ) (f : Line) (i : ℕ) → 0 < w → w ≤ i + 1 → (1 ≤ rollingRankLine w f i)
-    × (rollingRankLine w f i ≤ w)
+pub rolling-within : (w : ℕ) (f : Line) (i : ℕ) → 0 < w → w ≤ i + 1
+    → (1 ≤ rollingRankLine w f i) × (rollingRankLine w f i ≤ w)
 rolling-within w f i p h =
     let most = countFrom-most (wellBelow (f i)) f (i + 1 - w) (w - 1) in
     let is = rolling-from w f i p h in
@@ -71,8 +71,8 @@ no-window (suc k) f v h = absurd (omega arith)
 
 -- the rank at bar i, from the count by one difference
 pub placed : (s : List Float) (w i : ℕ) {c : ℕ} → all accepted s ≡ true
-    → Counting (belowBy (tenToMinus 8) (line s i)) (line s) (i + 1 - w) (w - 1) c → (0 < w) × (w ≤ i + 1)
-    × (i < length s)
+    → Counting (belowBy (tenToMinus 8) (line s i)) (line s) (i + 1 - w) (w - 1) c
+    → (0 < w) × (w ≤ i + 1) × (i < length s)
     → c + 1 ≡ rollingRankLine w (line s) i
 placed s w i a k (p, h, l) =
     let number : (j : ℕ) → j < length s → finite (line s j) ≡ true =

@@ -1,5 +1,5 @@
--- rank_positions: how many of the means before the present one lie below it, moved to -1 .. 1 and rounded to
--- hundredths, as `rank_positions` of pure.rs has it. Assumes nothing.
+-- rank_positions of pure.rs: how many of the means before the present one lie below it, moved to -1 .. 1 and rounded to
+-- hundredths. Assumes nothing.
 use mathlib.Core.List.{List, [], _∷_}
 use Prim.Native.Nat.{ℕ, _+_, _-_, _*_}
 use lib.IntN.{pos}

@@ -22,8 +22,8 @@ rank-cases : (cellsOf (rankLine 2) (prices (pos 1 ∷ pos 2 ∷ pos 3 ∷ [])) �
     ≡ plusZero ∷ plusZero ∷ plusZero ∷ plusZero ∷ plusOne ∷ minusOne ∷ minusOne ∷ plusZero ∷ [])
     × (cellsOf (rankLine 4) (prices (pos 1 ∷ pos 2 ∷ pos 3 ∷ pos 4 ∷ pos 5 ∷ pos 6 ∷ pos 7 ∷ pos 1 ∷ pos 5 ∷ []))
     ≡ bits (0 ∷ 0 ∷ 0 ∷ 0 ∷ 0 ∷ 0 ∷ 0x3ff0000000000000 ∷ 0x3fd51eb851eb851f ∷ 0xbfd51eb851eb851f ∷ []))
-unfolding rankLine wholeRank belowNow countFrom roundToWhole mean windowSum sumFrom fromBar add sub mul div ofInt
-    ofBits round lt
+unfolding rankLine wholeRank belowNow countFrom roundToWhole mean windowSum sumFrom fromBar
+    add sub mul div ofInt ofBits round lt
 rank-cases = (refl, refl, refl, refl, refl)
 
 -- equal means are not below, nor are zeros; n as long as the series, and longer; n 2 of one bar
@@ -33,12 +33,12 @@ rank-edges : (cellsOf (rankLine 2) (prices (pos 5 ∷ pos 5 ∷ pos 5 ∷ pos 5 
     × (cellsOf (rankLine 3) (prices (pos 1 ∷ pos 2 ∷ pos 3 ∷ [])) ≡ plusZero ∷ plusZero ∷ plusZero ∷ [])
     × (cellsOf (rankLine 3) (prices (pos 1 ∷ pos 2 ∷ [])) ≡ plusZero ∷ plusZero ∷ [])
     × (cellsOf (rankLine 2) (prices (pos 7 ∷ [])) ≡ plusZero ∷ [])
-unfolding rankLine wholeRank belowNow countFrom roundToWhole mean windowSum sumFrom fromBar add sub mul div ofInt
-    ofBits round lt
+unfolding rankLine wholeRank belowNow countFrom roundToWhole mean windowSum sumFrom fromBar
+    add sub mul div ofInt ofBits round lt
 rank-edges = (refl, refl, refl, refl, refl)
 
 -- whole hundredths: 1, 2 and 3 of 4; 200 of 401, just below the middle, is -0.0 in hundredths and as a position; none
--- of none
+-- of none is NaN
 whole-ranks : (map (λ c. wholeRank c 4) (1 ∷ 2 ∷ 3 ∷ []) ≡ bits (0xc049000000000000 ∷ 0 ∷ 0x4049000000000000 ∷ []))
     × (wholeRank 200 401 ∷ rankOf 200 401 ∷ wholeRank 201 401 ∷ wholeRank 0 0 ∷ []
     ≡ minusZero ∷ minusZero ∷ plusZero ∷ nan ∷ [])

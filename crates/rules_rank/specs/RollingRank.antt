@@ -1,6 +1,6 @@
--- rolling_rank: the place, from 1, in the sorted window of the first value less than 1e-8 away from the present one;
--- 0 where there is none. No sorting: the values before that place are those that lie below by 1e-8 or more. Assumes
--- nothing.
+-- rolling_rank of pure.rs: the place, from 1, in the sorted window of the first value less than 1e-8 away from the
+-- present one; 0 where there is none. No sorting: the values before that place are those that lie below by 1e-8 or
+-- more. Assumes nothing.
 use mathlib.Core.Bool.{Bool, not, _&&_}
 use mathlib.Core.List.{List, [], _∷_}
 use Prim.Native.Nat.{ℕ, zero, suc, _-_}

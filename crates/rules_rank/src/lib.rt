@@ -112,8 +112,7 @@ fn write_places(series: &[f64], window: usize, out: &mut [u64])
     }
 }
 
-// Writes each bar's rank, and 0 where there is none: before the first whole window, and at every bar for a window of
-// none.
+// Writes each bar's rank, and 0 where there is none: before the first whole window, and at every bar for a window of 0.
 pub fn write_rolling_rank(series: &[f64], window: usize, out: &mut [u64])
     requires { ⌜ (length (now series) ≤ length (now out)) × (all accepted (now series) ≡ true) ⌝ }
     ensures { λ _. ⌜ Writing (length (now (series .entry))) (rollingRankLine window (line (now (series .entry))))

@@ -1,5 +1,4 @@
 -- `count_below` meets its contract: the loop counts the cells one by one. Assumes nothing.
-use mathlib.Core.Path.{refl, _∙_}
 use Prim.Native.Nat.{_-_, _≤_}
 use native.Mathlib.Omega.{arith}
 use borrow.Author.Needs.{needs}
@@ -16,6 +15,10 @@ Inv-loop cells from count value passed₀ k₀ passed k = (k ≤ count) × Count
 abbrev μ-loop : tie.MeasureT-loop
 μ-loop cells from count value passed₀ k₀ passed k = count - k
 
+add-passed : tie.Need-add-passed Inv-loop μ-loop
+add-passed c =
+    let next = one-counted (c .before .before .before .loop .inv .1) (c .one-if .ensures) in search needs
+
 pub count-below-spec : {M : Type 1} → statement M
 count-below-spec =
     tie.close
@@ -27,8 +30,7 @@ count-below-spec =
     (λ c. search needs)  -- mul-one-if
     (λ c. search needs)  -- shared-slice-read-one-if
     (λ c κs. search needs)  -- one-if-requires
-    -- add-passed
-    (λ c. let next = one-counted (c .before .before .before .loop .inv .1) (c .one-if .ensures) in search needs)
+    add-passed
     (λ c. search needs)  -- add-k
     (λ c. search needs)  -- loop-less
     (λ c. (omega arith, one-counted (c .before .before .before .loop .inv .1) (c .one-if .ensures)))  -- loop-again

@@ -1,5 +1,4 @@
 -- `count_below_by` meets its contract: the loop counts the cells one by one. Assumes nothing.
-use mathlib.Core.Path.{refl, _∙_}
 use Prim.Native.Nat.{_-_, _≤_}
 use native.Mathlib.Omega.{arith}
 use borrow.Author.Needs.{needs}
@@ -11,11 +10,15 @@ use Rattle.ranks.proofs.count_below_by.Statement.{statement}
 use Rattle.ranks.proofs.count_below_by.Tie as tie
 
 abbrev Inv-loop : tie.InvT-loop
-Inv-loop cells from count value distance passed₀ k₀ passed k = (k ≤ count)
-    × Counting (belowBy distance value) (line cells) from k passed
+Inv-loop cells from count value distance passed₀ k₀ passed k =
+    (k ≤ count) × Counting (belowBy distance value) (line cells) from k passed
 
 abbrev μ-loop : tie.MeasureT-loop
 μ-loop cells from count value distance passed₀ k₀ passed k = count - k
+
+add-passed : tie.Need-add-passed Inv-loop μ-loop
+add-passed c =
+    let next = one-counted (c .before .before .before .loop .inv .1) (c .one-if .ensures) in search needs
 
 pub count-below-by-spec : {M : Type 1} → statement M
 count-below-by-spec =
@@ -28,8 +31,7 @@ count-below-by-spec =
     (λ c. search needs)  -- mul-one-if
     (λ c. search needs)  -- shared-slice-read-one-if
     (λ c κs. search needs)  -- one-if-requires
-    -- add-passed
-    (λ c. let next = one-counted (c .before .before .before .loop .inv .1) (c .one-if .ensures) in search needs)
+    add-passed
     (λ c. search needs)  -- add-k
     (λ c. search needs)  -- loop-less
     (λ c. (omega arith, one-counted (c .before .before .before .loop .inv .1) (c .one-if .ensures)))  -- loop-again

@@ -25,9 +25,16 @@ returns c =
     let cells = clear .before .before .before .before in
     let then = cells .before .before in
     let due = then .before .before .before in
-    written-call (due .before .before .answer-rolling-rank .ensures) (rolling-bars _ _ _ _)
-    (rw (then .if1 .taken) at (due .cells-due .ensures)) (cells .write-rolling-rank .ensures, untouched {k = 0})
-    (omega arith) (clear .clear .ensures)
+    let some = rw (then .if1 .taken) at (due .cells-due .ensures) in
+    let answer = due .before .before .answer-rolling-rank .ensures in
+    let wrote = cells .write-rolling-rank .ensures in
+    written-call answer (rolling-bars _ _ _ _) some (wrote, untouched {k = 0}) (omega arith) (clear .clear .ensures)
+
+returns-2 : tie.Need-returns-2
+returns-2 c =
+    let due = c .before .before .before in
+    let answer = due .before .before .answer-rolling-rank .ensures in
+    empty-call answer (rw (c .if1 .left) at (due .cells-due .ensures))
 
 pub rolling-rank-spec : {M : Type 1} → statement M
 rolling-rank-spec =
@@ -42,6 +49,5 @@ rolling-rank-spec =
     (λ c. search needs)  -- same-length-2
     returns
     (λ c. search needs)  -- same-length-3
-    (λ c. let due = c .before .before .before in empty-call (due .before .before .answer-rolling-rank .ensures)
-    (rw (c .if1 .left) at (due .cells-due .ensures)))  -- returns-2
+    returns-2
     )

@@ -1,6 +1,5 @@
 -- `write_by_count` meets its contract: each turn counts the means below and writes the position that the count picks.
 -- Assumes nothing.
-use mathlib.Core.Path.{_∙_}
 use Prim.Native.Nat.{_-_, _*_, _≤_, min}
 use native.Mathlib.Omega.{arith}
 use borrow.Author.Needs.{needs}
@@ -29,6 +28,10 @@ loop-again c =
     let position = picked (pre .0) (at .loop .i) (c .before .count-below .ensures) (omega arith) in
     (omega arith, omega arith, one-more (at .loop .inv .2) position (omega arith))
 
+returns : tie.Need-returns Inv-loop μ-loop
+returns c =
+    lead-then (c .before .before .before .before .fill-lead .ensures) (c .before .loop .inv .2) (omega arith)
+
 pub write-by-count-spec : {M : Type 1} → statement M
 write-by-count-spec =
     tie.close
@@ -54,6 +57,5 @@ write-by-count-spec =
     (λ c. search needs)  -- loop-less
     loop-again
     (λ c. search needs)  -- same-length
-    -- returns
-    (λ c. lead-then (c .before .before .before .before .fill-lead .ensures) (c .before .loop .inv .2) (omega arith))
+    returns
     )

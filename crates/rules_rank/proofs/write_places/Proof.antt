@@ -23,13 +23,17 @@ Inv-loop series window out₀ bars i₀ out i =
 abbrev μ-loop : tie.MeasureT-loop
 μ-loop series window out₀ bars i₀ out i = length series - i
 
+loop-holds : tie.Need-loop-holds Inv-loop μ-loop
+loop-holds c =
+    (omega arith, omega arith, stands (none-placed _ _ (c .before .before .fill-none .ensures) (omega arith)))
+
 loop-again : tie.Need-loop-again Inv-loop μ-loop
 unfolding tenToMinus round ofBits
 loop-again c =
     let at = c .before .before .before in
     let start = at .before .before .before .before .before .before .before .before in
-    let place = placed (now (start .args .series)) _ (at .loop .i) (start .pre .2) (c .count-below-by .ensures)
-    (omega arith) in
+    let count = c .count-below-by .ensures in
+    let place = placed (now (start .args .series)) _ (at .loop .i) (start .pre .2) count (omega arith) in
     (omega arith, omega arith, one-more (at .loop .inv .2) place (omega arith))
 
 returns : tie.Need-returns Inv-loop μ-loop
@@ -46,8 +50,7 @@ write-places-spec =
     (λ c. search needs)  -- sub-smaller
     (λ c κs. search needs)  -- smaller-requires
     (λ c κs. search needs)  -- fill-none-requires
-    -- loop-holds
-    (λ c. (omega arith, omega arith, stands (none-placed _ _ (c .before .before .fill-none .ensures) (omega arith))))
+    loop-holds
     (λ c. search needs)  -- add-count-below-by
     (λ c. search needs)  -- sub-count-below-by
     (λ c. search needs)  -- sub-count-below-by-2

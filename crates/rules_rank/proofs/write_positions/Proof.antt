@@ -1,5 +1,4 @@
 -- `write_positions` meets its contract: each turn writes one position. Assumes nothing.
-use mathlib.Core.Path.{refl}
 use Prim.Native.Nat.{_-_, _≤_}
 use native.Mathlib.Omega.{arith}
 use borrow.Author.Needs.{needs}
@@ -16,6 +15,11 @@ Inv-loop n positions₀ below₀ positions below = (below ≤ n) × Writing belo
 abbrev μ-loop : tie.MeasureT-loop
 μ-loop n positions₀ below₀ positions below = n - below
 
+loop-again : tie.Need-loop-again Inv-loop μ-loop
+unfolding ofBits
+loop-again c =
+    (omega arith, one-more (c .before .before .loop .inv .1) (rw (c .whole-rank .ensures)) (omega arith))
+
 pub write-positions-spec : {M : Type 1} → statement M
 write-positions-spec =
     tie.close
@@ -29,11 +33,7 @@ write-positions-spec =
     (λ c. search needs)  -- slice-write-positions
     (λ c. search needs)  -- add-below
     (λ c. search needs)  -- loop-less
-    (λ c. unfold ofBits in (
-      omega arith,
-      one-more (c .before .before .loop .inv .1) (rw (c .whole-rank .ensures))
-          (omega arith),
-    ))  -- loop-again
+    loop-again
     (λ c. search needs)  -- same-length
     (λ c. ends (c .before .loop .inv .1) (omega arith))  -- returns
     )

@@ -1,5 +1,5 @@
--- `write_rank` meets its contract: the means and the positions in two rows, and what the counts pick of them. Assumes
--- nothing.
+-- `write_rank` meets its contract: the means and the positions in two rows, and what the counts pick of them.
+-- Assumes nothing.
 use native.Mathlib.Omega.{arith}
 use borrow.Author.Needs.{needs}
 use lib.Ieee.{ofBits}
@@ -15,11 +15,9 @@ write-by-count-requires c κs =
     let positions = c .before .before .before .before in
     let means = positions .before .before .before .before in
     let pre = means .before .before .before .before .before .before .pre in
-    let rows = lent-on (means .write-means-of-prices .ensures) (positions .write-positions .ensures) (omega arith) in (
-      record { window = pre .window; due = omega arith; room = omega (arith, rows .long); rows = stands rows },
-      search
-          needs,
-    )
+    let rows = lent-on (means .write-means-of-prices .ensures) (positions .write-positions .ensures) (omega arith) in
+    let long = rows .long in
+    (record { window = pre .window; due = omega arith; room = omega arith; rows = stands rows }, search needs)
 
 returns : tie.Need-returns
 returns c =
