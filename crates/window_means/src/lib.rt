@@ -14,7 +14,7 @@ ghost use Rattle.values.specs.Accepted.{tick, all};
 ghost use Rattle.window_means.specs.inner.Ticks.{longTicks};
 
 // Stores the eight lanes from cell i on.
-fn store_eight(means: &mut [f64], i: usize, eight: Lanes)
+pub fn store_eight(means: &mut [f64], i: usize, eight: Lanes)
     requires { ⌜ i + 8 ≤ length (now means) ⌝ }
     ensures { λ _. ⌜ now (means .exit) ≡ storeEight (now (means .entry)) i eight ⌝ }
 {
