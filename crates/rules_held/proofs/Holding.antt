@@ -1,16 +1,21 @@
 -- Held positions have no look-ahead where their signals have none; long and short never stand at neighbouring bars. Assumes nothing.
 use mathlib.Core.Path.{_≡_, refl, sym, _∙_}
 use mathlib.Core.Bool.{Bool, true, false, cond}
-use Prim.Native.Nat.{ℕ, zero, suc, _+_}
+use mathlib.Core.List.{List}
+use Prim.Native.Nat.{ℕ, zero, suc, _+_, _<_, _≤_}
 use native.Mathlib.Omega.{arith}
 use borrow.Author.Tests.{ltb-true, ltb-false}
 use lib.IntN.{ℤ, pos, negsuc}
 use lib.Signed.{ltZ}
-use Rattle.cells.specs.Line.{Causal}
+use Rattle.cells.specs.Line.{fromBar, Causal}
+use Rattle.cells.specs.Written.{Writing}
+use Rattle.cells.specs.inner.Leads.{Led}
+use Rattle.cells.proofs.Line.{before-bar}
+use Rattle.cells.proofs.Written.{stands, writing-same}
 use Rattle.cells.specs.Recur.{recur}
 use Rattle.cells.specs.inner.Recurring.{Recurring}
-use Rattle.cells.proofs.Recur.{recur-same}
-use Rattle.rules_held.specs.Held.{flat, long, short, Signal, moved, hold}
+use Rattle.cells.proofs.Recur.{recur-same, one-step}
+use Rattle.rules_held.specs.Held.{flat, long, short, Signal, silent, moved, hold}
 
 -- no look-ahead, where the signals have none
 pub causal-hold : {A : Type 0} {S : (ℕ → A) → ℕ → Signal} → Causal S → Causal (λ f. hold (S f))
@@ -36,6 +41,23 @@ never-adjoin s i = (
   λ p q. closes-long (s (suc i) .closesLong) (rw p at q),
   λ p q. closes-short (s (suc i) .closesShort) (rw p at q),
 )
+
+-- ---- before the first signal
+
+silent-after : (b : ℕ) (f : ℕ → Signal) (k : ℕ) → k ≤ b → recur flat (λ j position. moved position (fromBar b silent f j)) k ≡ flat
+unfolding recur moved
+silent-after b f zero h = refl
+silent-after b f (suc k) h = rw (silent-after b f k (omega arith), before-bar b silent f k (omega arith))
+
+-- where nothing is said before bar b, the positions before it are flat
+pub flat-before : (b : ℕ) (f : ℕ → Signal) (i : ℕ) → i < b → hold (fromBar b silent f) i ≡ flat
+unfolding hold
+flat-before b f i h = silent-after b f (suc i) h
+
+-- so a lead of flat cells stands
+pub flat-stands : {b bars r : ℕ} {old now : List ℤ} (f : ℕ → Signal) → Led b bars flat r old now
+    → Writing r (hold (fromBar b silent f)) now now
+flat-stands {b} f w = stands (writing-same (w .lead) (λ i l. sym (flat-before b f i (omega arith))))
 
 -- ---- what a cell is
 
@@ -73,6 +95,15 @@ pub held-at : (s : ℕ → Signal) (i : ℕ) {z : ℤ} → Recurring flat (λ j 
 unfolding hold
 held-at s i r = let one : i + 1 ≡ suc i = omega arith in r .is ∙ rw one
 
+-- one more bar
+pub held-on : (s : ℕ → Signal) (i j : ℕ) {z y : ℤ} → Recurring flat (λ b position. moved position (s b)) (i + j) z
+    → y ≡ moved z (s (i + j))
+    → Recurring flat (λ b position. moved position (s b)) (i + (j + 1)) y × (y ≡ hold s (i + j))
+held-on s i j r e =
+    let next = one-step r e in
+    let on : i + (j + 1) ≡ i + j + 1 = omega arith in
+    (rw on next, held-at s (i + j) next)
+
 -- ---- one move, by the code's tests
 
 module _ (z : ℤ) (s : Signal) where
@@ -101,3 +132,11 @@ module _ (z : ℤ) (s : Signal) where
       go (pos zero) e h = refl
       go (pos (suc k)) e h = let l = ltb-false 0 (suc k) e in absurd (omega arith)
       go (negsuc k) e h = let l : _≡_ {A = ℕ} 0 1 = cc in absurd (omega arith)
+
+-- what a bar opens does not matter to a held position
+pub moved-held : (z : ℤ) (s t : Signal) → (z ≡ flat → ⊥) → s .closesLong ≡ t .closesLong → s .closesShort ≡ t .closesShort
+    → moved z s ≡ moved z t
+unfolding moved
+moved-held (pos zero) s t h p q = absurd (h refl)
+moved-held (pos (suc k)) s t h p q = rw p
+moved-held (negsuc k) s t h p q = rw q
