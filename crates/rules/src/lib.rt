@@ -4,6 +4,8 @@ ghost use Prim.Native.Nat.{_*_};
 ghost use Rattle.rules_single.specs.Single.{SingleCall};
 ghost use Rattle.rules_middle.specs.Middle.{MidCall};
 ghost use Rattle.rules_double.specs.Double.{DoubleCall};
+ghost use Rattle.rules_bands.specs.Boll.{BollCall};
+ghost use Rattle.rules_bands.specs.BollReverse.{BollReverseCall};
 
 // One average: the sign of price less the doubly averaged price, from bar 2n - 2 on.
 pub fn single_sma_positions(series: &[f64], n: usize, out: &mut [f64], work: &mut [f64]) -> Answer
@@ -36,6 +38,42 @@ pub fn double_sma_positions(series: &[f64], n: usize, m: usize, out: &mut [f64])
     let due = rules_double::answer_double(series, n, m, out.len());
     if calls::has_cells(due) {
         rules_double::write_double(series, n, m, out);
+    }
+    due
+}
+
+// Bollinger's bands: +1 above and -1 below the bands of the means, from bar 2n - 2 on.
+pub fn boll_positions(
+    series: &[f64],
+    n: usize,
+    k: f64,
+    out: &mut [i32],
+    work: &mut [f64],
+) -> Answer
+    ensures { λ r. ⌜ BollCall (now (series .entry)) n k (now (out .entry)) (now (work .entry)) r (now (out .exit)) (now (work .exit)) ⌝ }
+{
+    let due = rules_bands::answer_bands(series, n, k, out.len(), work.len());
+    if checks::cells_due(due, series.len(), work) {
+        rules_bands::write_boll(series, n, k, out, work);
+        cells::clear(work, 8 * series.len());
+    }
+    due
+}
+
+// Against Bollinger's bands: a position is opened beyond a band of the means, and held to the middle.
+pub fn boll_reverse_positions(
+    series: &[f64],
+    n: usize,
+    k: f64,
+    out: &mut [i32],
+    work: &mut [f64],
+) -> Answer
+    ensures { λ r. ⌜ BollReverseCall (now (series .entry)) n k (now (out .entry)) (now (work .entry)) r (now (out .exit)) (now (work .exit)) ⌝ }
+{
+    let due = rules_bands::answer_bands(series, n, k, out.len(), work.len());
+    if checks::cells_due(due, series.len(), work) {
+        rules_bands::write_boll_reverse(series, n, k, out, work);
+        cells::clear(work, 8 * series.len());
     }
     due
 }

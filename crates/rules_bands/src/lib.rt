@@ -1,4 +1,6 @@
-// Both Bollinger rules: how their cells are written.
+// Both Bollinger rules: what they answer, and how their cells are written.
+use calls::Answer;
+use calls::Refusal;
 ghost use mathlib.Core.Path.{_≡_};
 ghost use Prim.Native.Nat.{_+_, _*_, _≤_};
 ghost use lib.ListN.{length};
@@ -9,10 +11,23 @@ ghost use Rattle.cells.specs.Written.{Writing};
 ghost use Rattle.cells.specs.inner.Touched.{Touched};
 ghost use Rattle.windows.specs.inner.Eight.{WindowRoom};
 ghost use Rattle.checks.specs.inner.Due.{Priced};
+ghost use Rattle.rules_bands.specs.Answer.{bandAnswer};
 ghost use Rattle.rules_bands.specs.Boll.{outsideAt, outsideBands, bollLine};
 ghost use Rattle.rules_bands.specs.BollReverse.{opensAt, turnsAt, turnedBands, bollReverseLine};
 ghost use Rattle.rules_bands.specs.inner.Stages.{Begun, Further, positionBefore};
 ghost use Rattle.rules_held.specs.Held.{moved};
+
+// The answer of both: refusal 6 for k comes after the series' own refusals, and before those of the window.
+pub fn answer_bands(series: &[f64], n: usize, k: f64, out: usize, work: usize) -> Answer
+    ensures { λ r. ⌜ r ≡ bandAnswer (now (series .entry)) n k out work ⌝ }
+{
+    let due = checks::check_with_work(series, out, work);
+    let bars = series.len();
+    let window = checks::check_window(bars, n, Answer::Cells(bars));
+    let finite = values::is_finite(k);
+    let next = checks::unless_refused(finite, Refusal::ParameterNotFinite, window);
+    checks::and_then(due, next)
+}
 
 // +1 above the band, -1 below it and else 0, each by more than 1e-10.
 fn outside_at(average: f64, middle: f64, k: f64, width: f64) -> i32
