@@ -73,6 +73,16 @@ tegbalowu_answer tegbalowu_double_sma_positions(const double *series, size_t ser
 tegbalowu_answer tegbalowu_mid_positions(const double *series, size_t series_len, size_t n, double *out,
                                          size_t out_len, double *work, size_t work_len);
 
+/* Bollinger's bands of the means of n prices, from bar 2n-2: +1 where the mean is above the middle plus k deviations,
+ * -1 where it is below the middle less k deviations, each by more than 1e-10. The deviation is over n-1; n of 1 gives 0. */
+tegbalowu_answer tegbalowu_boll_positions(const double *series, size_t series_len, size_t n, double k, int32_t *out,
+                                          size_t out_len, double *work, size_t work_len);
+
+/* Against those bands, with the deviation over n and no margin: above the upper band a flat position opens short, below
+ * the lower one it opens long; a long one closes above the middle, and a short one below it. */
+tegbalowu_answer tegbalowu_boll_reverse_positions(const double *series, size_t series_len, size_t n, double k,
+                                                  int32_t *out, size_t out_len, double *work, size_t work_len);
+
 #ifdef __cplusplus
 }
 #endif

@@ -9,6 +9,8 @@ ghost use Rattle.smoother.specs.Smoother.{UltimateSmootherCall};
 ghost use Rattle.rules_single.specs.Single.{SingleCall};
 ghost use Rattle.rules_double.specs.Double.{DoubleCall};
 ghost use Rattle.rules_middle.specs.Middle.{MidCall};
+ghost use Rattle.rules_bands.specs.Boll.{BollCall};
+ghost use Rattle.rules_bands.specs.BollReverse.{BollReverseCall};
 ghost use Rattle.capi.specs.Numbers.{Numbers, InNumbers};
 
 // An answer in numbers: the refusal, or 0, and how many cells were written.
@@ -116,4 +118,30 @@ pub extern "C" fn tegbalowu_mid_positions(
     ensures { λ r. ⌜ InNumbers (λ a. MidCall (now (series .entry)) n (now (out .entry)) (now (work .entry)) a (now (out .exit)) (now (work .exit))) r ⌝ }
 {
     numbers(rules::mid_positions(series, n, out, work))
+}
+
+#[no_mangle]
+pub extern "C" fn tegbalowu_boll_positions(
+    series: &[f64],
+    n: usize,
+    k: f64,
+    out: &mut [i32],
+    work: &mut [f64],
+) -> CAnswer
+    ensures { λ r. ⌜ InNumbers (λ a. BollCall (now (series .entry)) n k (now (out .entry)) (now (work .entry)) a (now (out .exit)) (now (work .exit))) r ⌝ }
+{
+    numbers(rules::boll_positions(series, n, k, out, work))
+}
+
+#[no_mangle]
+pub extern "C" fn tegbalowu_boll_reverse_positions(
+    series: &[f64],
+    n: usize,
+    k: f64,
+    out: &mut [i32],
+    work: &mut [f64],
+) -> CAnswer
+    ensures { λ r. ⌜ InNumbers (λ a. BollReverseCall (now (series .entry)) n k (now (out .entry)) (now (work .entry)) a (now (out .exit)) (now (work .exit))) r ⌝ }
+{
+    numbers(rules::boll_reverse_positions(series, n, k, out, work))
 }

@@ -43,13 +43,7 @@ pub fn double_sma_positions(series: &[f64], n: usize, m: usize, out: &mut [f64])
 }
 
 // Bollinger's bands: +1 above and -1 below the bands of the means, from bar 2n - 2 on.
-pub fn boll_positions(
-    series: &[f64],
-    n: usize,
-    k: f64,
-    out: &mut [i32],
-    work: &mut [f64],
-) -> Answer
+pub fn boll_positions(series: &[f64], n: usize, k: f64, out: &mut [i32], work: &mut [f64]) -> Answer
     ensures { λ r. ⌜ BollCall (now (series .entry)) n k (now (out .entry)) (now (work .entry)) r (now (out .exit)) (now (work .exit)) ⌝ }
 {
     let due = rules_bands::answer_bands(series, n, k, out.len(), work.len());
