@@ -43,11 +43,41 @@ fn outside_at(average: f64, middle: f64, k: f64, width: f64) -> i32
     0
 }
 
-// That cell where the width is the root of a variance.
-fn outside_by(average: f64, middle: f64, k: f64, variance: f64) -> i32
+// That cell where the width is the root of a variance. Two guesses at the root decide most cells; only the speed rests on them.
+fn outside_by_guess(average: f64, middle: f64, k: f64, variance: f64, low: f64, high: f64) -> i32
     ensures { λ r. ⌜ r ≡ outsideAt average middle k (sqrtOf binary64 variance) ⌝ }
 {
+    if k >= 0.0 {
+        if low >= 0.0 {
+            if low * low < variance {
+                if outside_at(average, middle, k, low) == 0 {
+                    return 0;
+                }
+            }
+        }
+        if variance >= 0.0 {
+            if high >= 0.0 {
+                if variance < high * high {
+                    let cell = outside_at(average, middle, k, high);
+                    if cell != 0 {
+                        return cell;
+                    }
+                }
+            }
+        }
+    }
     outside_at(average, middle, k, rounding_root::square_root(variance))
+}
+
+// The guesses lie around the width whose band ends at the average; `inverse` is 1 / k.
+fn outside_by(average: f64, middle: f64, k: f64, inverse: f64, variance: f64) -> i32
+    ensures { λ r. ⌜ r ≡ outsideAt average middle k (sqrtOf binary64 variance) ⌝ }
+{
+    let edge = rounding::magnitude(average - middle) * inverse;
+    let slack = (rounding::magnitude(middle) * 1e-15 + 1.1e-10) * inverse;
+    let low = edge * 1.000000001;
+    let high = edge * 0.999999999 - slack;
+    outside_by_guess(average, middle, k, variance, low, high)
 }
 
 // Writes the cells of a few bars from bar i on, and gives how many they are.
@@ -58,9 +88,10 @@ fn write_some_outside(means: &[f64], n: usize, k: f64, i: usize, out: &mut [i32]
     let mut middles = [0.0; 8];
     let mut variances = [0.0; 8];
     let count = deviations::write_spreads(means, n, n - 1, i, &mut middles, &mut variances);
+    let inverse = 1.0 / k;
     let mut j = 0;
     while j < count {
-        out[i + j] = outside_by(means[i + j], middles[j], k, variances[j]);
+        out[i + j] = outside_by(means[i + j], middles[j], k, inverse, variances[j]);
         j += 1;
     }
     count
@@ -102,19 +133,49 @@ fn opens_at(average: f64, middle: f64, k: f64, width: f64) -> i32
     0
 }
 
-// The same where the width is the root of a variance.
-fn opens_by(average: f64, middle: f64, k: f64, variance: f64) -> i32
+// The same where the width is the root of a variance. Two guesses at the root decide most bars; only the speed rests on them.
+fn opens_by_guess(average: f64, middle: f64, k: f64, variance: f64, low: f64, high: f64) -> i32
     ensures { λ r. ⌜ r ≡ opensAt average middle k (sqrtOf binary64 variance) ⌝ }
 {
+    if k >= 0.0 {
+        if low >= 0.0 {
+            if low * low < variance {
+                if opens_at(average, middle, k, low) == 0 {
+                    return 0;
+                }
+            }
+        }
+        if variance >= 0.0 {
+            if high >= 0.0 {
+                if variance < high * high {
+                    let opens = opens_at(average, middle, k, high);
+                    if opens != 0 {
+                        return opens;
+                    }
+                }
+            }
+        }
+    }
     opens_at(average, middle, k, rounding_root::square_root(variance))
 }
 
+// The guesses lie around the width whose band ends at the average; `inverse` is 1 / k.
+fn opens_by(average: f64, middle: f64, k: f64, inverse: f64, variance: f64) -> i32
+    ensures { λ r. ⌜ r ≡ opensAt average middle k (sqrtOf binary64 variance) ⌝ }
+{
+    let edge = rounding::magnitude(average - middle) * inverse;
+    let slack = rounding::magnitude(middle) * 1e-15 * inverse;
+    let low = edge * 1.000000001;
+    let high = edge * 0.999999999 - slack;
+    opens_by_guess(average, middle, k, variance, low, high)
+}
+
 // The position after a bar. The bands are asked only where the position before it is flat.
-fn turned_by(position: i32, average: f64, middle: f64, k: f64, variance: f64) -> i32
+fn turned_by(position: i32, average: f64, middle: f64, k: f64, inverse: f64, variance: f64) -> i32
     ensures { λ r. ⌜ r ≡ moved position (turnsAt average middle k (sqrtOf binary64 variance)) ⌝ }
 {
     if position == 0 {
-        opens_by(average, middle, k, variance)
+        opens_by(average, middle, k, inverse, variance)
     } else {
         rules_held::move_position(position, 0, middle < average, average < middle)
     }
@@ -136,10 +197,11 @@ fn write_some_turned(means: &[f64], n: usize, k: f64, i: usize, out: &mut [i32])
     let mut middles = [0.0; 8];
     let mut variances = [0.0; 8];
     let count = deviations::write_spreads(means, n, n, i, &mut middles, &mut variances);
+    let inverse = 1.0 / k;
     let mut position = position_before(out, i);
     let mut j = 0;
     while j < count {
-        position = turned_by(position, means[i + j], middles[j], k, variances[j]);
+        position = turned_by(position, means[i + j], middles[j], k, inverse, variances[j]);
         out[i + j] = position;
         j += 1;
     }

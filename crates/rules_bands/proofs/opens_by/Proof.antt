@@ -1,4 +1,4 @@
--- `opens_by` meets its contract: the width is the root. Assumes nothing.
+-- `opens_by` meets its contract: whatever the guesses are. Assumes nothing.
 use mathlib.Core.Path.{_∙_}
 use borrow.Author.Needs.{needs, sfits-of}
 use mir.Syntax.{w32}
@@ -8,8 +8,8 @@ use Rattle.rules_bands.proofs.opens_by.Tie as tie
 
 returns : tie.Need-returns
 returns c =
-    let call = c .opens-at in
-    toZ-ofZ w32 (call .result) (sfits-of (call .ok)) ∙ call .ensures ∙ rw (c .before .square-root .ensures)
+    let call = c .opens-by-guess in
+    toZ-ofZ w32 (call .result) (sfits-of (call .ok)) ∙ call .ensures
 
 pub opens-by-spec : {M : Type 1} → statement M
-opens-by-spec = tie.close (tie.spec (λ c κs. search needs) (λ c κs. search needs) returns)
+opens-by-spec = tie.close (tie.spec (λ c κs. search needs) (λ c κs. search needs) (λ c κs. search needs) returns)

@@ -16,11 +16,11 @@ use Rattle.rules_bands.proofs.write_some_outside.Statement.{statement}
 use Rattle.rules_bands.proofs.write_some_outside.Tie as tie
 
 abbrev Inv-loop : tie.InvT-loop
-Inv-loop means n k i out₀ middles variances count j₀ out j =
+Inv-loop means n k i out₀ middles variances count inverse j₀ out j =
     (j ≤ count) × Writing (i + j) (outsideBands n k (line means)) out₀ out
 
 abbrev μ-loop : tie.MeasureT-loop
-μ-loop means n k i out₀ middles variances count j₀ out j = count - j
+μ-loop means n k i out₀ middles variances count inverse j₀ out j = count - j
 
 loop-again : tie.Need-loop-again Inv-loop μ-loop
 loop-again c =

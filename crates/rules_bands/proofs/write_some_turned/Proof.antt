@@ -21,13 +21,13 @@ use Rattle.rules_bands.proofs.write_some_turned.Statement.{statement}
 use Rattle.rules_bands.proofs.write_some_turned.Tie as tie
 
 abbrev Inv-loop : tie.InvT-loop
-Inv-loop means n k i out₀ middles variances count position₀ j₀ out position j =
+Inv-loop means n k i out₀ middles variances count inverse position₀ j₀ out position j =
     (j ≤ count)
     × Writing (i + j) (turnedBands n k (line means)) out₀ out
     × Recurring flat (λ b z. moved z (bandSignals n k (line means) b)) (i + j) (toZ w32 position)
 
 abbrev μ-loop : tie.MeasureT-loop
-μ-loop means n k i out₀ middles variances count position₀ j₀ out position j = count - j
+μ-loop means n k i out₀ middles variances count inverse position₀ j₀ out position j = count - j
 
 loop-holds : tie.Need-loop-holds Inv-loop μ-loop
 unfolding turnedBands
