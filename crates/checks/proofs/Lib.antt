@@ -1,3 +1,3 @@
 pub mod Due
-pub mod Passed
+pub mod Table
 pub mod Three

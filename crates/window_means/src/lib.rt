@@ -15,7 +15,7 @@ ghost use Rattle.window_means.specs.inner.Ticks.{longTicks};
 ghost use Rattle.window_means.specs.inner.Row.{meansOfRow, RowRoom, RowReached};
 
 // Stores the eight lanes from cell i on.
-fn store_eight(means: &mut [f64], i: usize, eight: Lanes)
+pub fn store_eight(means: &mut [f64], i: usize, eight: Lanes)
     requires { ⌜ i + 8 ≤ length (now means) ⌝ }
     ensures { λ _. ⌜ now (means .exit) ≡ storeEight (now (means .entry)) i eight ⌝ }
 {

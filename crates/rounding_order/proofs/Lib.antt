@@ -1,0 +1,3 @@
+pub mod Enclosed
+pub mod Outward
+pub mod Rounded

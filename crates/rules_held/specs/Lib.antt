@@ -1,0 +1,3 @@
+-- Positions that are held until they close.
+pub mod Cases
+pub mod Held
