@@ -22,7 +22,8 @@
  *      other than -0.0; tick_mean takes whole values within 16,777,216 only
  *   6  an f64 parameter that is not finite
  *   7  a window above 4,096, or a smoother period that is not whole from 0 to 512
- *   9  double_sma_positions: n is not below m
+ *   8  triple_sma_positions: m3 above the series' length
+ *   9  double_sma_positions: n is not below m; triple_sma_positions: not m1 < m2 < m3
  *
  * A work slice is lent for the call's own use. Its first 8 * series_len cells hold +0.0 after an
  * answered call, and the others keep their values.
@@ -151,6 +152,16 @@ tegbalowu_answer tegbalowu_rank_positions(const double *series, size_t series_le
  * bar window-1; 0 earlier. A window of 0 is no empty answer here: it gives 0 at every bar. */
 tegbalowu_answer tegbalowu_rolling_rank(const double *series, size_t series_len, size_t window, uint64_t *out,
                                         size_t out_len, double *work, size_t work_len);
+
+/* Bollinger's bands of the means of n prices, from bar 2n-2: +1 where the mean is above the middle plus k deviations,
+ * -1 where it is below the middle less k deviations, each by more than 1e-10. The deviation is over n-1; n of 1 gives 0. */
+tegbalowu_answer tegbalowu_boll_positions(const double *series, size_t series_len, size_t n, double k, int32_t *out,
+                                          size_t out_len, double *work, size_t work_len);
+
+/* Against those bands, with the deviation over n and no margin: above the upper band a flat position opens short, below
+ * the lower one it opens long; a long one closes above the middle, and a short one below it. */
+tegbalowu_answer tegbalowu_boll_reverse_positions(const double *series, size_t series_len, size_t n, double k,
+                                                  int32_t *out, size_t out_len, double *work, size_t work_len);
 
 #ifdef __cplusplus
 }

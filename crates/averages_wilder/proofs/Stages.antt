@@ -1,11 +1,11 @@
 -- Wilder's averages of gains and losses, as the loops find them. Assumes nothing.
-use mathlib.Core.Path.{_≡_, refl}
+use mathlib.Core.Path.{_≡_}
 use Prim.Native.Nat.{ℕ, _+_, _-_, _<_, _≤_}
 use native.Mathlib.Omega.{arith}
 use lib.Ieee.{Float, nan, binary64, add}
 use Rattle.cells.specs.Line.{Line, plusZero}
 use Rattle.cells.proofs.Line.{from-bar}
-use Rattle.cells.proofs.Carried.{carried-seed, carried-later}
+use Rattle.cells.proofs.Carried.{carried-seed, carried-next}
 use Rattle.windows.specs.Window.{over}
 use Rattle.windows.specs.inner.Sums.{Summing}
 use Rattle.windows.proofs.Window.{one-added}
@@ -24,13 +24,13 @@ pub seed-of : (n : ℕ) (f : Line) {k : ℕ} {x : Float} → Summing plusZero f 
 unfolding wilder
 seed-of n f s e =
     let start : n + 1 - n ≡ 1 = omega arith in
-    rw (carried-seed nan (wilderStep n) n (wilderSeed n n f) f n refl, s .is, e, start)
+    rw (carried-seed nan (wilderStep n) n (wilderSeed n n f) f, s .is, e, start)
 
 -- the next cell
 pub next-of : (n i : ℕ) (f : Line) {x y : Float} → x ≡ wilder n n f (i - 1) → y ≡ f i → n < i
     → wilderStep n x y ≡ wilder n n f i
 unfolding wilder
-next-of n i f e g h = rw (carried-later nan (wilderStep n) n (wilderSeed n n f) f i h, e, g)
+next-of n i f e g h = rw (carried-next nan (wilderStep n) n (wilderSeed n n f) f i h, e, g)
 
 -- the cell of bar i
 pub rsi-at : (n i : ℕ) (f : Line) (r : Averages) → Averaged n f i r → n ≤ i

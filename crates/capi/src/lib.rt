@@ -13,6 +13,8 @@ ghost use Rattle.rules_middle.specs.Middle.{MidCall};
 ghost use Rattle.capi.specs.Numbers.{Numbers, InNumbers};
 ghost use Rattle.averages_wilder.specs.WilderRsi.{WilderRsiCall};
 ghost use Rattle.rsx.specs.Rsx.{RsxCall};
+ghost use Rattle.rules_bands.specs.Boll.{BollCall};
+ghost use Rattle.rules_bands.specs.BollReverse.{BollReverseCall};
 ghost use Rattle.rules_ema.specs.SingleEma.{SingleEmaCall};
 ghost use Rattle.rules_mms.specs.Mms.{MmsCall};
 ghost use Rattle.rules_rank.specs.Rank.{RankCall};
@@ -220,8 +222,37 @@ pub extern "C" fn tegbalowu_rolling_rank(
     out: &mut [u64],
     work: &mut [f64],
 ) -> CAnswer
-    ensures { λ r. ⌜ InNumbers (λ a. RollingRankCall (now (series .entry)) window (now (out .entry)) (now (work .entry)) a
+    ensures { λ r. ⌜ InNumbers (λ a. RollingRankCall (now (series .entry)) window (now (out .entry))
+        (now (work .entry)) a
         (now (out .exit)) (now (work .exit))) r ⌝ }
 {
     numbers(rules::rolling_rank(series, window, out, work))
+}
+
+#[no_mangle]
+pub extern "C" fn tegbalowu_boll_positions(
+    series: &[f64],
+    n: usize,
+    k: f64,
+    out: &mut [i32],
+    work: &mut [f64],
+) -> CAnswer
+    ensures { λ r. ⌜ InNumbers (λ a. BollCall (now (series .entry)) n k (now (out .entry)) (now (work .entry)) a
+        (now (out .exit)) (now (work .exit))) r ⌝ }
+{
+    numbers(rules::boll_positions(series, n, k, out, work))
+}
+
+#[no_mangle]
+pub extern "C" fn tegbalowu_boll_reverse_positions(
+    series: &[f64],
+    n: usize,
+    k: f64,
+    out: &mut [i32],
+    work: &mut [f64],
+) -> CAnswer
+    ensures { λ r. ⌜ InNumbers (λ a. BollReverseCall (now (series .entry)) n k (now (out .entry)) (now (work .entry))
+        a (now (out .exit)) (now (work .exit))) r ⌝ }
+{
+    numbers(rules::boll_reverse_positions(series, n, k, out, work))
 }

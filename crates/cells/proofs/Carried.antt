@@ -1,4 +1,5 @@
--- Lines that carry their last cell have no look-ahead, where their seed has none; their cells, bar by bar. Assumes nothing.
+-- Lines that carry their last cell have no look-ahead, where their seed has none; their cells, bar by bar. Assumes
+-- nothing.
 use mathlib.Core.Path.{_≡_, refl}
 use mathlib.Core.Bool.{Bool, true, false, cond}
 use Prim.Native.Nat.{ℕ, suc, _+_, _-_, _<_, _≤_}
@@ -16,7 +17,8 @@ cond-when true x y d h = h refl
 cond-when false x y d h = refl
 
 -- two lines that begin at bar a, and agree at bar b if it is not before bar a
-pub from-same : {A : Type 0} (a : ℕ) (d : A) (f g : ℕ → A) (b : ℕ) → (a ≤ b → f b ≡ g b) → fromBar a d f b ≡ fromBar a d g b
+pub from-same : {A : Type 0} (a : ℕ) (d : A) (f g : ℕ → A) (b : ℕ) → (a ≤ b → f b ≡ g b) → fromBar a d f b
+    ≡ fromBar a d g b
 unfolding fromBar
 from-same a d f g b h = cond-when (leb a b) (f b) (g b) d (λ e. h (leb-true a b e))
 

@@ -20,5 +20,6 @@ module _ {k : ℕ} {g : Line} {old mid : List Float} (w : Writing k g old mid) (
   part-is i l = getD-take k mid i nan l ∙ read-back i nan w (omega arith)
 
   -- a causal operator on that part is the operator on g
-  pub through : {B : Type 0} (F : Line → ℕ → B) {a b : List B} → Causal F → Writing (length (take k mid)) (F (line (take k mid))) a b → Writing k (F g) a b
+  pub through : {B : Type 0} (F : Line → ℕ → B) {a b : List B} → Causal F
+      → Writing (length (take k mid)) (F (line (take k mid))) a b → Writing k (F g) a b
   through F p v = writing-same (ends v part-long) (λ i l. p (line (take k mid)) g i (λ j m. part-is j (omega arith)))

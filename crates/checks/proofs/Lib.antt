@@ -1,3 +1,4 @@
 pub mod Due
+pub mod Passed
 pub mod Table
 pub mod Three

@@ -54,7 +54,8 @@ table-priced s n out next {work₀ = work₀} e d y whole =
     }
 
 -- what is known of its parameters where it has cells
-pub table-asked : (s : List Float) (out work : ℕ) (numbers : List Float) (windows periods : List ℕ) (next : Answer) (k : ℕ)
+pub table-asked : (s : List Float) (out work : ℕ) (numbers : List Float) (windows periods : List ℕ) (next : Answer)
+    (k : ℕ)
     → andThen (checked accepted (s ∷ []) (out ∷ []) (work ∷ []))
     (limited numbers windows periods (unlessEmpty (length s) windows periods next))
     ≡ Cells k

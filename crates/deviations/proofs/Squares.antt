@@ -27,7 +27,8 @@ squares-from n i m f {a} s (p, q) =
     rw (s .is, p, start)
 
 -- the variance is that about the mean
-pub variance-about : (d n i : ℕ) (f : Line) {m x : Float} → m ≡ mean n f i → x ≡ squaresAbout minusZero n m f i → n ≤ i + 1
+pub variance-about : (d n i : ℕ) (f : Line) {m x : Float} → m ≡ mean n f i → x ≡ squaresAbout minusZero n m f i
+    → n ≤ i + 1
     → over d x ≡ variance minusZero d n f i
 unfolding mean windowSum
 variance-about d n i f p q h = rw (q, p, from-bar (n - 1) plusZero _ i (omega arith))
@@ -75,7 +76,8 @@ each-squared {f} {m} {a} {k} s = record {
 }
 
 -- the squares of the windows that end at the eight bars from i on, the first of which starts at bar a
-pub eight-squares : (n i a : ℕ) (f : Line) (m : Lanes) {k : ℕ} {r : Lanes} → Squared f m a k r → (k ≡ n) × (a + n ≡ i + 1)
+pub eight-squares : (n i a : ℕ) (f : Line) (m : Lanes) {k : ℕ} {r : Lanes} → Squared f m a k r → (k ≡ n)
+    × (a + n ≡ i + 1)
     → About n f i m r
 eight-squares n i a f m s (p, q) = record {
   lane0 = squares-from n i (m .lane0) f (s .lane0) (omega arith);

@@ -9,7 +9,8 @@ use Rattle.cells.specs.Shown.{num, prices, cellsOf}
 use Rattle.windows.specs.Window.{sumFrom}
 use Rattle.deviations.specs.Deviation.{deviation}
 
--- 2, 4, 10 with n 2: over n the deviations are 1 and 3; of 0, 8, 4 with n 3 over n - 1 it is 4; one cell over 0 has none
+-- 2, 4, 10 with n 2: over n the deviations are 1 and 3; of 0, 8, 4 with n 3 over n - 1 it is 4; one cell over 0 has
+-- none
 deviation-cases : cellsOf (deviation minusZero 2 2) (prices (pos 2 ∷ pos 4 ∷ pos 10 ∷ []))
     ∷ cellsOf (deviation minusZero 2 3) (prices (pos 0 ∷ pos 8 ∷ pos 4 ∷ []))
     ∷ cellsOf (deviation minusZero 0 1) (prices (pos 5 ∷ []))

@@ -1,4 +1,5 @@
-// Squares about the mean of a window, each window summed afresh from left to right: of one bar, and of eight bars side by side.
+// Squares about the mean of a window, each window summed afresh from left to right: of one bar, and of eight bars
+// side by side.
 use windows::Lanes;
 ghost use mathlib.Core.Path.{_≡_};
 ghost use Prim.Native.Nat.{_+_, _≤_};
@@ -73,8 +74,8 @@ fn squares_at(cells: &[f64], n: usize, i: usize, middle: f64) -> f64
     sum
 }
 
-// Writes the means of the n cells up to each bar from i on, and their variances over d: for eight bars, or for one where fewer are left.
-// Gives how many they are.
+// Writes the means of the n cells up to each bar from i on, and their variances over d: for eight bars, or for one
+// where fewer are left. Gives how many they are.
 pub fn write_spreads(
     cells: &[f64],
     n: usize,

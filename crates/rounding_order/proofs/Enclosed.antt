@@ -98,7 +98,11 @@ module _ (m : ℕ) (e : ℤ) (F : T (fits binary64 (fin false (suc m) e))) where
 
   root-number : Number binary64 (sqrtOf binary64 (fin false (suc m) e))
   root-number =
-      record { fit = root-nearest .held; ends = positive-finite (sqrtOf binary64 (fin false (suc m) e)) (root-nearest .above-zero) }
+      record {
+        fit = root-nearest .held;
+        ends = positive-finite (sqrtOf binary64 (fin false (suc m) e))
+            (root-nearest .above-zero);
+      }
 
   root-value : HasValue (sqrtOf binary64 (fin false (suc m) e)) false
       (inUnits binary64 (sqrtOf binary64 (fin false (suc m) e))) (2 ^ 1074)
@@ -132,7 +136,8 @@ module _ (m : ℕ) (e : ℤ) (F : T (fits binary64 (fin false (suc m) e))) where
 
     t-sign : isBelow (negative t) (inUnits binary64 t) false 0 ≡ false
     t-sign =
-        sym (lt-at t plusZero (negative t) (inUnits binary64 t) false 0 (2 ^ 1074) (pow-pos 1074) t-value (refl, refl)) ∙ P
+        sym (lt-at t plusZero (negative t) (inUnits binary64 t) false 0 (2 ^ 1074) (pow-pos 1074) t-value
+        (refl, refl)) ∙ P
 
     square-is : mul binary64 t t ≡ round binary64 false (inUnits binary64 t * inUnits binary64 t) (2 ^ 1074 * 2 ^ 1074)
     square-is =
@@ -141,7 +146,8 @@ module _ (m : ℕ) (e : ℤ) (F : T (fits binary64 (fin false (suc m) e))) where
         mul-at t t s u (2 ^ 1074) s u (2 ^ 1074) (pow-pos 1074) (pow-pos 1074) t-value t-value binary64
         ∙ rw (same-sign s)
 
-    near : Nearer (inUnits binary64 (fin false (suc m) e) * 2 ^ 1074) (inUnits binary64 (sqrtOf binary64 (fin false (suc m) e))) (inUnits binary64 t)
+    near : Nearer (inUnits binary64 (fin false (suc m) e) * 2 ^ 1074)
+        (inUnits binary64 (sqrtOf binary64 (fin false (suc m) e))) (inUnits binary64 t)
     near = root-nearest .nearer t (N .fit) (N .ends)
 
     above-at : lt (fin false (suc m) e) (mul binary64 t t) ≡ true → lt t (sqrtOf binary64 (fin false (suc m) e)) ≡ false
@@ -158,7 +164,8 @@ module _ (m : ℕ) (e : ℤ) (F : T (fits binary64 (fin false (suc m) e))) where
             let few = under-root (u * 2 ^ 1074) b a near (smaller (negative t) a b t-sign order) in
             rw square-is
             (not-below _ _
-            (round-mono binary64 (a * a) (2 ^ 1074 * 2 ^ 1074) u (2 ^ 1074) (mul-pos (pow-pos 1074) (pow-pos 1074)) (pow-pos 1074)
+            (round-mono binary64 (a * a) (2 ^ 1074 * 2 ^ 1074) u (2 ^ 1074) (mul-pos (pow-pos 1074) (pow-pos 1074))
+            (pow-pos 1074)
             (rw (← mul-assoc u (2 ^ 1074) (2 ^ 1074)) (mul-le-mul-right (2 ^ 1074) (le-of-lt few)))))
 
     below-at : lt (mul binary64 t t) (fin false (suc m) e) ≡ true → lt (sqrtOf binary64 (fin false (suc m) e)) t ≡ false
@@ -175,7 +182,8 @@ module _ (m : ℕ) (e : ℤ) (F : T (fits binary64 (fin false (suc m) e))) where
             let many = over-root (u * 2 ^ 1074) b a near (larger (negative t) a b order) in
             rw square-is
             (not-below _ _
-            (round-mono binary64 u (2 ^ 1074) (a * a) (2 ^ 1074 * 2 ^ 1074) (pow-pos 1074) (mul-pos (pow-pos 1074) (pow-pos 1074))
+            (round-mono binary64 u (2 ^ 1074) (a * a) (2 ^ 1074 * 2 ^ 1074) (pow-pos 1074)
+            (mul-pos (pow-pos 1074) (pow-pos 1074))
             (rw (← mul-assoc u (2 ^ 1074) (2 ^ 1074)) (mul-le-mul-right (2 ^ 1074) (le-of-lt many)))))
 
   root-from-zero : lt (sqrtOf binary64 (fin false (suc m) e)) plusZero ≡ false
@@ -218,7 +226,8 @@ square-number (inf s) v h = refl
 square-number (fin s m e) v h = refl
 
 -- the root of v is at most a t from 0 up whose square, as computed, is above v
-pub root-under : (v t : Float) → T (fits binary64 v) → T (fits binary64 t) → lt v plusZero ≡ false → lt t plusZero ≡ false
+pub root-under : (v t : Float) → T (fits binary64 v) → T (fits binary64 t) → lt v plusZero ≡ false → lt t plusZero
+    ≡ false
     → lt v (mul binary64 t t) ≡ true
     → Widths (sqrtOf binary64 v) t
 unfolding sqrtOf mul lt isNan
@@ -244,7 +253,8 @@ root-under (fin false (suc m) e) (fin s n d) F G Q P h = record {
   order = above-at m e F (fin s n d) (record { fit = G; ends = tt }) P h;
 }
 
-not-over : (v t : Float) → T (fits binary64 v) → T (fits binary64 t) → lt t plusZero ≡ false → lt (mul binary64 t t) v ≡ true
+not-over : (v t : Float) → T (fits binary64 v) → T (fits binary64 t) → lt t plusZero ≡ false → lt (mul binary64 t t) v
+    ≡ true
     → lt (sqrtOf binary64 v) t ≡ false
 unfolding sqrtOf mul lt isNan
 not-over nan t F G P h = absurd (true≢false (sym h ∙ none-below (mul binary64 t t) .0))
@@ -252,7 +262,8 @@ not-over (inf true) t F G P h = absurd (true≢false (sym h ∙ none-below (mul 
 not-over (inf false) t F G P h = none-above t
 not-over (fin s zero e) t F G P h =
     absurd (true≢false
-    (sym h ∙ lt-between false (mul binary64 t t) plusZero (fin s zero e) refl (product-above t t P P) (zero-not-below s e)))
+    (sym h ∙ lt-between false (mul binary64 t t) plusZero (fin s zero e) refl (product-above t t P P)
+    (zero-not-below s e)))
 not-over (fin true (suc m) e) t F G P h =
     absurd (true≢false
     (sym h ∙ lt-between false (mul binary64 t t) plusZero (fin true (suc m) e) refl (product-above t t P P) refl))

@@ -113,13 +113,15 @@ pub above-both : (x y s : Float) → Inside false x y → lt y s ≡ true → lt
 above-both x y s h e =
     either-way _
     (λ z. true≢false
-    (sym e ∙ sym (far-above y s) ∙ lt-between false (far false y) (far false x) s (far-number false x) h (far-above x s ∙ z)))
+    (sym e ∙ sym (far-above y s) ∙ lt-between false (far false y) (far false x) s (far-number false x) h
+    (far-above x s ∙ z)))
 
 pub below-both : (x y s : Float) → Inside true x y → lt s y ≡ true → lt s x ≡ true
 below-both x y s h e =
     either-way _
     (λ z. true≢false
-    (sym e ∙ sym (far-below s y) ∙ lt-between false s (far true x) (far true y) (far-number true x) (far-below s x ∙ z) h))
+    (sym e ∙ sym (far-below s y) ∙ lt-between false s (far true x) (far true y) (far-number true x)
+    (far-below s x ∙ z) h))
 
 -- ---- opposites
 
@@ -184,7 +186,8 @@ add-inside false (fin r l b) nan (fin t n d) h = absurd (true≢false h)
 add-inside false (fin r l b) (inf false) (fin t n d) h = absurd (true≢false h)
 add-inside false (fin r l b) (inf true) (fin t n d) h = inside-bottom false (add binary64 (fin r l b) (fin t n d))
 add-inside false (fin r l b) (fin s m e) (fin t n d) h =
-    rw (far-same false _ (add-number r s l m b e), far-same false _ (add-number r t l n b d)) (add-order r s t l m n b e d h)
+    rw (far-same false _ (add-number r s l m b e), far-same false _ (add-number r t l n b d))
+    (add-order r s t l m n b e d h)
 add-inside true nan x y h = refl
 add-inside true (inf s) x nan h = inside-top true (add binary64 (inf s) x)
 add-inside true (inf true) x (inf true) h = inside-top true (add binary64 (inf true) x)
@@ -209,7 +212,8 @@ add-inside true (fin r l b) nan (fin t n d) h = absurd (true≢false h)
 add-inside true (fin r l b) (inf true) (fin t n d) h = absurd (true≢false h)
 add-inside true (fin r l b) (inf false) (fin t n d) h = inside-bottom true (add binary64 (fin r l b) (fin t n d))
 add-inside true (fin r l b) (fin s m e) (fin t n d) h =
-    rw (far-same true _ (add-number r s l m b e), far-same true _ (add-number r t l n b d)) (add-order r t s l n m b d e h)
+    rw (far-same true _ (add-number r s l m b e), far-same true _ (add-number r t l n b d))
+    (add-order r t s l n m b d e h)
 
 pub add-inside-first : (u : Bool) (c x y : Float) → Inside u x y → Inside u (add binary64 x c) (add binary64 y c)
 add-inside-first u c x y h = rw (add-swap x c, add-swap y c) (add-inside u c x y h)
@@ -241,7 +245,8 @@ infinite false n d h x = go (eqb n 0)
     go true = inside-top false x
     go false = inside-top false x
 
-pub infinite-above : (s : Bool) (n : ℕ) (d : ℤ) → lt (fin s n d) plusZero ≡ false → lt (cond (eqb n 0) nan (inf s)) plusZero ≡ false
+pub infinite-above : (s : Bool) (n : ℕ) (d : ℤ) → lt (fin s n d) plusZero ≡ false
+    → lt (cond (eqb n 0) nan (inf s)) plusZero ≡ false
 unfolding lt
 infinite-above true n d h = rw (no-parts n d h) refl
 infinite-above false n d h = go (eqb n 0)
@@ -251,7 +256,8 @@ infinite-above false n d h = go (eqb n 0)
     go false = refl
 
 -- a product of what is not below 0 is not below 0
-pub product-above : (k x : Float) → lt k plusZero ≡ false → lt x plusZero ≡ false → lt (mul binary64 k x) plusZero ≡ false
+pub product-above : (k x : Float) → lt k plusZero ≡ false → lt x plusZero ≡ false → lt (mul binary64 k x) plusZero
+    ≡ false
 unfolding mul lt
 product-above nan x p q = refl
 product-above (inf true) x p q = absurd (true≢false p)
@@ -285,18 +291,23 @@ mul-inside k (fin s m e) (inf true) p q n h = absurd (true≢false h)
 mul-inside nan (fin s m e) (inf false) p q n h = refl
 mul-inside (inf true) (fin s m e) (inf false) p q n h = absurd (true≢false p)
 mul-inside (inf false) (fin s m e) (inf false) p q n h = inside-top false (mul binary64 (inf false) (fin s m e))
-mul-inside (fin false l b) (fin s m e) (inf false) p q n h = infinite false l b p (mul binary64 (fin false l b) (fin s m e))
-mul-inside (fin true l b) (fin s m e) (inf false) p q n h = infinite true l b p (mul binary64 (fin true l b) (fin s m e))
+mul-inside (fin false l b) (fin s m e) (inf false) p q n h = infinite false l b p
+    (mul binary64 (fin false l b) (fin s m e))
+mul-inside (fin true l b) (fin s m e) (inf false) p q n h = infinite true l b p
+    (mul binary64 (fin true l b) (fin s m e))
 mul-inside nan (fin s m e) (fin t i d) p q n h = refl
 mul-inside (inf true) (fin s m e) (fin t i d) p q n h = absurd (true≢false p)
 mul-inside (inf false) (fin s m e) (fin false i d) p q n h =
-    infinite false i d (lt-between false (fin false i d) (fin s m e) plusZero refl h q) (mul binary64 (inf false) (fin s m e))
+    infinite false i d (lt-between false (fin false i d) (fin s m e) plusZero refl h q)
+    (mul binary64 (inf false) (fin s m e))
 mul-inside (inf false) (fin s m e) (fin true i d) p q n h =
-    infinite true i d (lt-between false (fin true i d) (fin s m e) plusZero refl h q) (mul binary64 (inf false) (fin s m e))
+    infinite true i d (lt-between false (fin true i d) (fin s m e) plusZero refl h q)
+    (mul binary64 (inf false) (fin s m e))
 mul-inside (fin r l b) (fin s m e) (fin t i d) p q n h =
     let x = mul binary64 (fin r l b) (fin s m e) in
     let y = mul binary64 (fin r l b) (fin t i d) in
-    rw (far-same false x (mul-number r s l m b e), far-same false y (mul-number r t l i b d)) (mul-order r l b p s t m i e d h)
+    rw (far-same false x (mul-number r s l m b e), far-same false y (mul-number r t l i b d))
+    (mul-order r l b p s t m i e d h)
 
 -- ---- across the middle
 

@@ -102,7 +102,8 @@ units-plain : (s : Bool) (q k : ℕ) → (negative (units binary64 s q k) ≡ s)
 unfolding units negative isNan
 units-plain s q k = go (ltb (q * 2 ^ k) (2 ^ 2098))
   where
-    go : (t : Bool) → (negative (cond t (odd 54 s q k 1074) (inf s)) ≡ s) × (isNan (cond t (odd 54 s q k 1074) (inf s)) ≡ false)
+    go : (t : Bool) → (negative (cond t (odd 54 s q k 1074) (inf s)) ≡ s)
+        × (isNan (cond t (odd 54 s q k 1074) (inf s)) ≡ false)
     go true = odd-plain s q k
     go false = (refl, refl)
 
@@ -171,9 +172,11 @@ zero-rounded c C = round-same binary64 false 0 c 0 1 C (zero-lt-suc 0) (simp zer
 
 pub round-order : (s t : Bool) (a b c : ℕ) → 0 < c → isBelow t b s a ≡ false
     → lt (round binary64 t b c) (round binary64 s a c) ≡ false
-round-order false false a b c C h = not-below _ _ (round-mono binary64 a c b c C C (mul-le-mul-right c (ltb-false b a h)))
+round-order false false a b c C h = not-below _ _
+    (round-mono binary64 a c b c C C (mul-le-mul-right c (ltb-false b a h)))
 round-order true false a b c C h =
-    signs-order (round binary64 false b c) (round binary64 true a c) (round-plain false b c .0) (round-plain true a c .0)
+    signs-order (round binary64 false b c) (round binary64 true a c) (round-plain false b c .0)
+    (round-plain true a c .0)
 round-order false true a b c C h =
     let l = ltb-false 0 (b + a) h in
     let p : a ≡ 0 = omega arith in
@@ -255,7 +258,8 @@ none-below true true = refl
 
 product-order : (r s t : Bool) (k a b : ℕ) → isBelow r k false 0 ≡ false → isBelow t b s a ≡ false
     → isBelow (unlike r t) (k * b) (unlike r s) (k * a) ≡ false
-product-order true s t k a b p h = rw (under-zero true k p refl, zero-mul a, zero-mul b) (none-below (unlike true t) (unlike true s))
+product-order true s t k a b p h = rw (under-zero true k p refl, zero-mul a, zero-mul b)
+    (none-below (unlike true t) (unlike true s))
 product-order false false false k a b p h = le-ltb (k * b) (k * a) (mul-le-mul-left k (ltb-false b a h))
 product-order false true false k a b p h = refl
 product-order false false true k a b p h =
@@ -320,8 +324,10 @@ module _ (r : Bool) (l : ℕ) (d : ℤ) (P : lt (fin r l d) plusZero ≡ false) 
       let x = parts s m e (down g) c refl in
       let y = parts t n g (down e) c (mul-comm (down g) (down e)) in
       rw (
-        mul-at (fin r l d) (fin t n g) r (l * up d) (down d) (y .sign) (y .count) c (down-pos d) C (refl, refl) (y .value) binary64,
-        mul-at (fin r l d) (fin s m e) r (l * up d) (down d) (x .sign) (x .count) c (down-pos d) C (refl, refl) (x .value) binary64,
+        mul-at (fin r l d) (fin t n g) r (l * up d) (down d) (y .sign) (y .count) c (down-pos d) C (refl, refl)
+            (y .value) binary64,
+        mul-at (fin r l d) (fin s m e) r (l * up d) (down d) (x .sign) (x .count) c (down-pos d) C (refl, refl)
+            (x .value) binary64,
       )
       (round-order (unlike r (x .sign)) (unlike r (y .sign)) (l * up d * x .count) (l * up d * y .count) (down d * c)
       (mul-pos (down-pos d) C)
@@ -335,7 +341,8 @@ module _ (r : Bool) (l : ℕ) (d : ℤ) (P : lt (fin r l d) plusZero ≡ false) 
       let c = down d * down e in
       let C : 0 < c = mul-pos (down-pos d) (down-pos e) in
       rw (
-        mul-at (fin r l d) (fin s m e) r (l * up d) (down d) s (m * up e) (down e) (down-pos d) (down-pos e) (refl, refl) (refl, refl) binary64,
+        mul-at (fin r l d) (fin s m e) r (l * up d) (down d) s (m * up e) (down e) (down-pos d) (down-pos e)
+            (refl, refl) (refl, refl) binary64,
         ← zero-rounded c C,
       )
       (round-order false (unlike r s) 0 (l * up d * (m * up e)) c C

@@ -1,8 +1,9 @@
 -- The stages of `rsx_ss2`, as the loops find them, and what is known where its cells are due. Assumes nothing.
-use mathlib.Core.Path.{_≡_, sym, refl}
+use mathlib.Core.Path.{_≡_, sym}
 use mathlib.Core.Bool.{true}
 use mathlib.Core.List.{List, [], _∷_}
 use Prim.Native.Nat.{ℕ, _-_, _*_, _<_, _≤_}
+use native.Mathlib.Omega.{arith}
 use borrow.Author.Tests.{leb-true}
 use lib.Dec.{leb}
 use lib.ListN.{length}
@@ -19,7 +20,7 @@ use Rattle.calls.proofs.Room.{asked, andThen-cells, same-count}
 use Rattle.checks.proofs.Passed.{one-passed, one-clearable}
 use Rattle.cells.specs.Line.{Line, plusZero}
 use Rattle.cells.proofs.Line.{from-bar}
-use Rattle.cells.proofs.Carried.{carried-seed, carried-later}
+use Rattle.cells.proofs.Carried.{carried-seed, carried-next}
 use Rattle.windows.specs.Window.{over}
 use Rattle.averages_exponential.specs.Blend.{blend}
 use Rattle.averages_exponential.specs.ExponentialSmoothing.{exponentialLine}
@@ -35,14 +36,14 @@ pub none-averaged : (alpha : Float) (f : Line) → Averaged alpha f 0 (record { 
 unfolding gains losses change neg lt
 none-averaged alpha f =
     record {
-      gain = rw (carried-seed nan (blend alpha) 0 (gains f 0) (gains f) 0 refl);
-      loss = rw (carried-seed nan (blend alpha) 0 (losses f 0) (losses f) 0 refl);
+      gain = rw (carried-seed nan (blend alpha) 0 (gains f 0) (gains f));
+      loss = rw (carried-seed nan (blend alpha) 0 (losses f 0) (losses f));
     }
 
 -- the next cell
 pub next-of : (alpha : Float) (i : ℕ) (f : Line) {x y : Float} → x ≡ exponentialLine alpha f (i - 1) → y ≡ f i → 0 < i
     → blend alpha x y ≡ exponentialLine alpha f i
-next-of alpha i f e g h = rw (carried-later nan (blend alpha) 0 (f 0) f i h, e, g)
+next-of alpha i f e g h = rw (carried-next nan (blend alpha) 0 (f 0) f i h, e, g)
 
 -- the bar, written in another way
 pub same-bar : {alpha : Float} {i j : ℕ} {f : Line} {r : Averages} → Averaged alpha f i r → i ≡ j → Averaged alpha f j r

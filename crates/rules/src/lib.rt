@@ -4,6 +4,8 @@ ghost use Prim.Native.Nat.{_*_};
 ghost use Rattle.rules_single.specs.Single.{SingleCall};
 ghost use Rattle.rules_middle.specs.Middle.{MidCall};
 ghost use Rattle.rules_double.specs.Double.{DoubleCall};
+ghost use Rattle.rules_bands.specs.Boll.{BollCall};
+ghost use Rattle.rules_bands.specs.BollReverse.{BollReverseCall};
 ghost use Rattle.rules_ema.specs.SingleEma.{SingleEmaCall};
 ghost use Rattle.rules_mms.specs.Mms.{MmsCall};
 ghost use Rattle.rules_rank.specs.Rank.{RankCall};
@@ -67,8 +69,8 @@ pub fn mms_positions(
     due
 }
 
-// Triple: 1 where the mean is above its long average and its short average above the middle one, -1 where both are below,
-// from bar m1 + m3 - 2 on.
+// Triple: 1 where the mean is above its long average and its short average above the middle one, -1 where both are
+// below, from bar m1 + m3 - 2 on.
 pub fn triple_sma_positions(
     series: &[f64],
     m1: usize,
@@ -102,8 +104,8 @@ pub fn single_ema_positions(series: &[f64], n: usize, out: &mut [f64], work: &mu
     due
 }
 
-// Rank: how many of the n - 1 means before the present one lie below it, moved to -1 .. 1 and rounded to hundredths, from
-// bar 2n - 2 on.
+// Rank: how many of the n - 1 means before the present one lie below it, moved to -1 .. 1 and rounded to hundredths,
+// from bar 2n - 2 on.
 pub fn rank_positions(series: &[f64], n: usize, out: &mut [f64], work: &mut [f64]) -> Answer
     ensures { λ r. ⌜ RankCall (now (series .entry)) n (now (out .entry)) (now (work .entry)) r (now (out .exit))
         (now (work .exit)) ⌝ }
@@ -116,8 +118,8 @@ pub fn rank_positions(series: &[f64], n: usize, out: &mut [f64], work: &mut [f64
     due
 }
 
-// Rolling rank: the place, from 1, in the sorted window of the first value less than 1e-8 away from the present one, from bar
-// window - 1 on; 0 before it, and at every bar for a window of none.
+// Rolling rank: the place, from 1, in the sorted window of the first value less than 1e-8 away from the present one,
+// from bar window - 1 on; 0 before it, and at every bar for a window of none.
 pub fn rolling_rank(series: &[f64], window: usize, out: &mut [u64], work: &mut [f64]) -> Answer
     ensures { λ r. ⌜ RollingRankCall (now (series .entry)) window (now (out .entry)) (now (work .entry)) r
         (now (out .exit)) (now (work .exit)) ⌝ }
@@ -125,6 +127,38 @@ pub fn rolling_rank(series: &[f64], window: usize, out: &mut [u64], work: &mut [
     let due = rules_rank::answer_rolling_rank(series, window, out.len(), work.len());
     if checks::cells_due(due, series.len(), work) {
         rules_rank::write_rolling_rank(series, window, out);
+        cells::clear(work, 8 * series.len());
+    }
+    due
+}
+
+// Bollinger's bands: +1 above and -1 below the bands of the means, from bar 2n - 2 on.
+pub fn boll_positions(series: &[f64], n: usize, k: f64, out: &mut [i32], work: &mut [f64]) -> Answer
+    ensures { λ r. ⌜ BollCall (now (series .entry)) n k (now (out .entry)) (now (work .entry)) r (now (out .exit))
+        (now (work .exit)) ⌝ }
+{
+    let due = rules_bands::answer_bands(series, n, k, out.len(), work.len());
+    if checks::cells_due(due, series.len(), work) {
+        rules_bands::write_boll(series, n, k, out, work);
+        cells::clear(work, 8 * series.len());
+    }
+    due
+}
+
+// Against Bollinger's bands: a position is opened beyond a band of the means, and held to the middle.
+pub fn boll_reverse_positions(
+    series: &[f64],
+    n: usize,
+    k: f64,
+    out: &mut [i32],
+    work: &mut [f64],
+) -> Answer
+    ensures { λ r. ⌜ BollReverseCall (now (series .entry)) n k (now (out .entry)) (now (work .entry)) r
+        (now (out .exit)) (now (work .exit)) ⌝ }
+{
+    let due = rules_bands::answer_bands(series, n, k, out.len(), work.len());
+    if checks::cells_due(due, series.len(), work) {
+        rules_bands::write_boll_reverse(series, n, k, out, work);
         cells::clear(work, 8 * series.len());
     }
     due

@@ -72,14 +72,16 @@ outside-position average middle k width =
 
 pub boll-position : (n : ℕ) (k : Float) (f : Line) (i : ℕ) → Position (bollLine n k f i)
 unfolding outsideBands
-boll-position n k f i = from-position (2 * n - 2) _ (λ j. outside-position (mean n f j) (mean n (mean n f) j) k (deviation minusZero (n - 1) n (mean n f) j)) i
+boll-position n k f i = from-position (2 * n - 2) _
+    (λ j. outside-position (mean n f j) (mean n (mean n f) j) k (deviation minusZero (n - 1) n (mean n f) j)) i
 
 opens-position : (average middle k width : Float) → Position (opensAt average middle k width)
 opens-position average middle k width =
     either-position (lt (upperBand k middle width) average) at-short
     (either-position (lt average (lowerBand k middle width)) at-long at-flat)
 
-from-opens : (b : ℕ) (f : ℕ → Signal) → ((i : ℕ) → Position (f i .opens)) → (i : ℕ) → Position (fromBar b silent f i .opens)
+from-opens : (b : ℕ) (f : ℕ → Signal) → ((i : ℕ) → Position (f i .opens)) → (i : ℕ)
+    → Position (fromBar b silent f i .opens)
 unfolding fromBar
 from-opens b f p i = go (leb b i)
   where
@@ -110,7 +112,8 @@ pub deviation-of : (d n i : ℕ) (g : Line) {v : Float} → v ≡ variance minus
 unfolding deviation
 deviation-of d n i g e h = rw (e, from-bar (n - 1) nan _ i (omega arith))
 
-pub outside-at : (n : ℕ) (k : Float) (g : Line) (i : ℕ) {m v : Float} → m ≡ mean n g i → v ≡ variance minusZero (n - 1) n g i
+pub outside-at : (n : ℕ) (k : Float) (g : Line) (i : ℕ) {m v : Float} → m ≡ mean n g i → v
+    ≡ variance minusZero (n - 1) n g i
     → 2 * n ≤ i + 2 → n ≤ i + 1
     → outsideAt (g i) m k (sqrtOf binary64 v) ≡ outsideBands n k g i
 unfolding outsideBands

@@ -23,7 +23,8 @@ pub record Guess (k v t : Float) : Type 0 where
 
 module _ (s m k v t : Float) (g : Guess k v t) where
   -- a guess that is too low, and flat
-  pub outside-by-low : lt (mul binary64 t t) v ≡ true → outsideAt s m k t ≡ flat → outsideAt s m k (sqrtOf binary64 v) ≡ flat
+  pub outside-by-low : lt (mul binary64 t t) v ≡ true → outsideAt s m k t ≡ flat → outsideAt s m k (sqrtOf binary64 v)
+      ≡ flat
   outside-by-low h e =
       outside-flat m k t (sqrtOf binary64 v) (g .factor) (root-over v t (g .held-v) (g .held) (g .from-zero) h) s e
 

@@ -50,7 +50,8 @@ module _ {s ux lx uy ly : Float} (n : Narrow s ux lx uy ly) (a b : ℤ) where
       go false true f g k h = rw (k refl, g refl)
       go false false f g k h = absurd (h refl)
 
-  still-flat : (a ≡ flat → ⊥) → (b ≡ flat → ⊥) → three a b (lt ux s) (lt s lx) ≡ flat → three a b (lt uy s) (lt s ly) ≡ flat
+  still-flat : (a ≡ flat → ⊥) → (b ≡ flat → ⊥) → three a b (lt ux s) (lt s lx) ≡ flat → three a b (lt uy s) (lt s ly)
+      ≡ flat
   still-flat i j h = go (lt uy s) (lt s ly) (n .above) (n .below) (n .apart)
     where
       go : (p q : Bool) → (p ≡ true → lt ux s ≡ true) → (q ≡ true → lt s lx ≡ true) → (q ≡ true → lt ux s ≡ false)
@@ -104,9 +105,11 @@ module _ (m k x y : Float) (K : lt k plusZero ≡ false) (w : Widths x y) where
   unfolding sub
   bands-apart =
       add-inside true m (mul binary64 k x) (neg (mul binary64 k y))
-      (across (mul binary64 k x) (mul binary64 k y) (product-above k x K (w .from-zero)) (product-above k y K y-above) wider)
+      (across (mul binary64 k x) (mul binary64 k y) (product-above k x K (w .from-zero)) (product-above k y K y-above)
+      wider)
 
-  margins-apart : Inside true (add binary64 (upperBand k m x) (tenToMinus 10)) (sub binary64 (lowerBand k m y) (tenToMinus 10))
+  margins-apart : Inside true (add binary64 (upperBand k m x) (tenToMinus 10))
+      (sub binary64 (lowerBand k m y) (tenToMinus 10))
   unfolding sub
   margins-apart =
       let e = tenToMinus 10 in

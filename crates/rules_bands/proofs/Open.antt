@@ -27,7 +27,8 @@ module _ (s : List Float) (n : ℕ) (k : Float) (out work : ℕ) where
   unfolding bandAnswer windowed
   band-answer-is = rw (and-true (finite k))
 
-  band-asked : (j : ℕ) → bandAnswer s n k out work ≡ Cells j → 0 < j → Asked (length s) (k ∷ []) (n ∷ []) [] (Cells (length s)) j
+  band-asked : (j : ℕ) → bandAnswer s n k out work ≡ Cells j → 0 < j
+      → Asked (length s) (k ∷ []) (n ∷ []) [] (Cells (length s)) j
   unfolding bandAnswer
   band-asked j e h = table-asked s out work (k ∷ []) (n ∷ []) [] (Cells (length s)) j e h
 
@@ -47,6 +48,7 @@ module _ (s : List Float) (n : ℕ) (k : Float) (out work : ℕ) where
 
 -- where its cells are due, its stages may run
 pub band-priced : (s : List Float) (n : ℕ) (k : Float) (out : ℕ) {r : Answer} {t : Bool} {work₀ work₁ : List Float}
-    → r ≡ bandAnswer s n k out (length work₀) → CellsDue r (length s) t work₀ work₁ → t ≡ true → Priced 8 n s out (length work₁)
+    → r ≡ bandAnswer s n k out (length work₀) → CellsDue r (length s) t work₀ work₁ → t ≡ true
+    → Priced 8 n s out (length work₁)
 unfolding bandAnswer
 band-priced s n k out {work₀ = work₀} e d y = table-priced s n out _ e d y (band-window s n k out (length work₀) e)

@@ -14,7 +14,8 @@ use Rattle.calls.specs.declared.Answer.{Answer}
 use Rattle.calls.specs.Call.{WorkCall}
 use Rattle.rules_bands.specs.Answer.{bandAnswer}
 
--- +1 above the upper band, -1 below the lower one, each by more than a margin of 1e-10, and else 0; a NaN in a band gives 0
+-- +1 above the upper band, -1 below the lower one, each by more than a margin of 1e-10, and else 0; a NaN in a band
+-- gives 0
 abbrev pub outside : Float → Float → Float → ℤ
 outside average upper lower =
     cond (lt (add binary64 upper (tenToMinus 10)) average) long
@@ -24,8 +25,8 @@ outside average upper lower =
 abbrev pub outsideAt : Float → Float → Float → Float → ℤ
 outsideAt average middle k width = outside average (upperBand k middle width) (lowerBand k middle width)
 
--- A line against Bollinger's bands of its last n cells ("Bollinger on Bollinger Bands", 2001), from bar 2n - 2 on. The middle is the
--- mean of those cells, and the width their deviation over n - 1.
+-- A line against Bollinger's bands of its last n cells ("Bollinger on Bollinger Bands", 2001), from bar 2n - 2 on.
+-- The middle is the mean of those cells, and the width their deviation over n - 1.
 unfoldable pub outsideBands : ℕ → Float → Line → ℕ → ℤ
 outsideBands n k g = fromBar (2 * n - 2) flat (λ i. outsideAt (g i) (mean n g i) k (deviation minusZero (n - 1) n g i))
 

@@ -50,8 +50,8 @@ boll-edges : (cellsOf (bollLine 1 half) (prices (pos 1 ∷ pos 5 ∷ pos 2 ∷ [
 unfolding outsideBands deviation mean windowSum sumFrom fromBar tenToMinus sqrtOf add sub mul div ofInt ofBits round lt
 boll-edges = (refl, refl, refl, refl, refl, refl)
 
--- 4, 4, 8 with n 2 and k 0.5 gives 0, 0, -1, and with k 0.8 too, where a deviation over n - 1 would give 0; then opened,
--- held to the middle, closed, and opened again at a later bar, from either side
+-- 4, 4, 8 with n 2 and k 0.5 gives 0, 0, -1, and with k 0.8 too, where a deviation over n - 1 would give 0; then
+-- opened, held to the middle, closed, and opened again at a later bar, from either side
 reverse-cases : (cellsOf (bollReverseLine 2 half) (prices (pos 4 ∷ pos 4 ∷ pos 8 ∷ [])) ≡ flat ∷ flat ∷ short ∷ [])
     × (cellsOf (bollReverseLine 2 (tenths 8)) (prices (pos 4 ∷ pos 4 ∷ pos 8 ∷ [])) ≡ flat ∷ flat ∷ short ∷ [])
     × (cellsOf (bollReverseLine 2 half)
@@ -64,8 +64,8 @@ unfolding bandSignals turnedBands hold moved recur deviation mean windowSum sumF
     ofBits round lt
 reverse-cases = (refl, refl, refl, refl)
 
--- n 1, where mean, middle and bands are one; a flat series, and zeros; n longer than the series; one bar; k below 0, where
--- above the upper band is asked first
+-- n 1, where mean, middle and bands are one; a flat series, and zeros; n longer than the series; one bar; k below 0,
+-- where above the upper band is asked first
 reverse-edges : (cellsOf (bollReverseLine 1 half) (prices (pos 1 ∷ pos 5 ∷ pos 2 ∷ [])) ≡ flat ∷ flat ∷ flat ∷ [])
     × (cellsOf (bollReverseLine 2 half) (prices (pos 5 ∷ pos 5 ∷ pos 5 ∷ pos 5 ∷ [])) ≡ flat ∷ flat ∷ flat ∷ flat ∷ [])
     × (cellsOf (bollReverseLine 2 half) (prices (pos 0 ∷ pos 0 ∷ pos 0 ∷ pos 0 ∷ [])) ≡ flat ∷ flat ∷ flat ∷ flat ∷ [])

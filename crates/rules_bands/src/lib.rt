@@ -43,7 +43,8 @@ fn outside_at(average: f64, middle: f64, k: f64, width: f64) -> i32
     0
 }
 
-// That cell where the width is the root of a variance. Two guesses at the root decide most cells; only the speed rests on them.
+// That cell where the width is the root of a variance. Two guesses at the root decide most cells; only the speed
+// rests on them.
 fn outside_by_guess(average: f64, middle: f64, k: f64, variance: f64, low: f64, high: f64) -> i32
     ensures { λ r. ⌜ r ≡ outsideAt average middle k (sqrtOf binary64 variance) ⌝ }
 {
@@ -83,7 +84,8 @@ fn outside_by(average: f64, middle: f64, k: f64, inverse: f64, variance: f64) ->
 // Writes the cells of a few bars from bar i on, and gives how many they are.
 fn write_some_outside(means: &[f64], n: usize, k: f64, i: usize, out: &mut [i32]) -> usize
     requires { ⌜ Begun n (now means) i (outsideBands n k (line (now means))) (now out) ⌝ }
-    ensures { λ r. ⌜ Further (now (means .entry)) i (outsideBands n k (line (now (means .entry)))) r (now (out .entry)) (now (out .exit)) ⌝ }
+    ensures { λ r. ⌜ Further (now (means .entry)) i (outsideBands n k (line (now (means .entry)))) r
+        (now (out .entry)) (now (out .exit)) ⌝ }
 {
     let mut middles = [0.0; 8];
     let mut variances = [0.0; 8];
@@ -100,7 +102,8 @@ fn write_some_outside(means: &[f64], n: usize, k: f64, i: usize, out: &mut [i32]
 // Writes each bar's position against the bands of the means.
 fn write_outside(means: &[f64], n: usize, k: f64, out: &mut [i32])
     requires { ⌜ WindowRoom n (length (now means)) (length (now out)) ⌝ }
-    ensures { λ _. ⌜ Writing (length (now (means .entry))) (outsideBands n k (line (now (means .entry)))) (now (out .entry)) (now (out .exit)) ⌝ }
+    ensures { λ _. ⌜ Writing (length (now (means .entry))) (outsideBands n k (line (now (means .entry))))
+        (now (out .entry)) (now (out .exit)) ⌝ }
 {
     let mut i = rules_held::fill_flat(out, 2 * n - 2, means.len());
     while i < means.len() {
@@ -111,7 +114,8 @@ fn write_outside(means: &[f64], n: usize, k: f64, out: &mut [i32])
 // Writes each bar's position. One row of `work` is used.
 pub fn write_boll(series: &[f64], n: usize, k: f64, out: &mut [i32], work: &mut [f64])
     requires { ⌜ Priced 1 n (now series) (length (now out)) (length (now work)) ⌝ }
-    ensures { λ _. ⌜ Writing (length (now (series .entry))) (bollLine n k (line (now (series .entry)))) (now (out .entry)) (now (out .exit))
+    ensures { λ _. ⌜ Writing (length (now (series .entry))) (bollLine n k (line (now (series .entry))))
+        (now (out .entry)) (now (out .exit))
         × Touched (length (now (series .entry))) (now (work .entry)) (now (work .exit)) ⌝ }
 {
     let bars = series.len();
@@ -133,7 +137,8 @@ fn opens_at(average: f64, middle: f64, k: f64, width: f64) -> i32
     0
 }
 
-// The same where the width is the root of a variance. Two guesses at the root decide most bars; only the speed rests on them.
+// The same where the width is the root of a variance. Two guesses at the root decide most bars; only the speed rests
+// on them.
 fn opens_by_guess(average: f64, middle: f64, k: f64, variance: f64, low: f64, high: f64) -> i32
     ensures { λ r. ⌜ r ≡ opensAt average middle k (sqrtOf binary64 variance) ⌝ }
 {
@@ -192,7 +197,8 @@ fn position_before(out: &[i32], i: usize) -> i32
 // Writes the positions of a few bars from bar i on, and gives how many they are.
 fn write_some_turned(means: &[f64], n: usize, k: f64, i: usize, out: &mut [i32]) -> usize
     requires { ⌜ Begun n (now means) i (turnedBands n k (line (now means))) (now out) ⌝ }
-    ensures { λ r. ⌜ Further (now (means .entry)) i (turnedBands n k (line (now (means .entry)))) r (now (out .entry)) (now (out .exit)) ⌝ }
+    ensures { λ r. ⌜ Further (now (means .entry)) i (turnedBands n k (line (now (means .entry)))) r (now (out .entry))
+        (now (out .exit)) ⌝ }
 {
     let mut middles = [0.0; 8];
     let mut variances = [0.0; 8];
@@ -211,7 +217,8 @@ fn write_some_turned(means: &[f64], n: usize, k: f64, i: usize, out: &mut [i32])
 // Writes each bar's position by the bands of the means.
 fn write_turned(means: &[f64], n: usize, k: f64, out: &mut [i32])
     requires { ⌜ WindowRoom n (length (now means)) (length (now out)) ⌝ }
-    ensures { λ _. ⌜ Writing (length (now (means .entry))) (turnedBands n k (line (now (means .entry)))) (now (out .entry)) (now (out .exit)) ⌝ }
+    ensures { λ _. ⌜ Writing (length (now (means .entry))) (turnedBands n k (line (now (means .entry))))
+        (now (out .entry)) (now (out .exit)) ⌝ }
 {
     let mut i = rules_held::fill_flat(out, 2 * n - 2, means.len());
     while i < means.len() {
@@ -222,7 +229,8 @@ fn write_turned(means: &[f64], n: usize, k: f64, out: &mut [i32])
 // Writes each bar's position. One row of `work` is used.
 pub fn write_boll_reverse(series: &[f64], n: usize, k: f64, out: &mut [i32], work: &mut [f64])
     requires { ⌜ Priced 1 n (now series) (length (now out)) (length (now work)) ⌝ }
-    ensures { λ _. ⌜ Writing (length (now (series .entry))) (bollReverseLine n k (line (now (series .entry)))) (now (out .entry)) (now (out .exit))
+    ensures { λ _. ⌜ Writing (length (now (series .entry))) (bollReverseLine n k (line (now (series .entry))))
+        (now (out .entry)) (now (out .exit))
         × Touched (length (now (series .entry))) (now (work .entry)) (now (work .exit)) ⌝ }
 {
     let bars = series.len();

@@ -1,4 +1,5 @@
--- Held positions have no look-ahead where their signals have none; long and short never stand at neighbouring bars. Assumes nothing.
+-- Held positions have no look-ahead where their signals have none; long and short never stand at neighbouring bars.
+-- Assumes nothing.
 use mathlib.Core.Path.{_≡_, refl, sym, _∙_}
 use mathlib.Core.Bool.{Bool, true, false, cond}
 use mathlib.Core.List.{List}
@@ -44,7 +45,8 @@ never-adjoin s i = (
 
 -- ---- before the first signal
 
-silent-after : (b : ℕ) (f : ℕ → Signal) (k : ℕ) → k ≤ b → recur flat (λ j position. moved position (fromBar b silent f j)) k ≡ flat
+silent-after : (b : ℕ) (f : ℕ → Signal) (k : ℕ) → k ≤ b
+    → recur flat (λ j position. moved position (fromBar b silent f j)) k ≡ flat
 unfolding recur moved
 silent-after b f zero h = refl
 silent-after b f (suc k) h = rw (silent-after b f k (omega arith), before-bar b silent f k (omega arith))
@@ -91,7 +93,8 @@ held-position s o i = held-after s o (suc i)
 -- ---- what the loops that hold a position keep
 
 -- the position at bar i, after i + 1 bars
-pub held-at : (s : ℕ → Signal) (i : ℕ) {z : ℤ} → Recurring flat (λ j position. moved position (s j)) (i + 1) z → z ≡ hold s i
+pub held-at : (s : ℕ → Signal) (i : ℕ) {z : ℤ} → Recurring flat (λ j position. moved position (s j)) (i + 1) z → z
+    ≡ hold s i
 unfolding hold
 held-at s i r = let one : i + 1 ≡ suc i = omega arith in r .is ∙ rw one
 
@@ -134,7 +137,8 @@ module _ (z : ℤ) (s : Signal) where
       go (negsuc k) e h = let l : _≡_ {A = ℕ} 0 1 = cc in absurd (omega arith)
 
 -- what a bar opens does not matter to a held position
-pub moved-held : (z : ℤ) (s t : Signal) → (z ≡ flat → ⊥) → s .closesLong ≡ t .closesLong → s .closesShort ≡ t .closesShort
+pub moved-held : (z : ℤ) (s t : Signal) → (z ≡ flat → ⊥) → s .closesLong ≡ t .closesLong → s .closesShort
+    ≡ t .closesShort
     → moved z s ≡ moved z t
 unfolding moved
 moved-held (pos zero) s t h p q = absurd (h refl)

@@ -20,7 +20,8 @@ signals [] i = silent
 signals (s ∷ rest) zero = s
 signals (s ∷ rest) (suc i) = signals rest i
 
--- a position stays open where nothing is said; it closes before the other one opens; and what closes opens nothing at its own bar
+-- a position stays open where nothing is said; it closes before the other one opens; and what closes opens nothing at
+-- its own bar
 held-cases : firstCells 4 (hold (signals (up ∷ silent ∷ down ∷ down ∷ [])))
     ∷ firstCells 3 (hold (signals (down ∷ down ∷ down ∷ [])))
     ∷ []

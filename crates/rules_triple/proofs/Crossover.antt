@@ -20,6 +20,7 @@ causal-triple m1 m2 m3 =
     ))
 
 pub triple-at : (m1 m2 m3 : ℕ) (f : Line) (i : ℕ) {a b c d : Float} → a ≡ mean m1 f i → b ≡ mean m1 (mean m1 f) i
-    → c ≡ mean m2 (mean m1 f) i → d ≡ mean m3 (mean m1 f) i → m1 + m3 - 2 ≤ i → trendOf a b c d ≡ tripleLine m1 m2 m3 f i
+    → c ≡ mean m2 (mean m1 f) i → d ≡ mean m3 (mean m1 f) i → m1 + m3 - 2 ≤ i → trendOf a b c d
+    ≡ tripleLine m1 m2 m3 f i
 unfolding tripleLine
 triple-at m1 m2 m3 f i p q r t h = rw (p, q, r, t, from-bar (m1 + m3 - 2) flat _ i h)

@@ -51,12 +51,14 @@ pub triple-bars : (s : List Float) (m1 m2 m3 output work : ℕ) → AllBars (tri
 triple-bars s m1 m2 m3 output work k e h = sym (same-count _ _ (parts s m1 m2 m3 output work k e h .1))
 
 -- its work slice has room to be cleared
-pub triple-clearable : (s : List Float) (m1 m2 m3 output work : ℕ) {r : Answer} → r ≡ tripleAnswer s m1 m2 m3 output work
+pub triple-clearable : (s : List Float) (m1 m2 m3 output work : ℕ) {r : Answer} → r
+    ≡ tripleAnswer s m1 m2 m3 output work
     → clearedOf r (8 * length s) ≤ work
 triple-clearable s m1 m2 m3 output work {r = Refused q} e = omega arith
 triple-clearable s m1 m2 m3 output work {r = Cells k} e = triple-room s m1 m2 m3 output work k (sym e) .work-long .0
 
-ready : (s : List Float) (m1 m2 m3 output work : ℕ) {r : Answer} → r ≡ tripleAnswer s m1 m2 m3 output work → 0 < countOf r
+ready : (s : List Float) (m1 m2 m3 output work : ℕ) {r : Answer} → r ≡ tripleAnswer s m1 m2 m3 output work
+    → 0 < countOf r
     → Room accepted s output (work ∷ []) × Rising m1 m2 m3
 ready s m1 m2 m3 output work {r = Cells k} e h =
     (triple-room s m1 m2 m3 output work k (sym e), parts s m1 m2 m3 output work k (sym e) h .0)

@@ -22,7 +22,8 @@ unfolding tripleLine mean windowSum sumFrom fromBar add div ofInt lt round
 triple-cases = (refl, refl, refl, refl)
 
 -- windows 2, 3, 4: the first position is at bar 4; with m3 as long as the series there is none
-triple-later : (cellsOf (tripleLine 2 3 4) (prices (pos 1 ∷ pos 2 ∷ pos 4 ∷ pos 8 ∷ pos 16 ∷ pos 1 ∷ pos 1 ∷ pos 1 ∷ []))
+triple-later : (cellsOf (tripleLine 2 3 4)
+    (prices (pos 1 ∷ pos 2 ∷ pos 4 ∷ pos 8 ∷ pos 16 ∷ pos 1 ∷ pos 1 ∷ pos 1 ∷ []))
     ≡ (flat ∷ flat ∷ flat ∷ flat ∷ long ∷ long ∷ short ∷ short ∷ []))
     × (cellsOf (tripleLine 2 3 4) (prices (pos 1 ∷ pos 2 ∷ pos 4 ∷ pos 8 ∷ [])) ≡ (flat ∷ flat ∷ flat ∷ flat ∷ []))
 unfolding tripleLine mean windowSum sumFrom fromBar add div ofInt lt round

@@ -1,5 +1,5 @@
--- triple_sma_positions: the mean against a long average of means, and a short average of means against a middle one (the
--- triple moving average crossover, on averages of averages). Assumes nothing.
+-- triple_sma_positions: the mean against a long average of means, and a short average of means against a middle one
+-- (the triple moving average crossover, on averages of averages). Assumes nothing.
 use mathlib.Core.Bool.{cond, _&&_}
 use mathlib.Core.List.{List, [], _∷_}
 use Prim.Native.Nat.{ℕ, _+_, _-_}

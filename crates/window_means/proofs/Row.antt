@@ -165,7 +165,8 @@ pub first-row : {bars : ℕ} {f : Line} {old now : List Float} → Writing bars 
 first-row w h = record { cell = λ i l. rw zero-add (read-back i nan w (omega arith)) }
 
 -- the means of a row that holds f are those of f
-pub row-written : {from to bars n first : ℕ} {f : Line} {old now : List Float} → RowRoom from to bars n first (length old)
+pub row-written : {from to bars n first : ℕ} {f : Line} {old now : List Float}
+    → RowRoom from to bars n first (length old)
     → Writing (to + bars) (meansOfRow from to n first old) old now → RowHolds from 0 bars f old
     → RowHolds to first bars (mean n f) now
 row-written {from} {to} {n = n} {first} {f} {old} g w h = record {

@@ -1,4 +1,5 @@
--- `tegbalowu_triple_sma_positions` meets its contract: it is the library's `triple_sma_positions`, in numbers. Assumes nothing.
+-- `tegbalowu_triple_sma_positions` meets its contract: it is the library's `triple_sma_positions`, in numbers.
+-- Assumes nothing.
 use borrow.Author.Needs.{needs}
 use Rattle.capi.proofs.InNumbers.{told}
 use Rattle.capi.proofs.tegbalowu_triple_sma_positions.Statement.{statement}

@@ -19,7 +19,8 @@ returns c =
     let start = means .before .before .before .before .before in
     let pre = start .pre in
     let of-means = means .means-at .ensures in
-    let of-squares = eight-variances (start .args .d) _ _ _ of-means (squares .squares-of-eight .ensures) (over .divided .ensures) (omega arith) in
+    let of-squares = eight-variances (start .args .d) _ _ _ of-means (squares .squares-of-eight .ensures)
+    (over .divided .ensures) (omega arith) in
     record {
       some = omega arith;
       few = omega arith;

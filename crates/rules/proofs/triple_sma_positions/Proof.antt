@@ -1,5 +1,5 @@
--- `triple_sma_positions` meets its contract: the answer is the table's, and where it has cells they are written and the work
--- slice is cleared. Assumes nothing.
+-- `triple_sma_positions` meets its contract: the answer is the table's, and where it has cells they are written and
+-- the work slice is cleared. Assumes nothing.
 use native.Mathlib.Omega.{arith}
 use borrow.Author.Needs.{needs}
 use denote.Ref.{now}
@@ -14,7 +14,8 @@ use Rattle.rules.proofs.triple_sma_positions.Tie as tie
 -- where cells are due
 opened : (c : tie.Then1) →
     let a = c .before .before .before .before .before .before .before .before .args in
-    Priced 8 (a .m1) (now (a .series)) (length (now (a .out))) (length (c .before .before .before .cells-due .last .1 .1 .0))
+    Priced 8 (a .m1) (now (a .series)) (length (now (a .out)))
+    (length (c .before .before .before .cells-due .last .1 .1 .0))
     × Rising (a .m1) (a .m2) (a .m3)
 opened c =
     let due = c .before .before .before in
@@ -27,7 +28,8 @@ returns c =
     let then = cells .before .before .before in
     let due = then .before .before .before in
     let yes = rw (then .if1 .taken) at (due .cells-due .ensures) in
-    written-call (due .before .before .answer-triple .ensures) (triple-bars _ _ _ _ _ _) yes (cells .write-triple .ensures)
+    written-call (due .before .before .answer-triple .ensures) (triple-bars _ _ _ _ _ _) yes
+    (cells .write-triple .ensures)
     (omega arith) (clear .clear .ensures)
 
 returns-2 : tie.Need-returns-2
@@ -43,7 +45,8 @@ triple-sma-positions-spec =
     (λ c κs. triple-clearable _ _ _ _ _ _ (c .before .answer-triple .ensures))  -- cells-due-requires
     (λ c κs. let o = opened (c .before .before) in (fewer-rows (o .0) (omega arith), o .1))  -- write-triple-requires
     (λ c. let o = opened (c .before .before .before .before .before .before .before) in search needs)  -- mul-clear
-    (λ c κs. let o = opened (c .before .before .before .before .before .before .before) in search needs)  -- clear-requires
+    -- clear-requires
+    (λ c κs. let o = opened (c .before .before .before .before .before .before .before) in search needs)
     (λ c. search needs)  -- same-length
     (λ c. search needs)  -- same-length-2
     returns

@@ -40,7 +40,8 @@ returns c =
       held = held-lo start;
       from-zero = from-zero (a .low) (at-lo .before .if2 .taken);
     } in
-    sym (opens-by-low (a .average) (a .middle) (a .k) (a .variance) (a .low) guess (at-lo .if3 .taken) (sym (call .ensures) ∙ flat-at-lo))
+    sym (opens-by-low (a .average) (a .middle) (a .k) (a .variance) (a .low) guess (at-lo .if3 .taken)
+    (sym (call .ensures) ∙ flat-at-lo))
 
 returns-2 : tie.Need-returns-2
 unfolding ofBits
@@ -60,7 +61,8 @@ returns-2 c =
     toZ-ofZ w32 (call .result) (sfits-of (call .ok))
     ∙ is
     ∙ sym
-    (opens-by-high (a .average) (a .middle) (a .k) (a .variance) (a .high) guess (from-zero (a .variance) (at-hi .before .before .if5 .taken)) above
+    (opens-by-high (a .average) (a .middle) (a .k) (a .variance) (a .high) guess
+    (from-zero (a .variance) (at-hi .before .before .if5 .taken)) above
     (λ e. c .if8 .taken (ap (ofZ w32) (is ∙ e))))
 
 returns-3 : tie.Need-returns-3

@@ -1,4 +1,5 @@
--- `turned_by` meets its contract: a flat position is what the bar opens, and to a held one that does not matter. Assumes nothing.
+-- `turned_by` meets its contract: a flat position is what the bar opens, and to a held one that does not matter.
+-- Assumes nothing.
 use mathlib.Core.Path.{_≡_, refl, sym, ap, _∙_}
 use borrow.Author.Needs.{needs, sfits-of}
 use lib.IntN.{ℤ}
@@ -18,7 +19,8 @@ unfolding moved
 returns c =
     let call = c .opens-by in
     let start = c .before .before in
-    let is-flat = sym (toZ-ofZ w32 (start .args .position) (start .fits .position)) ∙ ap (toZ w32) (c .before .if1 .taken) in
+    let is-flat = sym (toZ-ofZ w32 (start .args .position) (start .fits .position))
+    ∙ ap (toZ w32) (c .before .if1 .taken) in
     toZ-ofZ w32 (call .result) (sfits-of (call .ok)) ∙ call .ensures ∙ rw is-flat
 
 returns-2 : tie.Need-returns-2

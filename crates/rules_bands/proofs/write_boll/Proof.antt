@@ -26,7 +26,8 @@ write-boll-spec =
     (tie.spec
     (λ c κs. search needs)  -- write-means-of-prices-requires
     (λ c. search needs)  -- slice-reshare-prefix-write-outside
-    (λ c. sym (part-long (c .before .before .before .write-means-of-prices .ensures) (omega arith)))  -- slice-aggregate-write-outside
+    -- slice-aggregate-write-outside
+    (λ c. sym (part-long (c .before .before .before .write-means-of-prices .ensures) (omega arith)))
     write-outside-requires
     (λ c. search needs)  -- same-length
     (λ c. search needs)  -- same-length-2

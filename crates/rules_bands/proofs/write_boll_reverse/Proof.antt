@@ -26,7 +26,8 @@ write-boll-reverse-spec =
     (tie.spec
     (λ c κs. search needs)  -- write-means-of-prices-requires
     (λ c. search needs)  -- slice-reshare-prefix-write-turned
-    (λ c. sym (part-long (c .before .before .before .write-means-of-prices .ensures) (omega arith)))  -- slice-aggregate-write-turned
+    -- slice-aggregate-write-turned
+    (λ c. sym (part-long (c .before .before .before .write-means-of-prices .ensures) (omega arith)))
     write-turned-requires
     (λ c. search needs)  -- same-length
     (λ c. search needs)  -- same-length-2

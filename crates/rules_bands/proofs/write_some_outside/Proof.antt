@@ -1,4 +1,5 @@
--- `write_some_outside` meets its contract: each turn reads a bar's mean, middle and variance, and writes its cell. Assumes nothing.
+-- `write_some_outside` meets its contract: each turn reads a bar's mean, middle and variance, and writes its cell.
+-- Assumes nothing.
 use mathlib.Core.Path.{_∙_}
 use native.Mathlib.Nat.{add-zero}
 use Prim.Native.Nat.{_+_, _-_, _≤_}

@@ -1,5 +1,5 @@
--- `write_some_turned` meets its contract: each turn reads a bar's mean, middle and variance, moves the position, and writes it.
--- Assumes nothing.
+-- `write_some_turned` meets its contract: each turn reads a bar's mean, middle and variance, moves the position, and
+-- writes it. Assumes nothing.
 use mathlib.Core.Path.{ap, _∙_}
 use native.Mathlib.Nat.{add-zero}
 use Prim.Native.Nat.{_+_, _-_, _≤_}
@@ -35,8 +35,12 @@ loop-holds c =
     let call = c .position-before in
     let start = c .before .before .before .before .before .before .before .before in
     let pre = start .pre in
-    let is = toZ-ofZ w32 (call .result) (sfits-of (call .ok)) ∙ call .ensures in
-    (omega arith, rw add-zero (pre .cells), rw (add-zero, is) (held-before _ (start .args .i) (pre .cells) (omega arith)))
+    let is = toZ-ofZ w32 (call .result) (sfits-of (call .ok)) ∙ call .ensures in (
+      omega arith,
+      rw add-zero (pre .cells),
+      rw (add-zero, is)
+          (held-before _ (start .args .i) (pre .cells) (omega arith)),
+    )
 
 loop-again : tie.Need-loop-again Inv-loop μ-loop
 unfolding turnedBands
@@ -50,7 +54,8 @@ loop-again c =
     let variance = read-back j nan (spread .write-spreads .ensures .variances) (omega arith) in
     let call = c .turned-by in
     let signal = turns-at (a .n) (a .k) _ (a .i + j) middle variance (omega arith) (omega arith) in
-    let is = toZ-ofZ w32 (call .result) (sfits-of (call .ok)) ∙ call .ensures ∙ ap (moved (toZ w32 (at .loop .position))) signal in
+    let is = toZ-ofZ w32 (call .result) (sfits-of (call .ok)) ∙ call .ensures
+    ∙ ap (moved (toZ w32 (at .loop .position))) signal in
     let next = held-on (bandSignals (a .n) (a .k) _) (a .i) j (at .loop .inv .2) is in
     (omega arith, step (a .i + j) (a .i + (j + 1)) (at .loop .inv .1) (next .1) (omega arith), next .0)
 

@@ -8,7 +8,8 @@ use Rattle.cells.specs.Written.{Writing}
 use Rattle.limits.specs.Limits.{Window}
 use Rattle.rules_held.specs.Held.{flat}
 
--- the bands are there from bar i on, which is inside; the cells of f before it stand in `now`, which has room for the rest
+-- the bands are there from bar i on, which is inside; the cells of f before it stand in `now`, which has room for the
+-- rest
 pub record Begun {A : Type 0} (n : ℕ) (s : List Float) (i : ℕ) (f : ℕ → A) (now : List A) : Type 0 where
   pub window : Window n
   pub full : 2 * n ≤ i + 2

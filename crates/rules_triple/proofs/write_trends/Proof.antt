@@ -18,7 +18,8 @@ use Rattle.rules_triple.proofs.write_trends.Tie as tie
 
 abbrev Inv-loop : tie.InvT-loop
 Inv-loop series m1 m2 m3 out₀ work bars i₀ out i =
-    (min (m1 + m3 - 2) (length series) ≤ i) × (i ≤ length series) × Writing i (tripleLine m1 m2 m3 (line series)) out₀ out
+    (min (m1 + m3 - 2) (length series) ≤ i) × (i ≤ length series)
+    × Writing i (tripleLine m1 m2 m3 (line series)) out₀ out
 
 abbrev μ-loop : tie.MeasureT-loop
 μ-loop series m1 m2 m3 out₀ work bars i₀ out i = length series - i
