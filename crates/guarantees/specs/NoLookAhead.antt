@@ -39,6 +39,21 @@ use Rattle.rules_double.proofs.Double.{causal-double}
 use Rattle.rules_double.proofs.Open.{double-opened}
 use Rattle.rules_middle.specs.Middle.{MidCall}
 use Rattle.rules_middle.proofs.Middle.{causal-mid}
+use Rattle.averages_wilder.proofs.Causal.{causal-wilder-rsi}
+use Rattle.averages_wilder.specs.WilderRsi.{WilderRsiCall}
+use Rattle.rsx.proofs.Causal.{causal-rsx}
+use Rattle.rsx.specs.Rsx.{RsxCall, rsxAnswer}
+use Rattle.rules_bands.proofs.Bands.{causal-boll, causal-boll-reverse}
+use Rattle.rules_bands.specs.Answer.{bandAnswer}
+use Rattle.rules_bands.specs.Boll.{BollCall}
+use Rattle.rules_bands.specs.BollReverse.{BollReverseCall}
+use Rattle.rules_mms.proofs.Scaled.{causal-mms}
+use Rattle.rules_mms.specs.Mms.{MmsCall}
+use Rattle.rules_rank.proofs.Causal.{causal-rank, causal-rolling-rank}
+use Rattle.rules_rank.specs.Rank.{RankCall}
+use Rattle.rules_rank.specs.RollingRank.{RollingRankCall, rollingRankAnswer}
+use Rattle.rules_triple.proofs.Crossover.{causal-triple}
+use Rattle.rules_triple.specs.Triple.{TripleCall, tripleAnswer}
 
 -- both series have more than b bars, and the same values at bars 0 to b
 pub record EqualBars (s t : List Float) (b : ℕ) : Type 0 where
@@ -125,6 +140,56 @@ module _ {s t out₀ out₁ out₀′ out₁′ : List Float} {b : ℕ} (equal :
         → MidCall t n out₀′ work₀′ (Cells (length t)) out₁′ work₁′ → EqualCells nan out₁ out₁′ b
     mid-no-look-ahead n c c′ =
         windows-agree nan accepted equal (n ∷ []) _ _ (λ w. causal-mid n (w .0 .some)) (c .call) (c′ .call)
+
+-- the rules and series functions with a work slice
+module _ {s t out₀ out₁ out₀′ out₁′ work₀ work₁ work₀′ work₁′ : List Float} {b : ℕ} (equal : EqualBars s t b) where
+  pub mms-no-look-ahead : (n w : ℕ) → MmsCall s n w out₀ work₀ (Cells (length s)) out₁ work₁
+      → MmsCall t n w out₀′ work₀′ (Cells (length t)) out₁′ work₁′ → EqualCells nan out₁ out₁′ b
+  mms-no-look-ahead n w c c′ =
+      windows-agree nan accepted equal (n ∷ w ∷ []) _ _ (λ o. causal-mms n w (o .1 .0 .some)) (c .call) (c′ .call)
+
+  pub rank-no-look-ahead : (n : ℕ) → RankCall s n out₀ work₀ (Cells (length s)) out₁ work₁
+      → RankCall t n out₀′ work₀′ (Cells (length t)) out₁′ work₁′ → EqualCells nan out₁ out₁′ b
+  rank-no-look-ahead n c c′ =
+      windows-agree nan accepted equal (n ∷ []) _ _ (λ o. causal-rank n (o .0 .some)) (c .call) (c′ .call)
+
+  pub wilder-rsi-no-look-ahead : (n : ℕ) → WilderRsiCall s n out₀ work₀ (Cells (length s)) out₁ work₁
+      → WilderRsiCall t n out₀′ work₀′ (Cells (length t)) out₁′ work₁′ → EqualCells nan out₁ out₁′ b
+  wilder-rsi-no-look-ahead n c c′ =
+      windows-agree nan accepted equal (n ∷ []) _ _ (λ o. causal-wilder-rsi n) (c .call) (c′ .call)
+
+  pub rsx-no-look-ahead : (n m : ℕ) → RsxCall s n m out₀ work₀ (Cells (length s)) out₁ work₁
+      → RsxCall t n m out₀′ work₀′ (Cells (length t)) out₁′ work₁′ → EqualCells nan out₁ out₁′ b
+  unfolding rsxAnswer
+  rsx-no-look-ahead n m c c′ = table-agrees nan accepted equal _ _ _ _ (causal-rsx n m) (c .call) (c′ .call)
+
+-- those whose cells are whole numbers
+module _ {s t : List Float} {out₀ out₁ out₀′ out₁′ : List ℤ} {work₀ work₁ work₀′ work₁′ : List Float} {b : ℕ}
+    (equal : EqualBars s t b) where
+  pub triple-no-look-ahead : (m1 m2 m3 : ℕ) → TripleCall s m1 m2 m3 out₀ work₀ (Cells (length s)) out₁ work₁
+      → TripleCall t m1 m2 m3 out₀′ work₀′ (Cells (length t)) out₁′ work₁′ → EqualCells (pos 0) out₁ out₁′ b
+  unfolding tripleAnswer
+  triple-no-look-ahead m1 m2 m3 c c′ =
+      table-agrees (pos 0) accepted equal _ _ _ _ (causal-triple m1 m2 m3) (c .call) (c′ .call)
+
+  pub boll-no-look-ahead : (n : ℕ) (k : Float) → BollCall s n k out₀ work₀ (Cells (length s)) out₁ work₁
+      → BollCall t n k out₀′ work₀′ (Cells (length t)) out₁′ work₁′ → EqualCells (pos 0) out₁ out₁′ b
+  unfolding bandAnswer
+  boll-no-look-ahead n k c c′ = table-agrees (pos 0) accepted equal _ _ _ _ (causal-boll n k) (c .call) (c′ .call)
+
+  pub boll-reverse-no-look-ahead : (n : ℕ) (k : Float) → BollReverseCall s n k out₀ work₀ (Cells (length s)) out₁ work₁
+      → BollReverseCall t n k out₀′ work₀′ (Cells (length t)) out₁′ work₁′ → EqualCells (pos 0) out₁ out₁′ b
+  unfolding bandAnswer
+  boll-reverse-no-look-ahead n k c c′ =
+      table-agrees (pos 0) accepted equal _ _ _ _ (causal-boll-reverse n k) (c .call) (c′ .call)
+
+pub rolling-rank-no-look-ahead : {s t : List Float} {out₀ out₁ out₀′ out₁′ : List ℕ}
+    {work₀ work₁ work₀′ work₁′ : List Float} {b : ℕ}
+    → EqualBars s t b → (w : ℕ) → RollingRankCall s w out₀ work₀ (Cells (length s)) out₁ work₁
+    → RollingRankCall t w out₀′ work₀′ (Cells (length t)) out₁′ work₁′ → EqualCells 0 out₁ out₁′ b
+unfolding rollingRankAnswer
+rolling-rank-no-look-ahead equal w c c′ =
+    table-agrees 0 accepted equal _ _ _ _ (causal-rolling-rank w) (c .call) (c′ .call)
 
 -- the tick mean
 pub tick-mean-no-look-ahead : {s t : List Float} {out₀ out₁ out₀′ out₁′ : List ℤ} {b : ℕ} → EqualBars s t b → (n : ℕ)

@@ -5,12 +5,12 @@ use mathlib.Core.List.{List, [], _∷_, map}
 use Prim.Native.Nat.{ℕ, _*_}
 use lib.IntN.{ℤ, pos, negsuc}
 use lib.ListN.{length}
-use lib.Ieee.{Float, nan, fin, binary64, add, sub, mul, div, ofInt, toSigned, whole, lt, eq, le, toBits}
+use lib.Ieee.{Float, nan, fin, binary64, add, sub, mul, div, ofInt, toSigned, whole, lt, eq, le, toBits, neg, round}
 use Rattle.rounding.specs.Whole.{total}
-use Rattle.rounding.specs.Leaves.{signOf}
+use Rattle.rounding.specs.Leaves.{signOf, magnitudeOf, roundToWhole}
 use Rattle.calls.specs.declared.Answer.{Answer}
 use Rattle.calls.specs.declared.Answer.the-variants.{Cells}
-use Rattle.values.specs.Accepted.{accepted, tick}
+use Rattle.values.specs.Accepted.{accepted, tick, finite}
 use Rattle.calls.specs.Answer.{slices, checked, windowed, answered, countOf}
 use Rattle.cells.specs.Line.{line, fromBar}
 use Rattle.cells.specs.Recur.{recur, carried}
@@ -21,6 +21,17 @@ use Rattle.averages_ticks.specs.TickMean.{toTick, tickMeanLine}
 use Rattle.rules_single.specs.Single.{singleLine}
 use Rattle.rules_double.specs.Double.{runningMean, doubleLine, doubleAnswer}
 use Rattle.cells.specs.Shown.{firstCells, num}
+use Rattle.rules_bands.specs.Answer.{bandAnswer}
+use Rattle.rules_bands.specs.BollReverse.{bollReverseLine, bandSignals, turnedBands}
+use Rattle.rules_mms.specs.Mms.{mmsAnswer, mmsLine}
+use Rattle.rules_rank.specs.Rank.{rankLine, belowNow, wholeRank}
+use Rattle.rules_rank.specs.RollingRank.{rollingRankAnswer, rollingRankLine}
+use Rattle.deviations.specs.Deviation.{deviation}
+use Rattle.extremes.specs.Extreme.{extreme, pickFrom}
+use Rattle.ranks.specs.Counted.{countFrom}
+use Rattle.rounding.specs.Literals.{tenToMinus}
+use Rattle.rounding_root.specs.Root.{nearestRoot, root, rootBelow, sqrtOf}
+use Rattle.rules_held.specs.Held.{hold, moved}
 
 -- a cell of an output: an f64 or a whole number
 pub data Cell : Type 0 where
@@ -29,8 +40,9 @@ pub data Cell : Type 0 where
 
 -- a function with its parameters
 pub data Function : Type 0 where
-  sma ema tickMean oneAverage : ℕ → Function
-  double : ℕ → ℕ → Function
+  sma ema tickMean oneAverage rank rollingRank : ℕ → Function
+  double mms : ℕ → ℕ → Function
+  bollReverse : ℕ → Float → Function
 
 pub record Case : Type 0 where
   pub function : Function
@@ -88,6 +100,10 @@ answerOf (ema n) s = answered accepted s (n ∷ []) (length s) []
 answerOf (tickMean n) s = answered tick s (n ∷ []) (length s) []
 answerOf (oneAverage n) s = answered accepted s (n ∷ []) (length s) (8 * length s ∷ [])
 answerOf (double n m) s = doubleAnswer s n m (length s)
+answerOf (rank n) s = answered accepted s (n ∷ []) (length s) (8 * length s ∷ [])
+answerOf (rollingRank w) s = rollingRankAnswer s w (length s) (8 * length s)
+answerOf (mms n w) s = mmsAnswer s n w (length s) (8 * length s)
+answerOf (bollReverse n k) s = bandAnswer s n k (length s) (8 * length s)
 
 abbrev pub cellsOf : Function → List Float → ℕ → List Cell
 cellsOf (sma n) s k = map number (firstCells k (smaLine n (line s)))
@@ -95,6 +111,10 @@ cellsOf (ema n) s k = map number (firstCells k (emaLine n (line s)))
 cellsOf (tickMean n) s k = map ticks (firstCells k (tickMeanLine n (line s)))
 cellsOf (oneAverage n) s k = map number (firstCells k (singleLine n (line s)))
 cellsOf (double n m) s k = map number (firstCells k (doubleLine n m (line s)))
+cellsOf (rank n) s k = map number (firstCells k (rankLine n (line s)))
+cellsOf (rollingRank w) s k = map (λ c. ticks (pos c)) (firstCells k (rollingRankLine w (line s)))
+cellsOf (mms n w) s k = map number (firstCells k (mmsLine n w (line s)))
+cellsOf (bollReverse n x) s k = map ticks (firstCells k (bollReverseLine n x (line s)))
 
 abbrev pub found : Case → Case
 found c =
@@ -105,5 +125,7 @@ found c =
 pub starred : map found table ≡ table
 unfolding smaLine carried total toTick tickMeanLine singleLine runningMean doubleLine doubleAnswer mean windowSum
     sumFrom runningSum recur fromBar slices checked windowed answered accepted tick signOf add sub mul div ofInt
-    toSigned whole lt eq le toBits
+    toSigned whole lt eq le toBits rankLine wholeRank belowNow countFrom roundToWhole round rollingRankLine
+    rollingRankAnswer tenToMinus magnitudeOf neg mmsLine extreme pickFrom turnedBands bandSignals bandAnswer hold moved
+    deviation sqrtOf nearestRoot root rootBelow finite
 starred = refl
