@@ -1,5 +1,5 @@
 // Compares the leaves with what Rust's own functions gave. A line of the input has six words: x, and then is_nan, abs,
-// signum, round and sqrt of x. For each leaf a line says how many were compared and how many differ.
+// signum, round and sqrt of x. For each leaf a line says how many calls were compared and how many differ.
 ghost use mathlib.Core.Path.{_≡_};
 ghost use mathlib.Core.Bool.{cond};
 ghost use Prim.Native.Nat.{_≤_};
@@ -85,21 +85,13 @@ fn compare_all(block: &mut [u8], words: &mut [u64]) -> Tally {
     tally
 }
 
-fn print_line(name: &[u8], compared: u64, differ: u64) {
-    io::write_all(1, name);
-    io::print_decimal(1, compared);
-    io::write_all(1, b" compared, ");
-    io::print_decimal(1, differ);
-    io::write_all(1, b" differ\n");
-}
-
 fn main() {
     let mut block = [0u8; 17408];
     let mut words = [0u64; 6];
     let tally = compare_all(&mut block, &mut words);
-    print_line(b"is_nan: ", tally.compared, tally.is_nan);
-    print_line(b"magnitude: ", tally.compared, tally.magnitude);
-    print_line(b"sign: ", tally.compared, tally.sign);
-    print_line(b"round_to_whole: ", tally.compared, tally.whole);
-    print_line(b"square_root: ", tally.compared, tally.root);
+    replay_words::print_line(b"is_nan ", tally.compared, tally.is_nan);
+    replay_words::print_line(b"magnitude ", tally.compared, tally.magnitude);
+    replay_words::print_line(b"sign ", tally.compared, tally.sign);
+    replay_words::print_line(b"round_to_whole ", tally.compared, tally.whole);
+    replay_words::print_line(b"square_root ", tally.compared, tally.root);
 }

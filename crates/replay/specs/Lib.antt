@@ -1,2 +1,4 @@
--- What the comparison of a call with its record means.
+-- What is read of the records, what running them comes to, and what is counted.
+pub mod Records
+pub mod Counts
 pub mod inner

@@ -1,17 +1,16 @@
 // Runs the calls that tools/oracle/RECORD.md describes. For each function a line says how many calls were run and how many
-// left something else than was recorded: another refusal, count, cell of the output or work cell. The last line says how
-// many records there are and how many were not run: those from the first on that breaks off, is too long or is of a
-// function that is not here.
-use calls::Answer;
-use replay_compare::Call;
+// left something else than was recorded: another refusal, count, cell of an output or work cell. The last line says how
+// many records there are, how many calls differ, and how many were not run: those from the first on that breaks off, is
+// too long or has no function's number.
 use replay_words::stream::Place;
 ghost use mathlib.Core.Path.{_≡_};
-ghost use mathlib.Core.Bool.{true};
-ghost use Prim.Native.Nat.{_+_, _%_, _^_, _<_};
-ghost use lib.ListN.{length, getD, set};
-ghost use Rattle.replay_compare.specs.inner.Agree.{Same, words};
-ghost use Rattle.replay_compare.specs.inner.Recorded.{Left, Runs, wordsOf, Given};
-ghost use Rattle.replay.specs.inner.Agree.{Counted};
+ghost use Prim.Native.Nat.{_+_, _<_};
+ghost use lib.ListN.{length};
+ghost use lib.Seq.{slice};
+ghost use Rattle.replay_compare.specs.Head.{Within, barsOf, cellsOf};
+ghost use Rattle.replay.specs.Records.{WrittenOut, ByRule, Ran};
+ghost use Rattle.replay.specs.Counts.{Next, Counts, counted, tallied};
+ghost use Rattle.replay.specs.inner.Reading.{Parts, InParts, Short, Long, Given, Rest};
 
 // What the next record came to: a call that differs 0 times or once, and the place after it.
 enum Step {
@@ -23,172 +22,155 @@ enum Step {
     Stop,
 }
 
-// The numbers of a record, in RECORD.md's order.
-fn call_of(head: &[u64; 13]) -> Call {
-    Call {
-        function: head[0],
-        first: head[1] as usize,
-        second: head[2] as usize,
-        third: head[3] as usize,
-        a: head[4],
-        b: head[5],
-        out: head[8] as usize,
-        work: head[9] as usize,
-        refusal: head[10],
-        count: head[11],
-        cleared: head[12],
-    }
-}
-
-// Calls a function of the library whose cells are f64.
-fn answer_floats(
-    call: Call,
-    first: &[f64],
-    second: &[f64],
-    third: &[f64],
-    out: &mut [f64],
-    work: &mut [f64],
-) -> Answer {
-    let function = call.function;
-    let n = call.a as usize;
-    let m = call.b as usize;
-    let x = replay_words::floats::float_of(call.a);
-    match function {
-        1 => averages::sma(first, n, out),
-        2 => averages_exponential::ema(first, n, out),
-        3 => averages_exponential::exponential_smoothing(first, x, out),
-        5 => rules::single_sma_positions(first, n, out, work),
-        6 => rules::double_sma_positions(first, n, m, out),
-        7 => rules::mid_positions(first, n, out, work),
-        8 => smoother::ultimate_smoother(first, x, out),
-        _ => true_range::true_range(first, second, third, out),
-    }
-}
-
-// Whether such a call leaves what was recorded.
-fn floats_agree(
-    call: Call,
-    first: &[f64],
-    second: &[f64],
-    third: &[f64],
+// Whether a call leaves what was recorded, with all its series in one slice. The second and the third begin at an index.
+fn parts_agree(
+    head: &[u64; 18],
+    series: &[f64],
+    second: usize,
+    third: usize,
     recorded: &[u64],
-    out: &mut [f64],
-    work: &mut [f64],
 ) -> bool
-    requires { ⌜ length (now out) ≡ length (now recorded) ⌝ }
-    ensures { λ r. ⌜ (r ≡ true → Left call (now (recorded .entry)) (now (out .exit)) (now (work .exit))) ⌝ }
+    requires { ⌜ Parts (now head) (length (now series)) second third ⌝ }
+    ensures { λ r. ⌜ InParts (now (head .entry)) (now (series .entry)) second third (now (recorded .entry)) r ⌝ }
 {
-    let answer = answer_floats(call, first, second, third, out, work);
-    if replay_compare::same_answer(call, answer) {
-        if replay_compare::same_floats(out, recorded) {
-            return replay_compare::same_work(work, call.cleared);
-        }
-    }
-    false
-}
-
-// The same of a function whose cells are whole numbers. It has one series and no work slice.
-fn ticks_agree(call: Call, series: &[f64], recorded: &[u64], out: &mut [i64]) -> bool
-    requires { ⌜ length (now out) ≡ length (now recorded) ⌝ }
-    ensures { λ r. ⌜ (r ≡ true → Same (length (now (out .exit))) (words (now (out .exit))) (λ i. getD (now (recorded .entry)) i 0)) ⌝ }
-{
-    let n = call.a as usize;
-    let answer = averages_ticks::tick_mean(series, n, out);
-    if replay_compare::same_answer(call, answer) {
-        return replay_compare::same_ticks(out, recorded);
-    }
-    false
-}
-
-// Whether a call of these series, one after the other, leaves the recorded words.
-fn agrees(call: Call, series: &[f64], recorded: &[u64]) -> bool
-    requires { ⌜ Given call (length (now series)) (length (now recorded)) ⌝ }
-{
-    let one = call.first;
-    let cells = call.out;
-    if call.function == 4 {
-        let mut ticks = [replay_compare::UNTOUCHED_TICK; 79];
-        return ticks_agree(call, &series[..one], recorded, &mut ticks[..cells]);
-    }
-    let two = one + call.second;
-    let room = call.work;
-    let untouched = replay_words::floats::float_of(replay_compare::UNTOUCHED);
-    let mut out = [untouched; 79];
-    let mut work = [untouched; 512];
-    floats_agree(
-        call,
+    let one = head[2] as usize;
+    let two = second + head[3] as usize;
+    let three = third + head[4] as usize;
+    replay_calls::agrees(
+        head,
         &series[..one],
-        &series[one..two],
-        &series[two..],
+        &series[second..two],
+        &series[third..three],
         recorded,
-        &mut out[..cells],
-        &mut work[..room],
     )
 }
 
-// Whether a call leaves what was recorded. The words are those of the series and then those of the output.
-fn words_agree(call: Call, words: &[u64]) -> bool
-    requires { ⌜ Runs call × (length (now words) ≡ wordsOf call) ⌝ }
+// Of a record that is written out the words are those of the series and then the cells.
+fn written_agrees(head: &[u64; 18], words: &[u64]) -> bool
+    requires { ⌜ Short (now head) (length (now words)) ⌝ }
+    ensures { λ r. ⌜ WrittenOut (now (head .entry)) (now (words .entry)) r ⌝ }
 {
-    let bars = call.first + call.second + call.third;
+    let one = head[2] as usize;
+    let two = one + head[3] as usize;
+    let bars = two + head[4] as usize;
     let mut series = [0.0; 180];
     replay_compare::write_floats(&words[..bars], &mut series);
-    agrees(call, &series[..bars], &words[bars..])
+    parts_agree(head, &series, one, two, &words[bars..])
 }
 
-// Reads the words of a call and runs it.
-fn run_with(call: Call, words: &mut [u64], block: &mut [u8], start: Place) -> Step
-    requires { ⌜ Runs call × (length (now words) ≡ wordsOf call) ⌝ }
-    ensures { λ r. ⌜ Counted r ⌝ }
+// Of a record by rule the series are parts of one, a bar apart.
+fn with_rule(head: &[u64; 18], words: &[u64], series: &mut [f64]) -> bool
+    requires { ⌜ Long (now head) (length (now words)) × (length (now series) ≡ 65539) ⌝ }
+    ensures { λ r. ⌜ ByRule (now (head .entry)) (now (words .entry)) r ⌝ }
+{
+    replay_compare::write_rule(series);
+    parts_agree(head, series, 1, 2, words)
+}
+
+fn ruled_agrees(head: &[u64; 18], words: &[u64]) -> bool
+    requires { ⌜ Long (now head) (length (now words)) ⌝ }
+    ensures { λ r. ⌜ ByRule (now (head .entry)) (now (words .entry)) r ⌝ }
+{
+    let mut series = [0.0; 65539];
+    with_rule(head, words, &mut series)
+}
+
+fn record_agrees(head: &[u64; 18], words: &[u64]) -> bool
+    requires { ⌜ Given (now head) (length (now words)) ⌝ }
+    ensures { λ r. ⌜ Ran (now (head .entry)) (now (words .entry)) r ⌝ }
+{
+    if head[1] == 0 {
+        written_agrees(head, words)
+    } else {
+        ruled_agrees(head, words)
+    }
+}
+
+// Reads the words after a head and runs the call.
+fn run_with(head: &[u64; 18], words: &mut [u64], block: &mut [u8], start: Place) -> Step
+    requires { ⌜ Given (now head) (length (now words)) ⌝ }
+    ensures { λ r. ⌜ Rest (now (head .entry)) (slice (start .at) (start .end) (now (block .entry))) (now (block .exit)) r ⌝ }
 {
     let read = replay_words::stream::fill(libc::STDIN_FILENO, block, start, words);
     if read.count < words.len() {
         return Step::Stop;
     }
     let place = read.place;
-    let differs = replay_compare::misses(words_agree(call, words));
+    let differs = replay_compare::misses(record_agrees(head, words));
     Step::Run {
-        function: call.function,
+        function: head[0],
         differs,
         place,
     }
 }
 
-// The same, with room for the words.
-fn run(call: Call, block: &mut [u8], start: Place) -> Step
-    requires { ⌜ Runs call ⌝ }
-    ensures { λ r. ⌜ Counted r ⌝ }
+// How many words stand after the head of a record that is written out.
+fn words_written(head: &[u64; 18]) -> usize
+    requires { ⌜ Within 60 79 512 (now head) ⌝ }
+    ensures { λ r. ⌜ r ≡ barsOf (now (head .entry)) + cellsOf (now (head .entry)) ⌝ }
 {
-    let mut words = [0u64; 259];
-    let length = call.first + call.second + call.third + call.out;
-    run_with(call, &mut words[..length], block, start)
+    (head[2] + head[3] + head[4] + (head[11] + head[12] + head[13])) as usize
+}
+
+// How many words stand after a head, or a number that no record has.
+fn words_after(head: &[u64; 18]) -> usize
+    ensures { λ r. ⌜ (r < 418 → Given (now (head .entry)) r) ⌝ }
+{
+    if head[1] == 0 {
+        if replay_compare::is_within(head, 60, 79, 512) {
+            return words_written(head);
+        }
+        return 418;
+    }
+    if head[1] == 1 {
+        if replay_compare::is_within(head, 65537, 65537, 524296) {
+            return 1;
+        }
+    }
+    418
+}
+
+// The same, with room for the words.
+fn run_rest(head: &[u64; 18], block: &mut [u8], start: Place) -> Step
+    ensures { λ r. ⌜ Rest (now (head .entry)) (slice (start .at) (start .end) (now (block .entry))) (now (block .exit)) r ⌝ }
+{
+    let count = words_after(head);
+    if count > 417 {
+        return Step::Stop;
+    }
+    let mut words = [0u64; 417];
+    run_with(head, &mut words[..count], block, start)
 }
 
 // Reads a record and runs its call.
 fn run_next(block: &mut [u8], start: Place) -> Step
-    ensures { λ r. ⌜ Counted r ⌝ }
+    ensures { λ r. ⌜ Next (slice (start .at) (start .end) (now (block .entry))) (now (block .exit)) r ⌝ }
 {
-    let mut head = [0u64; 13];
+    let mut head = [0u64; 18];
     let read = replay_words::stream::fill(libc::STDIN_FILENO, block, start, &mut head);
-    if read.count < 13 {
+    if read.count < 18 {
         return Step::Stop;
     }
     let place = read.place;
-    let call = call_of(&head);
-    if replay_compare::can_run(call) {
-        run(call, block, place)
-    } else {
-        Step::Stop
-    }
+    run_rest(&head, block, place)
 }
 
-// Adds to the count at an index. A count would need 2^64 records to wrap.
-fn add(counts: &mut [u64; 10], at: u64, more: u64)
-    requires { ⌜ at < 10 ⌝ }
-    ensures { λ _. ⌜ now (counts .exit) ≡ set (now (counts .entry)) at ((getD (now (counts .entry)) at 0 + more) % 2 ^ 64) ⌝ }
+// Adds to the count at an index.
+fn add(counts: &mut [u64; 25], at: u64, more: u64)
+    requires { ⌜ at < 25 ⌝ }
+    ensures { λ _. ⌜ now (counts .exit) ≡ counted at more (now (counts .entry)) ⌝ }
 {
     let at = at as usize;
     counts[at] = std::num::wrapping_add_u64(counts[at], more);
+}
+
+// Adds to the count of a function, and to that of all.
+fn tally(counts: &mut [u64; 25], function: u64, more: u64)
+    requires { ⌜ function < 25 ⌝ }
+    ensures { λ _. ⌜ now (counts .exit) ≡ tallied function more (now (counts .entry)) ⌝ }
+{
+    add(counts, function, more);
+    add(counts, 0, more);
 }
 
 // Runs the records, counts the calls of each function and those that differ, and gives how many records are left.
@@ -196,9 +178,11 @@ fn run_all(
     block: &mut [u8],
     start: Place,
     records: u64,
-    calls: &mut [u64; 10],
-    differ: &mut [u64; 10],
-) -> u64 {
+    calls: &mut [u64; 25],
+    differ: &mut [u64; 25],
+) -> u64
+    ensures { λ r. ⌜ Counts (now (block .entry)) start records r (now (calls .entry)) (now (differ .entry)) (now (calls .exit)) (now (differ .exit)) ⌝ }
+{
     let mut place = start;
     let mut left = records;
     while left > 0 {
@@ -211,26 +195,62 @@ fn run_all(
         else {
             return left;
         };
-        add(calls, function, 1);
-        add(differ, function, differs);
+        tally(calls, function, 1);
+        tally(differ, function, differs);
         place = after;
         left -= 1;
     }
     left
 }
 
-fn print_line(name: &[u8], calls: u64, differ: u64) {
-    io::write_all(1, name);
-    io::print_decimal(1, calls);
-    io::write_all(1, b" calls, ");
+// The last line.
+fn print_totals(records: u64, differ: u64, left: u64) {
+    io::print_decimal(1, records);
+    io::write_all(1, b" records, ");
     io::print_decimal(1, differ);
-    io::write_all(1, b" differ\n");
+    io::write_all(1, b" differ, ");
+    io::print_decimal(1, left);
+    io::write_all(1, b" not run\n");
+}
+
+// The lines of the functions, in the order of their numbers.
+fn print_first(calls: &[u64; 25], differ: &[u64; 25]) {
+    replay_words::print_line(b"sma ", calls[1], differ[1]);
+    replay_words::print_line(b"ema ", calls[2], differ[2]);
+    replay_words::print_line(b"exponential_smoothing ", calls[3], differ[3]);
+    replay_words::print_line(b"tick_mean ", calls[4], differ[4]);
+    replay_words::print_line(b"single_sma_positions ", calls[5], differ[5]);
+    replay_words::print_line(b"double_sma_positions ", calls[6], differ[6]);
+    replay_words::print_line(b"mid_positions ", calls[7], differ[7]);
+    replay_words::print_line(b"ultimate_smoother ", calls[8], differ[8]);
+}
+
+fn print_second(calls: &[u64; 25], differ: &[u64; 25]) {
+    replay_words::print_line(b"true_range ", calls[9], differ[9]);
+    replay_words::print_line(b"single_ema_positions ", calls[10], differ[10]);
+    replay_words::print_line(b"triple_sma_positions ", calls[11], differ[11]);
+    replay_words::print_line(b"mms_positions ", calls[12], differ[12]);
+    replay_words::print_line(b"rank_positions ", calls[13], differ[13]);
+    replay_words::print_line(b"rolling_rank ", calls[14], differ[14]);
+    replay_words::print_line(b"boll_positions ", calls[15], differ[15]);
+    replay_words::print_line(b"boll_reverse_positions ", calls[16], differ[16]);
+}
+
+fn print_third(calls: &[u64; 25], differ: &[u64; 25]) {
+    replay_words::print_line(b"rsi_reverse_positions ", calls[17], differ[17]);
+    replay_words::print_line(b"ultimate_bands ", calls[18], differ[18]);
+    replay_words::print_line(b"wilder_rsi ", calls[19], differ[19]);
+    replay_words::print_line(b"rsx_ss2 ", calls[20], differ[20]);
+    replay_words::print_line(b"jurik_volty ", calls[21], differ[21]);
+    replay_words::print_line(b"ultimate_channel ", calls[22], differ[22]);
+    replay_words::print_line(b"ultimate_oscillator ", calls[23], differ[23]);
+    replay_words::print_line(b"holt_winters ", calls[24], differ[24]);
 }
 
 fn main() {
     let mut block = [0u8; 17408];
-    let mut calls = [0u64; 10];
-    let mut differ = [0u64; 10];
+    let mut calls = [0u64; 25];
+    let mut differ = [0u64; 25];
     let mut first = [0u64; 1];
     let read = replay_words::stream::fill(
         libc::STDIN_FILENO,
@@ -245,17 +265,8 @@ fn main() {
     let place = read.place;
     let recorded = first[0];
     let left = run_all(&mut block, place, recorded, &mut calls, &mut differ);
-    print_line(b"sma ", calls[1], differ[1]);
-    print_line(b"ema ", calls[2], differ[2]);
-    print_line(b"exponential_smoothing ", calls[3], differ[3]);
-    print_line(b"tick_mean ", calls[4], differ[4]);
-    print_line(b"single_sma_positions ", calls[5], differ[5]);
-    print_line(b"double_sma_positions ", calls[6], differ[6]);
-    print_line(b"mid_positions ", calls[7], differ[7]);
-    print_line(b"ultimate_smoother ", calls[8], differ[8]);
-    print_line(b"true_range ", calls[9], differ[9]);
-    io::print_decimal(1, recorded);
-    io::write_all(1, b" records, ");
-    io::print_decimal(1, left);
-    io::write_all(1, b" not run\n");
+    print_first(&calls, &differ);
+    print_second(&calls, &differ);
+    print_third(&calls, &differ);
+    print_totals(recorded, differ[0], left);
 }

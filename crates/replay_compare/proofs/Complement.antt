@@ -9,20 +9,20 @@ use lib.IntN.{ℤ, pos, negsuc, natAbs, _-ℤ_}
 use lib.Signed.{ltZ, nonNeg}
 use mir.Syntax.{w64}
 use mir.Val.{SFits}
-use Rattle.replay_compare.specs.inner.Agree.{twosComplement}
+use Rattle.replay_compare.specs.Wholes.{wholeWord}
 
 -- of a number below 0: what -1 less it is, and that the complement counts that many down from 2 ^ 64 - 1
 pub record Below (z : ℤ) : Type 0 where
   pub size : ℕ
   pub small : size < 2 ^ 63
   pub less : negsuc 0 -ℤ z ≡ pos size
-  pub word : 2 ^ 64 - 1 - size ≡ twosComplement z
+  pub word : 2 ^ 64 - 1 - size ≡ wholeWord z
 
 -- of any other number
 pub record NotBelow (z : ℤ) : Type 0 where
   pub sign : T (nonNeg z)
   pub small : natAbs z < 2 ^ 63
-  pub word : natAbs z ≡ twosComplement z
+  pub word : natAbs z ≡ wholeWord z
 
 pub below : (z : ℤ) → SFits w64 z → ltZ z (pos 0) ≡ true → Below z
 below (pos n) f e = let l = ltb-true n 0 e in absurd (omega arith)

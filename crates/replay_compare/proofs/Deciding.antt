@@ -4,7 +4,10 @@ use mathlib.Core.Path.{_≡_, refl, sym}
 use Prim.Native.Nat.{ℕ, _+_, _<_, _≤_}
 use native.Mathlib.Omega.{arith}
 use borrow.Author.Count.{below-none, below-more}
-use Rattle.replay_compare.specs.inner.Agree.{Decides, Agree}
+use borrow.Author.Tests.{eq-eqb, eqb-true}
+use lib.Dec.{eqb}
+use Rattle.replay_words.specs.Decides.{Decides}
+use Rattle.replay_compare.specs.Left.{Same}
 
 module _ {P : Type 0} where
   pub holds : P → Decides P true
@@ -12,6 +15,9 @@ module _ {P : Type 0} where
 
   pub fails : (P → ⊥) → Decides P false
   fails h = record { yes = λ e. absurd (true≢false (sym e)); no = λ p. absurd (h p) }
+
+pub equal : (a b : ℕ) → Decides (a ≡ b) (eqb a b)
+equal a b = record { yes = eqb-true a b; no = eq-eqb a b }
 
 -- f and g are the same at the first k places
 pub record Agreeing {A : Type 0} (f g : ℕ → A) (k : ℕ) : Type 0 where
@@ -24,8 +30,8 @@ module _ {A : Type 0} {f g : ℕ → A} where
   pub one-agrees : {k : ℕ} → Agreeing f g k → f k ≡ g k → Agreeing f g (k + 1)
   one-agrees {k} a e = record { same = below-more (λ i. f i ≡ g i) k (a .same) e }
 
-  pub all-agree : {k n : ℕ} → Agreeing f g k → n ≤ k → Agree n f g true
+  pub all-agree : {k n : ℕ} → Agreeing f g k → n ≤ k → Decides (Same n f g) true
   all-agree a h = holds (λ i l. a .same i (omega arith))
 
-  pub one-differs : {n : ℕ} (k : ℕ) → k < n → (f k ≡ g k → ⊥) → Agree n f g false
+  pub one-differs : {n : ℕ} (k : ℕ) → k < n → (f k ≡ g k → ⊥) → Decides (Same n f g) false
   one-differs k h d = fails (λ same. d (same k h))

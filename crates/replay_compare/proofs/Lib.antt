@@ -1,2 +1,3 @@
+pub mod CellByCell
 pub mod Complement
 pub mod Deciding

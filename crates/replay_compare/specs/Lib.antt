@@ -1,2 +1,7 @@
--- What it means that a call left what was recorded.
+-- What a record says of a call, and what it means that a call left that.
+pub mod Cases
+pub mod Head
+pub mod Left
+pub mod Rule
+pub mod Wholes
 pub mod inner

@@ -2,73 +2,63 @@
 use calls::Answer;
 ghost use mathlib.Core.Path.{_≡_};
 ghost use mathlib.Core.Bool.{cond};
-ghost use Prim.Native.Nat.{_≤_};
+ghost use mathlib.Core.List.{List, [], _∷_, _++_, map};
+ghost use Prim.Native.Nat.{ℕ, _≤_};
 ghost use lib.ListN.{length, getD};
-ghost use Rattle.calls.specs.Answer.{refusalOf, countOf};
+ghost use lib.Ieee.{binary64, ofBits};
+ghost use Rattle.calls.specs.Answer as answers;
 ghost use Rattle.cells.specs.Line.{line};
 ghost use Rattle.cells.specs.Written.{Writing};
-ghost use Rattle.replay_compare.specs.inner.Agree.{
-  Decides,
-  Agree,
-  floats,
-  twosComplement,
-  words,
-  workWord,
-  worked,
-};
-ghost use Rattle.replay_compare.specs.inner.Recorded.{Runs};
+ghost use Rattle.replay_words.specs.Decides.{Decides};
+ghost use Rattle.replay_words.specs.FloatWords.{floatWord};
+ghost use Rattle.replay_compare.specs.Head.{Within, refusalOf, countOf};
+ghost use Rattle.replay_compare.specs.Left.{Told, Same, workWord, worked, floats};
+ghost use Rattle.replay_compare.specs.Rule.{ruled, digestStep};
+ghost use Rattle.replay_compare.specs.Wholes.{wholeWord};
+ghost use Rattle.replay_compare.specs.inner.CellByCell.{Sees, Shown};
 
-// The numbers of a recorded call. No function here has more than two parameters.
-pub struct Call {
-    pub function: u64,
-    pub first: usize,
-    pub second: usize,
-    pub third: usize,
-    pub a: u64,
-    pub b: u64,
-    pub out: usize,
-    pub work: usize,
-    pub refusal: u64,
-    pub count: u64,
-    pub cleared: u64,
-}
-
-// Whether a call's function is here and its slices are no longer than RECORD.md allows.
-pub fn can_run(call: Call) -> bool
-    ensures { λ r. ⌜ Decides (Runs call) r ⌝ }
+// Whether a record's function has a number, and its slices are no longer than they may be.
+pub fn is_within(head: &[u64; 18], bars: u64, cells: u64, room: u64) -> bool
+    ensures { λ r. ⌜ Decides (Within bars cells room (now (head .entry))) r ⌝ }
 {
-    if call.function < 1 {
+    if head[0] < 1 {
         return false;
     }
-    if call.function > 9 {
+    if head[0] > 24 {
         return false;
     }
-    if call.first > 60 {
+    if head[2] > bars {
         return false;
     }
-    if call.second > 60 {
+    if head[3] > bars {
         return false;
     }
-    if call.third > 60 {
+    if head[4] > bars {
         return false;
     }
-    if call.out > 79 {
+    if head[11] > cells {
         return false;
     }
-    if call.work > 512 {
+    if head[12] > cells {
+        return false;
+    }
+    if head[13] > cells {
+        return false;
+    }
+    if head[14] > room {
         return false;
     }
     true
 }
 
 // Whether a call answered what was recorded.
-pub fn same_answer(call: Call, answer: Answer) -> bool
-    ensures { λ r. ⌜ Decides ((refusalOf answer ≡ call .refusal) × (countOf answer ≡ call .count)) r ⌝ }
+pub fn same_answer(head: &[u64; 18], answer: Answer) -> bool
+    ensures { λ r. ⌜ Decides ((answers.refusalOf answer ≡ refusalOf (now (head .entry))) × (answers.countOf answer ≡ countOf (now (head .entry)))) r ⌝ }
 {
-    if calls::refusal_of(answer) != call.refusal {
+    if calls::refusal_of(answer) != head[15] {
         return false;
     }
-    if calls::count_of(answer) as u64 != call.count {
+    if calls::count_of(answer) as u64 != head[16] {
         return false;
     }
     true
@@ -84,49 +74,176 @@ pub fn misses(same: bool) -> u64
 // What every output and work cell holds before a call: the pattern of -987654321.125, and a whole number where cells are.
 pub const UNTOUCHED: u64 = 0xc1cd_6f34_5890_0000;
 
-pub const UNTOUCHED_TICK: i64 = -987654321;
+pub const UNTOUCHED_WHOLE: i64 = -987654321;
 
-// Whether each cell is the f64 of its word.
-pub fn same_floats(cells: &[f64], recorded: &[u64]) -> bool
-    requires { ⌜ length (now cells) ≡ length (now recorded) ⌝ }
-    ensures { λ r. ⌜ Agree (length (now (cells .entry))) (line (now (cells .entry))) (floats (now (recorded .entry))) r ⌝ }
-{
-    let mut i = 0;
-    while i < cells.len() {
-        if replay_words::floats::is_float_of(cells[i], recorded[i]) {
-            i += 1;
-        } else {
-            return false;
-        }
-    }
-    true
+pub const UNTOUCHED_SHORT: i32 = -987654321;
+
+pub const UNTOUCHED_PLACE: u64 = 0xffff_ffff_c521_974f;
+
+// What is known of the cells that were compared: whether their words are the first of the recorded ones, and then where
+// the next word stands; and their digest.
+pub struct Seen {
+    pub at: usize,
+    pub same: bool,
+    pub digest: u64,
 }
 
-// The 64-bit two's complement of a whole number.
-fn word_of(tick: i64) -> u64
-    ensures { λ r. ⌜ r ≡ twosComplement tick ⌝ }
+fn no_cell() -> Seen
+    ensures { λ r. ⌜ ((recorded : List ℕ) → Sees recorded [] r) ⌝ }
 {
-    if tick < 0 {
-        u64::MAX - ((-1 - tick) as u64)
+    Seen {
+        at: 0,
+        same: true,
+        digest: 0,
+    }
+}
+
+fn digest_with(digest: u64, word: u64) -> u64
+    ensures { λ r. ⌜ r ≡ digestStep digest word ⌝ }
+{
+    (digest % 4294967291 * 2654435761 + word % 4294967291) % 4294967291
+}
+
+// One cell more, by its word.
+fn see(seen: Seen, word: u64, recorded: &[u64]) -> Seen
+    ensures { λ r. ⌜ ((l : List ℕ) → Sees (now (recorded .entry)) l seen → Sees (now (recorded .entry)) (l ++ (word ∷ [])) r) ⌝ }
+{
+    let digest = digest_with(seen.digest, word);
+    if seen.same {
+        let at = seen.at;
+        if at < recorded.len() {
+            if recorded[at] == word {
+                return Seen {
+                    at: at + 1,
+                    same: true,
+                    digest,
+                };
+            }
+        }
+    }
+    Seen {
+        at: 0,
+        same: false,
+        digest,
+    }
+}
+
+// The cells of an output more.
+fn see_floats(start: Seen, cells: &[f64], recorded: &[u64]) -> Seen
+    ensures { λ r. ⌜ Shown floatWord (now (cells .entry)) (now (recorded .entry)) start r ⌝ }
+{
+    let mut seen = start;
+    let mut i = 0;
+    while i < cells.len() {
+        seen = see(seen, replay_words::floats::word_of(cells[i]), recorded);
+        i += 1;
+    }
+    seen
+}
+
+// The word of a whole number.
+fn word_of(whole: i64) -> u64
+    ensures { λ r. ⌜ r ≡ wholeWord whole ⌝ }
+{
+    if whole < 0 {
+        u64::MAX - ((-1 - whole) as u64)
     } else {
-        tick as u64
+        whole as u64
     }
 }
 
-// Whether each whole number is that of its word.
-pub fn same_ticks(cells: &[i64], recorded: &[u64]) -> bool
-    requires { ⌜ length (now cells) ≡ length (now recorded) ⌝ }
-    ensures { λ r. ⌜ Agree (length (now (cells .entry))) (words (now (cells .entry))) (λ i. getD (now (recorded .entry)) i 0) r ⌝ }
+fn see_wholes(start: Seen, cells: &[i64], recorded: &[u64]) -> Seen
+    ensures { λ r. ⌜ Shown wholeWord (now (cells .entry)) (now (recorded .entry)) start r ⌝ }
 {
+    let mut seen = start;
     let mut i = 0;
     while i < cells.len() {
-        if word_of(cells[i]) == recorded[i] {
-            i += 1;
-        } else {
-            return false;
-        }
+        seen = see(seen, word_of(cells[i]), recorded);
+        i += 1;
     }
-    true
+    seen
+}
+
+fn short_word(whole: i32) -> u64
+    ensures { λ r. ⌜ r ≡ wholeWord whole ⌝ }
+{
+    word_of(whole as i64)
+}
+
+fn see_shorts(start: Seen, cells: &[i32], recorded: &[u64]) -> Seen
+    ensures { λ r. ⌜ Shown wholeWord (now (cells .entry)) (now (recorded .entry)) start r ⌝ }
+{
+    let mut seen = start;
+    let mut i = 0;
+    while i < cells.len() {
+        seen = see(seen, short_word(cells[i]), recorded);
+        i += 1;
+    }
+    seen
+}
+
+fn see_places(start: Seen, cells: &[u64], recorded: &[u64]) -> Seen
+    ensures { λ r. ⌜ Shown (λ k. k) (now (cells .entry)) (now (recorded .entry)) start r ⌝ }
+{
+    let mut seen = start;
+    let mut i = 0;
+    while i < cells.len() {
+        seen = see(seen, cells[i], recorded);
+        i += 1;
+    }
+    seen
+}
+
+fn first_word(recorded: &[u64]) -> u64
+    ensures { λ r. ⌜ r ≡ getD (now (recorded .entry)) 0 0 ⌝ }
+{
+    if recorded.len() > 0 { recorded[0] } else { 0 }
+}
+
+// Whether the cells that were compared are what was recorded: all words, or their digest.
+fn all_same(form: u64, seen: Seen, recorded: &[u64]) -> bool
+    ensures { λ r. ⌜ ((l : List ℕ) → Sees (now (recorded .entry)) l seen → Decides (Told form l (now (recorded .entry))) r) ⌝ }
+{
+    if form > 0 {
+        return seen.digest == first_word(recorded);
+    }
+    if seen.same {
+        return seen.at == recorded.len();
+    }
+    false
+}
+
+// Whether an output of f64 is what was recorded; then those of whole numbers, and three outputs.
+pub fn same_floats(form: u64, cells: &[f64], recorded: &[u64]) -> bool
+    ensures { λ r. ⌜ Decides (Told form (map floatWord (now (cells .entry))) (now (recorded .entry))) r ⌝ }
+{
+    all_same(form, see_floats(no_cell(), cells, recorded), recorded)
+}
+
+pub fn same_wholes(form: u64, cells: &[i64], recorded: &[u64]) -> bool
+    ensures { λ r. ⌜ Decides (Told form (map wholeWord (now (cells .entry))) (now (recorded .entry))) r ⌝ }
+{
+    all_same(form, see_wholes(no_cell(), cells, recorded), recorded)
+}
+
+pub fn same_shorts(form: u64, cells: &[i32], recorded: &[u64]) -> bool
+    ensures { λ r. ⌜ Decides (Told form (map wholeWord (now (cells .entry))) (now (recorded .entry))) r ⌝ }
+{
+    all_same(form, see_shorts(no_cell(), cells, recorded), recorded)
+}
+
+pub fn same_places(form: u64, cells: &[u64], recorded: &[u64]) -> bool
+    ensures { λ r. ⌜ Decides (Told form (map (λ k. k) (now (cells .entry))) (now (recorded .entry))) r ⌝ }
+{
+    all_same(form, see_places(no_cell(), cells, recorded), recorded)
+}
+
+pub fn same_bands(form: u64, middle: &[f64], upper: &[f64], lower: &[f64], recorded: &[u64]) -> bool
+    ensures { λ r. ⌜ Decides (Told form (map floatWord (now (middle .entry)) ++ map floatWord (now (upper .entry)) ++ map floatWord (now (lower .entry))) (now (recorded .entry))) r ⌝ }
+{
+    let one = see_floats(no_cell(), middle, recorded);
+    let two = see_floats(one, upper, recorded);
+    all_same(form, see_floats(two, lower, recorded), recorded)
 }
 
 // What work cell i holds after a call that cleared the first cells.
@@ -138,7 +255,7 @@ fn work_word(cleared: u64, i: usize) -> u64
 
 // Whether the first cells of a work slice hold +0.0 and the others what they held before.
 pub fn same_work(work: &[f64], cleared: u64) -> bool
-    ensures { λ r. ⌜ Agree (length (now (work .entry))) (line (now (work .entry))) (worked cleared) r ⌝ }
+    ensures { λ r. ⌜ Decides (Same (length (now (work .entry))) (line (now (work .entry))) (worked cleared)) r ⌝ }
 {
     let mut i = 0;
     while i < work.len() {
@@ -159,6 +276,18 @@ pub fn write_floats(words: &[u64], cells: &mut [f64])
     let mut i = 0;
     while i < words.len() {
         cells[i] = replay_words::floats::float_of(words[i]);
+        i += 1;
+    }
+}
+
+// Writes the series of the records that are not written out.
+pub fn write_rule(cells: &mut [f64])
+    requires { ⌜ length (now cells) ≤ 65539 ⌝ }
+    ensures { λ _. ⌜ Writing (length (now (cells .entry))) ruled (now (cells .entry)) (now (cells .exit)) ⌝ }
+{
+    let mut i = 0;
+    while i < cells.len() {
+        cells[i] = (i * 7919 % 10007 + 1) as f64;
         i += 1;
     }
 }

@@ -172,9 +172,10 @@ fn record(function: &Function, call: &Call, form: Form) -> Vec<Vec<u64>> {
     }
 }
 
-/// One word of many, which another word at any place changes.
+/// One word of many. The modulus is prime: were it a power of two, cells whose signs are wrong would cancel in pairs.
 fn digest(words: impl Iterator<Item = u64>) -> u64 {
-    words.fold(0, |digest: u64, word| digest.wrapping_mul(6_364_136_223_846_793_005).wrapping_add(word))
+    const PRIME: u64 = 4_294_967_291;
+    words.fold(0, |digest: u64, word| (digest * 2_654_435_761 + word % PRIME) % PRIME)
 }
 
 /// The word of a cell, with one word for every NaN.

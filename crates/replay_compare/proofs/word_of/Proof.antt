@@ -1,4 +1,4 @@
--- `word_of` meets its contract: an i64 is read as it was written, and its sign picks the line of `twosComplement`.
+-- `word_of` meets its contract: an i64 is read as it was written, and its sign picks the line of `wholeWord`.
 -- Assumes nothing.
 use mathlib.Core.Path.{_≡_}
 use native.Mathlib.Omega.{arith}
@@ -10,14 +10,14 @@ use Rattle.replay_compare.proofs.Complement.{Below, NotBelow, below, no
 use Rattle.replay_compare.proofs.word_of.Statement.{statement}
 use Rattle.replay_compare.proofs.word_of.Tie as tie
 
-read : (c : tie.Start) → toZ w64 (ofZ w64 (c .args .tick)) ≡ c .args .tick
-read c = toZ-ofZ w64 (c .args .tick) (c .fits .tick)
+read : (c : tie.Start) → toZ w64 (ofZ w64 (c .args .whole)) ≡ c .args .whole
+read c = toZ-ofZ w64 (c .args .whole) (c .fits .whole)
 
-negative : (c : tie.Then1) → Below (c .before .args .tick)
-negative c = below (c .before .args .tick) (c .before .fits .tick) (rw (read (c .before)) at (c .if1 .taken))
+negative : (c : tie.Then1) → Below (c .before .args .whole)
+negative c = below (c .before .args .whole) (c .before .fits .whole) (rw (read (c .before)) at (c .if1 .taken))
 
-positive : (c : tie.Else1) → NotBelow (c .before .args .tick)
-positive c = not-below (c .before .args .tick) (c .before .fits .tick) (rw (read (c .before)) at (c .if1 .left))
+positive : (c : tie.Else1) → NotBelow (c .before .args .whole)
+positive c = not-below (c .before .args .whole) (c .before .fits .whole) (rw (read (c .before)) at (c .if1 .left))
 
 cast-result : tie.Need-cast-result
 cast-result c =

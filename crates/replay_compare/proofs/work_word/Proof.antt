@@ -1,6 +1,6 @@
 -- `work_word` meets its contract: each arm is one of `workWord`'s. Assumes nothing.
 use borrow.Author.Tests.{lt-ltb, le-ltb}
-use Rattle.replay_compare.specs.inner.Agree.{workWord}
+use Rattle.replay_compare.specs.Left.{workWord}
 use Rattle.replay_compare.proofs.work_word.Statement.{statement}
 use Rattle.replay_compare.proofs.work_word.Tie as tie
 

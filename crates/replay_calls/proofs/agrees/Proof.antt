@@ -1,0 +1,25 @@
+-- `agrees` meets its contract: the work slice that it lends is as long as the record says. Assumes nothing.
+use mathlib.Core.Path.{sym}
+use borrow.Author.Needs.{needs}
+use Rattle.replay_calls.proofs.Comparing.{part-long, as-long}
+use Rattle.replay_calls.proofs.agrees.Statement.{statement}
+use Rattle.replay_calls.proofs.agrees.Tie as tie
+
+slice-work : tie.Need-slice-aggregate-with-work
+slice-work c = part-long 524296 _ _ (c .before .before .before .before .before .before .pre .work)
+
+returns : tie.Need-returns
+returns c =
+    let compared = c .before in
+    as-long _ (sym (slice-work (compared .before))) (compared .with-work .ensures)
+
+pub agrees-spec : {M : Type 1} → statement M
+agrees-spec =
+    tie.close
+    (tie.spec
+    (λ c. search needs)  -- element-copy-out-room
+    (λ c. c .before .before .before .before .before .pre .work)  -- array-borrow-prefix-work
+    slice-work
+    (λ c κs. c .before .before .before .before .before .before .pre)  -- with-work-requires
+    returns
+    )

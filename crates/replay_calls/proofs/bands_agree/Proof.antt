@@ -1,0 +1,42 @@
+-- `bands_agree` meets its contract: the cells that it lends hold what they must before a call. Assumes nothing.
+use borrow.Author.Needs.{needs}
+use Rattle.replay_calls.proofs.Comparing.{part-long, bands-compared}
+use Rattle.replay_calls.proofs.bands_agree.Statement.{statement}
+use Rattle.replay_calls.proofs.bands_agree.Tie as tie
+
+returns : tie.Need-returns
+returns c =
+    let left = c .before .before .before .before .before in
+    let p = left .before .before .before .before .before in
+    let x = p .before in
+    let rooms = x .before .before .before .before .before .before .before .before .before .pre in
+    bands-compared 65537 (p .parameters-of .ensures) (x .float-of .ensures) (rooms .out) (rooms .upper) (rooms .lower) (left .bands-left .ensures)
+
+slice-middle : tie.Need-slice-aggregate-bands-left
+slice-middle c = part-long 65537 _ _ (c .before .before .before .before .before .before .before .before .before .before .before .pre .out)
+
+slice-upper : tie.Need-slice-aggregate-bands-left-2
+slice-upper c = part-long 65537 _ _ (c .before .before .before .before .before .before .before .before .before .before .before .before .pre .upper)
+
+slice-lower : tie.Need-slice-aggregate-bands-left-3
+slice-lower c = part-long 65537 _ _ (c .before .before .before .before .before .before .before .before .before .before .before .before .before .pre .lower)
+
+pub bands-agree-spec : {M : Type 1} → statement M
+bands-agree-spec =
+    tie.close
+    (tie.spec
+    (λ c. search needs)  -- element-copy-out-one
+    (λ c. search needs)  -- element-copy-out-two
+    (λ c. search needs)  -- element-copy-out-three
+    (λ c κs. search needs)  -- float-of-requires
+    (λ c κs. search needs)  -- parameters-of-requires
+    (λ c. c .before .before .before .before .before .before .before .before .before .before .pre .out)  -- array-borrow-prefix-middle
+    slice-middle
+    (λ c. c .before .before .before .before .before .before .before .before .before .before .before .pre .upper)  -- array-borrow-prefix-upper
+    slice-upper
+    (λ c. c .before .before .before .before .before .before .before .before .before .before .before .before .pre .lower)  -- array-borrow-prefix-lower
+    slice-lower
+    (λ c κs. tt)  -- bands-left-requires
+    (λ c. search needs)  -- same-length
+    returns
+    )
