@@ -28,7 +28,8 @@ getD-first (suc k) f zero d h = refl
 getD-first (suc k) f (suc i) d h = getD-first k (λ j. f (suc j)) i d (le-of-suc-le-suc h)
 
 -- a part of a slice whose first n cells hold a line
-module _ {n : ℕ} {f : Line} {old now : List Float} (w : Writing n f old now) (room : n ≤ length old) (g : Line) (same : (i : ℕ) → i < n → f i ≡ g i) where
+module _ {n : ℕ} {f : Line} {old now : List Float} (w : Writing n f old now) (room : n ≤ length old) (g : Line)
+    (same : (i : ℕ) → i < n → f i ≡ g i) where
   part-is : (a k : ℕ) → a + k ≤ n → take k (drop a now) ≡ firstCells k (λ i. g (a + i))
   part-is a k h =
       let fits : k ≤ length (drop a now) = rw length-drop (let e = w .long in omega arith) in
@@ -36,16 +37,19 @@ module _ {n : ℕ} {f : Line} {old now : List Float} (w : Writing n f old now) (
       ext-getD nan (take k (drop a now)) (firstCells k (λ i. g (a + i))) (long ∙ sym (length-first k (λ i. g (a + i))))
       (λ i l.
       let m : i < k = rw long at l in
-      getD-take k (drop a now) i nan m ∙ getD-drop a now i nan ∙ read-back (a + i) nan w (omega arith) ∙ same (a + i) (omega arith)
+      getD-take k (drop a now) i nan m ∙ getD-drop a now i nan ∙ read-back (a + i) nan w (omega arith)
+      ∙ same (a + i) (omega arith)
       ∙ sym (getD-first k (λ j. g (a + j)) i nan m))
 
   first-is : (k : ℕ) → k ≤ n → take k now ≡ firstCells k g
   first-is k h = part-is 0 k (omega arith) ∙ simp zero-add
 
   -- a call of three such parts
-  pub cut : {h : List ℕ} (second third : ℕ) {recorded : List ℕ} {same : Bool} → firstOf h ≤ n → second + secondOf h ≤ n → third + thirdOf h ≤ n
+  pub cut : {h : List ℕ} (second third : ℕ) {recorded : List ℕ} {same : Bool} → firstOf h ≤ n
+      → second + secondOf h ≤ n → third + thirdOf h ≤ n
       → InParts h now second third recorded same
-      → Compared h (firstCells (firstOf h) g) (firstCells (secondOf h) (λ i. g (second + i))) (firstCells (thirdOf h) (λ i. g (third + i)))
+      → Compared h (firstCells (firstOf h) g) (firstCells (secondOf h) (λ i. g (second + i)))
+      (firstCells (thirdOf h) (λ i. g (third + i)))
       (replicate (workOf h) untouched) recorded same
   cut {h} second third a b c p =
       rw (first-is (firstOf h) a, part-is second (secondOf h) b, part-is third (thirdOf h) c) at p

@@ -31,13 +31,15 @@ given-listed (long l) = l .within .function .1
 -- ---- words that were read
 
 -- as many as there are cells
-pub stood : {unused block : List ℕ} {at end k : ℕ} {cells words : List ℕ} → Taken unused block at end cells k words → length words ≤ k
+pub stood : {unused block : List ℕ} {at end k : ℕ} {cells words : List ℕ} → Taken unused block at end cells k words
+    → length words ≤ k
     → Stood unused block at end words
 stood {k = k} {cells} {words} t h =
     let all : k ≡ length words = omega (arith, t .words .most, t .words .cells .long) in
     record { cells = cells; taken = rw all at t }
 
-pub stood-all : {unused block : List ℕ} {at end k : ℕ} {cells words : List ℕ} → Taken unused block at end cells k words → length cells ≤ k
+pub stood-all : {unused block : List ℕ} {at end k : ℕ} {cells words : List ℕ}
+    → Taken unused block at end cells k words → length cells ≤ k
     → Stood unused block at end words
 stood-all t h = stood t (rw (t .words .cells .long) h)
 
@@ -59,7 +61,8 @@ read-on unused between block h Stop s r = tt
 -- ---- one record after the other
 
 -- where the loop stands
-pub record Running (block₀ : List ℕ) (place₀ : Place) (records : ℕ) (calls₀ differ₀ block : List ℕ) (place : Place) (left : ℕ)
+pub record Running (block₀ : List ℕ) (place₀ : Place) (records : ℕ) (calls₀ differ₀ block : List ℕ) (place : Place)
+    (left : ℕ)
     (calls differ : List ℕ) : Type 0 where
   pub k : ℕ
   pub runs : Runs block₀ place₀ calls₀ differ₀ k block place calls differ

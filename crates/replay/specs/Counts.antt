@@ -34,17 +34,21 @@ counted at more counts = set counts at ((getD counts at 0 + more) % 2 ^ 64)
 abbrev pub tallied : ℕ → ℕ → List ℕ → List ℕ
 tallied function more counts = counted 0 more (counted function more counts)
 
--- k records were run one after the other, from a place in a block on: each adds 1 to the calls, and 1 to those that differ if its call
--- did not leave what was recorded
-pub data Runs (block₀ : List ℕ) (place₀ : Place) (calls₀ differ₀ : List ℕ) : ℕ → List ℕ → Place → List ℕ → List ℕ → Type 0 where
+-- k records were run one after the other, from a place in a block on: each adds 1 to the calls, and 1 to those that
+-- differ if its call did not leave what was recorded
+pub data Runs (block₀ : List ℕ) (place₀ : Place) (calls₀ differ₀ : List ℕ) : ℕ → List ℕ → Place → List ℕ → List ℕ
+    → Type 0 where
   none : Runs block₀ place₀ calls₀ differ₀ 0 block₀ place₀ calls₀ differ₀
-  more : {k : ℕ} {block : List ℕ} {place : Place} {calls differ : List ℕ} {function differs : ℕ} {block₁ : List ℕ} {place₁ : Place}
+  more : {k : ℕ} {block : List ℕ} {place : Place} {calls differ : List ℕ} {function differs : ℕ} {block₁ : List ℕ}
+      {place₁ : Place}
       → Runs block₀ place₀ calls₀ differ₀ k block place calls differ
       → RanNext (slice (place .at) (place .end) block) block₁ function differs place₁
-      → Runs block₀ place₀ calls₀ differ₀ (k + 1) block₁ place₁ (tallied function 1 calls) (tallied function differs differ)
+      → Runs block₀ place₀ calls₀ differ₀ (k + 1) block₁ place₁ (tallied function 1 calls)
+      (tallied function differs differ)
 
 -- of so many records all but `left` were run, and these are the counts
-pub record Counts (block₀ : List ℕ) (place₀ : Place) (records left : ℕ) (calls₀ differ₀ calls₁ differ₁ : List ℕ) : Type 0 where
+pub record Counts (block₀ : List ℕ) (place₀ : Place) (records left : ℕ) (calls₀ differ₀ calls₁ differ₁ : List ℕ) :
+    Type 0 where
   pub k : ℕ
   pub block : List ℕ
   pub place : Place

@@ -1,4 +1,4 @@
 -- What is read of the records, what running them comes to, and what is counted.
-pub mod Records
 pub mod Counts
+pub mod Records
 pub mod inner

@@ -1,4 +1,5 @@
--- A record by its words: those of its head, and those after it, which say the series and what was left. Assumes nothing.
+-- A record by its words: those of its head, and those after it, which say the series and what was left. Assumes
+-- nothing.
 use mathlib.Core.Bool.{Bool}
 use mathlib.Core.List.{List}
 use mathlib.Core.Path.{_≡_}
@@ -18,12 +19,14 @@ use Rattle.replay_calls.specs.Compared.{Compared}
 -- the series are the first cells of these lines, and every work cell is as before a call
 abbrev pub CallOf : List ℕ → Line → Line → Line → List ℕ → Bool → Type 0
 CallOf h f g k recorded same =
-    Compared h (firstCells (firstOf h) f) (firstCells (secondOf h) g) (firstCells (thirdOf h) k) (replicate (workOf h) untouched) recorded same
+    Compared h (firstCells (firstOf h) f) (firstCells (secondOf h) g) (firstCells (thirdOf h) k)
+    (replicate (workOf h) untouched) recorded same
 
 -- written out, the series stand one after the other, and then the cells
 abbrev pub WrittenOut : List ℕ → List ℕ → Bool → Type 0
 WrittenOut h words =
-    CallOf h (floats words) (λ i. floats words (firstOf h + i)) (λ i. floats words (firstOf h + secondOf h + i)) (drop (barsOf h) words)
+    CallOf h (floats words) (λ i. floats words (firstOf h + i)) (λ i. floats words (firstOf h + secondOf h + i))
+    (drop (barsOf h) words)
 
 -- by rule, the one word is the digest of the cells
 abbrev pub ByRule : List ℕ → List ℕ → Bool → Type 0
@@ -39,7 +42,8 @@ pub record Stood (unused block : List ℕ) (at end : ℕ) (words : List ℕ) : T
   pub cells : List ℕ
   pub taken : Taken unused block at end cells (length words) words
 
--- a record was read of the bytes that were not used: first its head, and then the rest, for which the block may have been filled again
+-- a record was read of the bytes that were not used: first its head, and then the rest, for which the block may have
+-- been filled again
 pub record Read (unused block : List ℕ) (place : Place) (h words : List ℕ) : Type 0 where
   pub between : List ℕ
   pub at : ℕ

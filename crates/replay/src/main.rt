@@ -1,7 +1,7 @@
-// Runs the calls that tools/oracle/RECORD.md describes. For each function a line says how many calls were run and how many
-// left something else than was recorded: another refusal, count, cell of an output or work cell. The last line says how
-// many records there are, how many calls differ, and how many were not run: those from the first on that breaks off, is
-// too long or has no function's number.
+// Runs the calls that tools/oracle/RECORD.md describes. For each function a line says how many calls were run and how
+// many left something else than was recorded: another refusal, count, cell of an output or work cell. The last line
+// says how many records there are, how many calls differ, and how many were not run: those from the first on that
+// breaks off, is too long or has no function's number.
 use replay_words::stream::Place;
 ghost use mathlib.Core.Path.{_≡_};
 ghost use Prim.Native.Nat.{_+_, _<_};
@@ -22,7 +22,8 @@ enum Step {
     Stop,
 }
 
-// Whether a call leaves what was recorded, with all its series in one slice. The second and the third begin at an index.
+// Whether a call leaves what was recorded, with all its series in one slice. The second and the third begin at an
+// index.
 fn parts_agree(
     head: &[u64; 18],
     series: &[f64],
@@ -89,7 +90,8 @@ fn record_agrees(head: &[u64; 18], words: &[u64]) -> bool
 // Reads the words after a head and runs the call.
 fn run_with(head: &[u64; 18], words: &mut [u64], block: &mut [u8], start: Place) -> Step
     requires { ⌜ Given (now head) (length (now words)) ⌝ }
-    ensures { λ r. ⌜ Rest (now (head .entry)) (slice (start .at) (start .end) (now (block .entry))) (now (block .exit)) r ⌝ }
+    ensures { λ r. ⌜ Rest (now (head .entry)) (slice (start .at) (start .end) (now (block .entry)))
+        (now (block .exit)) r ⌝ }
 {
     let read = replay_words::stream::fill(libc::STDIN_FILENO, block, start, words);
     if read.count < words.len() {
@@ -132,7 +134,8 @@ fn words_after(head: &[u64; 18]) -> usize
 
 // The same, with room for the words.
 fn run_rest(head: &[u64; 18], block: &mut [u8], start: Place) -> Step
-    ensures { λ r. ⌜ Rest (now (head .entry)) (slice (start .at) (start .end) (now (block .entry))) (now (block .exit)) r ⌝ }
+    ensures { λ r. ⌜ Rest (now (head .entry)) (slice (start .at) (start .end) (now (block .entry)))
+        (now (block .exit)) r ⌝ }
 {
     let count = words_after(head);
     if count > 417 {
@@ -181,7 +184,8 @@ fn run_all(
     calls: &mut [u64; 25],
     differ: &mut [u64; 25],
 ) -> u64
-    ensures { λ r. ⌜ Counts (now (block .entry)) start records r (now (calls .entry)) (now (differ .entry)) (now (calls .exit)) (now (differ .exit)) ⌝ }
+    ensures { λ r. ⌜ Counts (now (block .entry)) start records r (now (calls .entry)) (now (differ .entry))
+        (now (calls .exit)) (now (differ .exit)) ⌝ }
 {
     let mut place = start;
     let mut left = records;

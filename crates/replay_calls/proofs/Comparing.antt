@@ -78,9 +78,11 @@ take-replicate (suc n) (suc k) x h = ap (λ (t : List _). x ∷ t) (take-replica
 pub part-long : {A : Type 0} (n k : ℕ) (x : A) → k ≤ n → k ≡ length (take k (replicate n x))
 part-long n k x h = sym (length-take-le k (replicate n x) (rw length-replicate h))
 
-module _ (n : ℕ) {h : List ℕ} {f work₀ : List Float} {recorded : List ℕ} {p : Parameters} {work₁ : List Float} {same : Bool} where
+module _ (n : ℕ) {h : List ℕ} {f work₀ : List Float} {recorded : List ℕ} {p : Parameters} {work₁ : List Float}
+    {same : Bool} where
   pub floats-compared : {g k : List Float} {x : Float} {out : List Float} → Asks h p → x ≡ untouched → outOf h ≤ n
-      → Came (λ a. FloatsCalled p f g k (take (outOf h) (replicate n x)) work₀ a out work₁) h recorded (map floatWord out) work₁ same
+      → Came (λ a. FloatsCalled p f g k (take (outOf h) (replicate n x)) work₀ a out work₁) h recorded
+      (map floatWord out) work₁ same
       → Compared h f g k work₀ recorded same
   floats-compared {x = x} {out} q e l c = record {
     answer = c .answer;
@@ -91,7 +93,8 @@ module _ (n : ℕ) {h : List ℕ} {f work₀ : List Float} {recorded : List ℕ}
   }
 
   pub shorts-compared : (g k : List Float) {out : List ℤ} → Asks h p → outOf h ≤ n
-      → Came (λ a. ShortsCalled p f (take (outOf h) (replicate n untouchedWhole)) work₀ a out work₁) h recorded (map wholeWord out) work₁ same
+      → Came (λ a. ShortsCalled p f (take (outOf h) (replicate n untouchedWhole)) work₀ a out work₁) h recorded
+      (map wholeWord out) work₁ same
       → Compared h f g k work₀ recorded same
   shorts-compared g k {out} q l c = record {
     answer = c .answer;
@@ -102,7 +105,8 @@ module _ (n : ℕ) {h : List ℕ} {f work₀ : List Float} {recorded : List ℕ}
   }
 
   pub places-compared : (g k : List Float) {out : List ℕ} → Asks h p → outOf h ≤ n
-      → Came (λ a. PlacesCalled p f (take (outOf h) (replicate n (wholeWord untouchedWhole))) work₀ a out work₁) h recorded (map (λ p. p) out) work₁ same
+      → Came (λ a. PlacesCalled p f (take (outOf h) (replicate n (wholeWord untouchedWhole))) work₀ a out work₁) h
+      recorded (map (λ p. p) out) work₁ same
       → Compared h f g k work₀ recorded same
   places-compared g k {out} q l c = record {
     answer = c .answer;
@@ -116,7 +120,8 @@ module _ (n : ℕ) {h : List ℕ} {f work₀ : List Float} {recorded : List ℕ}
       → outOf h ≤ n → upperOf h ≤ n → lowerOf h ≤ n
       → Came
       (λ a.
-      BandsCalled p f g k (take (outOf h) (replicate n x)) (take (upperOf h) (replicate n x)) (take (lowerOf h) (replicate n x)) work₀ a
+      BandsCalled p f g k (take (outOf h) (replicate n x)) (take (upperOf h) (replicate n x))
+      (take (lowerOf h) (replicate n x)) work₀ a
       middle upper lower work₁)
       h recorded (map floatWord middle ++ map floatWord upper ++ map floatWord lower) work₁ same
       → Compared h f g k work₀ recorded same
@@ -126,14 +131,17 @@ module _ (n : ℕ) {h : List ℕ} {f work₀ : List Float} {recorded : List ℕ}
     work₁ = work₁;
     called =
         bands q
-        (rw (take-replicate n (outOf h) x l, take-replicate n (upperOf h) x m, take-replicate n (lowerOf h) x o, e) at (c .called))
+        (rw (take-replicate n (outOf h) x l, take-replicate n (upperOf h) x m, take-replicate n (lowerOf h) x o, e) at
+        (c .called))
         refl;
     decides = c .decides;
   }
 
-pub wholes-compared : (n : ℕ) {h : List ℕ} {f : List Float} {recorded : List ℕ} {p : Parameters} {same : Bool} {out : List ℤ}
+pub wholes-compared : (n : ℕ) {h : List ℕ} {f : List Float} {recorded : List ℕ} {p : Parameters} {same : Bool}
+    {out : List ℤ}
     (g k work₀ : List Float) → Asks h p → outOf h ≤ n
-    → Came (λ a. WholesCalled p f (take (outOf h) (replicate n untouchedWhole)) a out) h recorded (map wholeWord out) [] same
+    → Came (λ a. WholesCalled p f (take (outOf h) (replicate n untouchedWhole)) a out) h recorded (map wholeWord out)
+    [] same
     → Compared h f g k work₀ recorded same
 wholes-compared n {h} {out = out} g k work₀ q l c = record {
   answer = c .answer;
@@ -150,12 +158,14 @@ all-written x [] = refl
 all-written x (y ∷ l) = ap (λ (t : List _). x ∷ t) (all-written x l)
 
 -- every cell was filled
-pub filled : {h : List ℕ} {f g k : List Float} {recorded : List ℕ} {same : Bool} (x : Float) (old : List Float) {work₀ : List Float}
+pub filled : {h : List ℕ} {f g k : List Float} {recorded : List ℕ} {same : Bool} (x : Float) (old : List Float)
+    {work₀ : List Float}
     → x ≡ untouched → Writing (length old) (λ i. x) old work₀ → Compared h f g k work₀ recorded same
     → Compared h f g k (replicate (length old) untouched) recorded same
 filled x old e w c = rw (w .is, all-written x old, e) at c
 
 -- it is as long as the record says
 pub as-long : {h : List ℕ} {f g k : List Float} {recorded : List ℕ} {same : Bool} (n : ℕ) → n ≡ workOf h
-    → Compared h f g k (replicate n untouched) recorded same → Compared h f g k (replicate (workOf h) untouched) recorded same
+    → Compared h f g k (replicate n untouched) recorded same
+    → Compared h f g k (replicate (workOf h) untouched) recorded same
 as-long n e c = rw e at c

@@ -1,5 +1,5 @@
-// Makes the call of a record, and says whether it left what was recorded. A function joins with a line in one of the five
-// functions `answer_..`, one in specs/Called.antt, and one in the proof of that `answer_..`.
+// Makes the call of a record, and says whether it left what was recorded. A function joins with a line in one of the
+// five functions `answer_..`, one in specs/Called.antt, and one in the proof of that `answer_..`.
 use calls::Answer;
 ghost use mathlib.Core.List.{List, [], _++_, map};
 ghost use mathlib.Core.Path.{_≡_};
@@ -10,7 +10,14 @@ ghost use Rattle.replay_words.specs.FloatWords.{floatWord};
 ghost use Rattle.replay_compare.specs.Head.{Rooms, outOf, workOf};
 ghost use Rattle.replay_compare.specs.Left.{untouched};
 ghost use Rattle.replay_compare.specs.Wholes.{wholeWord};
-ghost use Rattle.replay_calls.specs.Called.{Asks, FloatsCalled, WholesCalled, ShortsCalled, PlacesCalled, BandsCalled};
+ghost use Rattle.replay_calls.specs.Called.{
+  Asks,
+  FloatsCalled,
+  WholesCalled,
+  ShortsCalled,
+  PlacesCalled,
+  BandsCalled,
+};
 ghost use Rattle.replay_calls.specs.Compared.{Compared};
 ghost use Rattle.replay_calls.specs.inner.Came.{Came};
 
@@ -50,7 +57,8 @@ fn answer_floats(
     out: &mut [f64],
     work: &mut [f64],
 ) -> Answer
-    ensures { λ r. ⌜ FloatsCalled p (now (first .entry)) (now (second .entry)) (now (third .entry)) (now (out .entry)) (now (work .entry)) r (now (out .exit)) (now (work .exit)) ⌝ }
+    ensures { λ r. ⌜ FloatsCalled p (now (first .entry)) (now (second .entry)) (now (third .entry)) (now (out .entry))
+        (now (work .entry)) r (now (out .exit)) (now (work .exit)) ⌝ }
 {
     let function = p.function;
     match function {
@@ -77,7 +85,8 @@ fn floats_left(
     out: &mut [f64],
     work: &mut [f64],
 ) -> bool
-    ensures { λ r. ⌜ Came (λ a. FloatsCalled p (now (first .entry)) (now (second .entry)) (now (third .entry)) (now (out .entry)) (now (work .entry)) a (now (out .exit)) (now (work .exit)))
+    ensures { λ r. ⌜ Came (λ a. FloatsCalled p (now (first .entry)) (now (second .entry)) (now (third .entry))
+        (now (out .entry)) (now (work .entry)) a (now (out .exit)) (now (work .exit)))
         (now (head .entry)) (now (recorded .entry)) (map floatWord (now (out .exit))) (now (work .exit)) r ⌝ }
 {
     let answer = answer_floats(p, first, second, third, out, work);
@@ -95,7 +104,8 @@ fn floats_agree(
     work: &mut [f64],
 ) -> bool
     requires { ⌜ outOf (now head) ≤ 65537 ⌝ }
-    ensures { λ r. ⌜ Compared (now (head .entry)) (now (first .entry)) (now (second .entry)) (now (third .entry)) (now (work .entry)) (now (recorded .entry)) r ⌝ }
+    ensures { λ r. ⌜ Compared (now (head .entry)) (now (first .entry)) (now (second .entry)) (now (third .entry))
+        (now (work .entry)) (now (recorded .entry)) r ⌝ }
 {
     let cells = head[11] as usize;
     let mut out = [replay_words::floats::float_of(replay_compare::UNTOUCHED); 65537];
@@ -139,7 +149,8 @@ fn wholes_left(
 
 fn wholes_agree(head: &[u64; 18], first: &[f64], recorded: &[u64]) -> bool
     requires { ⌜ outOf (now head) ≤ 65537 ⌝ }
-    ensures { λ r. ⌜ ((g k work : List Float) → Compared (now (head .entry)) (now (first .entry)) g k work (now (recorded .entry)) r) ⌝ }
+    ensures { λ r. ⌜ ((g k work : List Float)
+        → Compared (now (head .entry)) (now (first .entry)) g k work (now (recorded .entry)) r) ⌝ }
 {
     let cells = head[11] as usize;
     let mut out = [replay_compare::UNTOUCHED_WHOLE; 65537];
@@ -154,7 +165,8 @@ fn wholes_agree(head: &[u64; 18], first: &[f64], recorded: &[u64]) -> bool
 
 // Calls a function whose cells are i32.
 fn answer_shorts(p: Parameters, first: &[f64], out: &mut [i32], work: &mut [f64]) -> Answer
-    ensures { λ r. ⌜ ShortsCalled p (now (first .entry)) (now (out .entry)) (now (work .entry)) r (now (out .exit)) (now (work .exit)) ⌝ }
+    ensures { λ r. ⌜ ShortsCalled p (now (first .entry)) (now (out .entry)) (now (work .entry)) r (now (out .exit))
+        (now (work .exit)) ⌝ }
 {
     Answer::Cells(usize::MAX)
 }
@@ -167,7 +179,8 @@ fn shorts_left(
     out: &mut [i32],
     work: &mut [f64],
 ) -> bool
-    ensures { λ r. ⌜ Came (λ a. ShortsCalled p (now (first .entry)) (now (out .entry)) (now (work .entry)) a (now (out .exit)) (now (work .exit)))
+    ensures { λ r. ⌜ Came (λ a. ShortsCalled p (now (first .entry)) (now (out .entry)) (now (work .entry)) a
+        (now (out .exit)) (now (work .exit)))
         (now (head .entry)) (now (recorded .entry)) (map wholeWord (now (out .exit))) (now (work .exit)) r ⌝ }
 {
     let answer = answer_shorts(p, first, out, work);
@@ -178,7 +191,8 @@ fn shorts_left(
 
 fn shorts_agree(head: &[u64; 18], first: &[f64], recorded: &[u64], work: &mut [f64]) -> bool
     requires { ⌜ outOf (now head) ≤ 65537 ⌝ }
-    ensures { λ r. ⌜ ((g k : List Float) → Compared (now (head .entry)) (now (first .entry)) g k (now (work .entry)) (now (recorded .entry)) r) ⌝ }
+    ensures { λ r. ⌜ ((g k : List Float)
+        → Compared (now (head .entry)) (now (first .entry)) g k (now (work .entry)) (now (recorded .entry)) r) ⌝ }
 {
     let cells = head[11] as usize;
     let mut out = [replay_compare::UNTOUCHED_SHORT; 65537];
@@ -194,7 +208,8 @@ fn shorts_agree(head: &[u64; 18], first: &[f64], recorded: &[u64], work: &mut [f
 
 // Calls a function whose cells are u64.
 fn answer_places(p: Parameters, first: &[f64], out: &mut [u64], work: &mut [f64]) -> Answer
-    ensures { λ r. ⌜ PlacesCalled p (now (first .entry)) (now (out .entry)) (now (work .entry)) r (now (out .exit)) (now (work .exit)) ⌝ }
+    ensures { λ r. ⌜ PlacesCalled p (now (first .entry)) (now (out .entry)) (now (work .entry)) r (now (out .exit))
+        (now (work .exit)) ⌝ }
 {
     Answer::Cells(usize::MAX)
 }
@@ -207,7 +222,8 @@ fn places_left(
     out: &mut [u64],
     work: &mut [f64],
 ) -> bool
-    ensures { λ r. ⌜ Came (λ a. PlacesCalled p (now (first .entry)) (now (out .entry)) (now (work .entry)) a (now (out .exit)) (now (work .exit)))
+    ensures { λ r. ⌜ Came (λ a. PlacesCalled p (now (first .entry)) (now (out .entry)) (now (work .entry)) a
+        (now (out .exit)) (now (work .exit)))
         (now (head .entry)) (now (recorded .entry)) (map (λ p. p) (now (out .exit))) (now (work .exit)) r ⌝ }
 {
     let answer = answer_places(p, first, out, work);
@@ -218,7 +234,8 @@ fn places_left(
 
 fn places_agree(head: &[u64; 18], first: &[f64], recorded: &[u64], work: &mut [f64]) -> bool
     requires { ⌜ outOf (now head) ≤ 65537 ⌝ }
-    ensures { λ r. ⌜ ((g k : List Float) → Compared (now (head .entry)) (now (first .entry)) g k (now (work .entry)) (now (recorded .entry)) r) ⌝ }
+    ensures { λ r. ⌜ ((g k : List Float)
+        → Compared (now (head .entry)) (now (first .entry)) g k (now (work .entry)) (now (recorded .entry)) r) ⌝ }
 {
     let cells = head[11] as usize;
     let mut out = [replay_compare::UNTOUCHED_PLACE; 65537];
@@ -244,7 +261,8 @@ fn answer_bands(
     work: &mut [f64],
 ) -> Answer
     ensures { λ r. ⌜ BandsCalled p (now (first .entry)) (now (second .entry)) (now (third .entry))
-        (now (middle .entry)) (now (upper .entry)) (now (lower .entry)) (now (work .entry)) r (now (middle .exit)) (now (upper .exit)) (now (lower .exit)) (now (work .exit)) ⌝ }
+        (now (middle .entry)) (now (upper .entry)) (now (lower .entry)) (now (work .entry)) r (now (middle .exit))
+        (now (upper .exit)) (now (lower .exit)) (now (work .exit)) ⌝ }
 {
     Answer::Cells(usize::MAX)
 }
@@ -262,8 +280,11 @@ fn bands_left(
     work: &mut [f64],
 ) -> bool
     ensures { λ r. ⌜ Came (λ a. BandsCalled p (now (first .entry)) (now (second .entry)) (now (third .entry))
-        (now (middle .entry)) (now (upper .entry)) (now (lower .entry)) (now (work .entry)) a (now (middle .exit)) (now (upper .exit)) (now (lower .exit)) (now (work .exit)))
-        (now (head .entry)) (now (recorded .entry)) (map floatWord (now (middle .exit)) ++ map floatWord (now (upper .exit)) ++ map floatWord (now (lower .exit))) (now (work .exit)) r ⌝ }
+        (now (middle .entry)) (now (upper .entry)) (now (lower .entry)) (now (work .entry)) a (now (middle .exit))
+        (now (upper .exit)) (now (lower .exit)) (now (work .exit)))
+        (now (head .entry)) (now (recorded .entry))
+        (map floatWord (now (middle .exit)) ++ map floatWord (now (upper .exit)) ++ map floatWord
+        (now (lower .exit))) (now (work .exit)) r ⌝ }
 {
     let answer = answer_bands(p, first, second, third, middle, upper, lower, work);
     let numbers = replay_compare::same_answer(head, answer);
@@ -280,7 +301,8 @@ fn bands_agree(
     work: &mut [f64],
 ) -> bool
     requires { ⌜ Rooms (now head) ⌝ }
-    ensures { λ r. ⌜ Compared (now (head .entry)) (now (first .entry)) (now (second .entry)) (now (third .entry)) (now (work .entry)) (now (recorded .entry)) r ⌝ }
+    ensures { λ r. ⌜ Compared (now (head .entry)) (now (first .entry)) (now (second .entry)) (now (third .entry))
+        (now (work .entry)) (now (recorded .entry)) r ⌝ }
 {
     let one = head[11] as usize;
     let two = head[12] as usize;
@@ -313,7 +335,8 @@ fn compare(
     work: &mut [f64],
 ) -> bool
     requires { ⌜ Rooms (now head) ⌝ }
-    ensures { λ r. ⌜ Compared (now (head .entry)) (now (first .entry)) (now (second .entry)) (now (third .entry)) (now (work .entry)) (now (recorded .entry)) r ⌝ }
+    ensures { λ r. ⌜ Compared (now (head .entry)) (now (first .entry)) (now (second .entry)) (now (third .entry))
+        (now (work .entry)) (now (recorded .entry)) r ⌝ }
 {
     let function = head[0];
     match function {
@@ -335,7 +358,8 @@ fn with_work(
     work: &mut [f64],
 ) -> bool
     requires { ⌜ Rooms (now head) ⌝ }
-    ensures { λ r. ⌜ Compared (now (head .entry)) (now (first .entry)) (now (second .entry)) (now (third .entry)) (replicate (length (now (work .entry))) untouched) (now (recorded .entry)) r ⌝ }
+    ensures { λ r. ⌜ Compared (now (head .entry)) (now (first .entry)) (now (second .entry)) (now (third .entry))
+        (replicate (length (now (work .entry))) untouched) (now (recorded .entry)) r ⌝ }
 {
     let room = work.len();
     cells::fill(
@@ -355,7 +379,8 @@ pub fn agrees(
     recorded: &[u64],
 ) -> bool
     requires { ⌜ Rooms (now head) ⌝ }
-    ensures { λ r. ⌜ Compared (now (head .entry)) (now (first .entry)) (now (second .entry)) (now (third .entry)) (replicate (workOf (now (head .entry))) untouched) (now (recorded .entry)) r ⌝ }
+    ensures { λ r. ⌜ Compared (now (head .entry)) (now (first .entry)) (now (second .entry)) (now (third .entry))
+        (replicate (workOf (now (head .entry))) untouched) (now (recorded .entry)) r ⌝ }
 {
     let room = head[14] as usize;
     let mut work = [0.0; 524296];

@@ -1,4 +1,5 @@
--- Cells compared one after the other: one word more, the cells of an output, and what is known at the end. Assumes nothing.
+-- Cells compared one after the other: one word more, the cells of an output, and what is known at the end. Assumes
+-- nothing.
 use mathlib.Core.Bool.{Bool, true, false, true≢false}
 use mathlib.Core.List.{List, [], _∷_, _++_, map, append-assoc, append-nil}
 use mathlib.Core.Path.{_≡_, refl, sym, ap, _∙_}
@@ -40,7 +41,8 @@ module _ (recorded l : List ℕ) (w : ℕ) where
       sym (take-take n (suc n) recorded (omega arith)) ∙ ap (take n) all ∙ take-append-seam l (w ∷ []) in
       let long = ap length all ∙ long-more w l in
       let next : getD recorded n 0 ≡ w =
-      sym (getD-take (suc n) recorded n 0 (omega arith)) ∙ ap (λ (t : List ℕ). getD t n 0) all ∙ getD-append-seam l w [] 0 in
+      sym (getD-take (suc n) recorded n 0 (omega arith)) ∙ ap (λ (t : List ℕ). getD t n 0) all
+      ∙ getD-append-seam l w [] 0 in
       (first, omega (arith, long, length-take (suc n) recorded), next)
 
   module _ {s : Seen} (p : Sees recorded l s) (d : ℕ) (e : d ≡ digestStep (s .digest) w) where
@@ -54,7 +56,12 @@ module _ (recorded l : List ℕ) (w : ℕ) where
         let at = p .at t in
         let first : take (length (l ++ (w ∷ []))) recorded ≡ l ++ (w ∷ []) =
         prefix-more (p .same .yes t) (rw at at h) (rw at at g) in
-        record { same = rw b (holds first); at = λ u. a ∙ rw (at, add-one) (sym (long-more w l)); digest-is = c ∙ digest-next }
+        record {
+          same = rw b (holds first);
+          at = λ u. a ∙ rw (at, add-one) (sym (long-more w l));
+          digest-is = c
+              ∙ digest-next;
+        }
 
     -- it is not
     pub word-differs : {r : Seen} → (s .same ≡ true → s .at < length recorded → getD recorded (s .at) 0 ≡ w → ⊥)
@@ -70,8 +77,9 @@ module _ (recorded l : List ℕ) (w : ℕ) where
 -- ---- the cells of an output
 
 -- its first i cells
-pub record Showing {A : Type 0} (word : A → ℕ) (cells : List A) (recorded : List ℕ) (i : ℕ) (s₀ s₁ : Seen) : Type 0 where
-  pub more : (l : List ℕ) → Sees recorded l s₀ → Sees recorded (l ++ map word (take i cells)) s₁
+pub record Showing {A : Type 0} (word : A → ℕ) (cells : List A) (recorded : List ℕ) (i : ℕ) (s₀ s₁ : Seen) : Type 0
+  where
+    pub more : (l : List ℕ) → Sees recorded l s₀ → Sees recorded (l ++ map word (take i cells)) s₁
 
 map-more : {A : Type 0} (word : A → ℕ) (a : A) (l : List A) → map word (l ++ (a ∷ [])) ≡ map word l ++ (word a ∷ [])
 map-more word a [] = refl
@@ -81,16 +89,26 @@ module _ {A : Type 0} {word : A → ℕ} {cells : List A} {recorded : List ℕ} 
   pub none-shown : Showing word cells recorded 0 s₀ s₀
   none-shown = record { more = λ l p. rw append-nil p }
 
-  pub one-shown : {i : ℕ} {s₁ s₂ : Seen} {w : ℕ} (d : A) → Showing word cells recorded i s₀ s₁ → i < length cells → w ≡ word (getD cells i d)
-      → ((l : List ℕ) → Sees recorded l s₁ → Sees recorded (l ++ (w ∷ [])) s₂) → Showing word cells recorded (i + 1) s₀ s₂
+  pub one-shown : {i : ℕ} {s₁ s₂ : Seen} {w : ℕ} (d : A) → Showing word cells recorded i s₀ s₁ → i < length cells → w
+      ≡ word (getD cells i d)
+      → ((l : List ℕ) → Sees recorded l s₁ → Sees recorded (l ++ (w ∷ [])) s₂)
+      → Showing word cells recorded (i + 1) s₀ s₂
   one-shown {i} {w = w} d p h e next = record {
     more =
         λ l q.
         let one = next (l ++ map word (take i cells)) (p .more l q) in
-        rw (add-one, take-suc cells i d h, map-more word (getD cells i d) (take i cells), ← e, ← append-assoc l (map word (take i cells)) (w ∷ [])) one;
+        rw (
+          add-one,
+          take-suc cells i d h,
+          map-more word (getD cells i d) (take i cells),
+          ← e,
+          ← append-assoc l
+              (map word (take i cells)) (w ∷ []),
+        ) one;
   }
 
-  pub all-shown : {i : ℕ} {s₁ : Seen} → Showing word cells recorded i s₀ s₁ → i ≡ length cells → Shown word cells recorded s₀ s₁
+  pub all-shown : {i : ℕ} {s₁ : Seen} → Showing word cells recorded i s₀ s₁ → i ≡ length cells
+      → Shown word cells recorded s₀ s₁
   all-shown p e = record { more = λ l q. rw (e, take-length cells) at (p .more l q) }
 
 -- ---- the end
@@ -105,11 +123,13 @@ module _ {recorded l : List ℕ} {s : Seen} (p : Sees recorded l s) where
   pub no-words : s .same ≡ false → Decides (l ≡ recorded) false
   no-words t = fails (λ e. true≢false (sym (p .same .no (rw e (take-length recorded))) ∙ t))
 
-  pub by-digest : {w : ℕ} {b : Bool} → w ≡ getD recorded 0 0 → Decides (s .digest ≡ w) b → Decides (digest l ≡ getD recorded 0 0) b
+  pub by-digest : {w : ℕ} {b : Bool} → w ≡ getD recorded 0 0 → Decides (s .digest ≡ w) b
+      → Decides (digest l ≡ getD recorded 0 0) b
   by-digest e d = record { yes = λ t. sym (p .digest-is) ∙ d .yes t ∙ e; no = λ t. d .no (p .digest-is ∙ t ∙ sym e) }
 
 -- written out, and by rule
-pub written-out : (told recorded : List ℕ) (form : ℕ) {b : Bool} → form ≤ 0 → Decides (told ≡ recorded) b → Decides (Told form told recorded) b
+pub written-out : (told recorded : List ℕ) (form : ℕ) {b : Bool} → form ≤ 0 → Decides (told ≡ recorded) b
+    → Decides (Told form told recorded) b
 written-out told recorded zero h d = d
 written-out told recorded (suc form) h d = absurd (omega arith)
 

@@ -26,7 +26,13 @@ pub record NotBelow (z : ℤ) : Type 0 where
 
 pub below : (z : ℤ) → SFits w64 z → ltZ z (pos 0) ≡ true → Below z
 below (pos n) f e = let l = ltb-true n 0 e in absurd (omega arith)
-below (negsuc n) f e = record { size = n; small = f .sfits; less = rw (le-ltb (suc n) 1 (omega arith)) (ap pos (omega arith)); word = omega arith }
+below (negsuc n) f e = record {
+  size = n;
+  small = f .sfits;
+  less = rw (le-ltb (suc n) 1 (omega arith))
+      (ap pos (omega arith));
+  word = omega arith;
+}
 
 pub not-below : (z : ℤ) → SFits w64 z → ltZ z (pos 0) ≡ false → NotBelow z
 not-below (pos n) f e = record { sign = tt; small = f .sfits; word = refl }

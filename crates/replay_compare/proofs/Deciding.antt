@@ -1,4 +1,5 @@
--- A test's two answers, and what a loop keeps that leaves at the first place where two sequences differ. Assumes nothing.
+-- A test's two answers, and what a loop keeps that leaves at the first place where two sequences differ. Assumes
+-- nothing.
 use mathlib.Core.Bool.{true, false, true≢false}
 use mathlib.Core.Path.{_≡_, refl, sym}
 use Prim.Native.Nat.{ℕ, _+_, _<_, _≤_}

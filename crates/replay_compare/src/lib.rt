@@ -53,7 +53,8 @@ pub fn is_within(head: &[u64; 18], bars: u64, cells: u64, room: u64) -> bool
 
 // Whether a call answered what was recorded.
 pub fn same_answer(head: &[u64; 18], answer: Answer) -> bool
-    ensures { λ r. ⌜ Decides ((answers.refusalOf answer ≡ refusalOf (now (head .entry))) × (answers.countOf answer ≡ countOf (now (head .entry)))) r ⌝ }
+    ensures { λ r. ⌜ Decides ((answers.refusalOf answer ≡ refusalOf (now (head .entry)))
+        × (answers.countOf answer ≡ countOf (now (head .entry)))) r ⌝ }
 {
     if calls::refusal_of(answer) != head[15] {
         return false;
@@ -71,7 +72,8 @@ pub fn misses(same: bool) -> u64
     if same { 0 } else { 1 }
 }
 
-// What every output and work cell holds before a call: the pattern of -987654321.125, and a whole number where cells are.
+// What every output and work cell holds before a call: the pattern of -987654321.125, and a whole number where cells
+// are.
 pub const UNTOUCHED: u64 = 0xc1cd_6f34_5890_0000;
 
 pub const UNTOUCHED_WHOLE: i64 = -987654321;
@@ -106,7 +108,8 @@ fn digest_with(digest: u64, word: u64) -> u64
 
 // One cell more, by its word.
 fn see(seen: Seen, word: u64, recorded: &[u64]) -> Seen
-    ensures { λ r. ⌜ ((l : List ℕ) → Sees (now (recorded .entry)) l seen → Sees (now (recorded .entry)) (l ++ (word ∷ [])) r) ⌝ }
+    ensures { λ r. ⌜ ((l : List ℕ) → Sees (now (recorded .entry)) l seen
+        → Sees (now (recorded .entry)) (l ++ (word ∷ [])) r) ⌝ }
 {
     let digest = digest_with(seen.digest, word);
     if seen.same {
@@ -202,7 +205,8 @@ fn first_word(recorded: &[u64]) -> u64
 
 // Whether the cells that were compared are what was recorded: all words, or their digest.
 fn all_same(form: u64, seen: Seen, recorded: &[u64]) -> bool
-    ensures { λ r. ⌜ ((l : List ℕ) → Sees (now (recorded .entry)) l seen → Decides (Told form l (now (recorded .entry))) r) ⌝ }
+    ensures { λ r. ⌜ ((l : List ℕ) → Sees (now (recorded .entry)) l seen
+        → Decides (Told form l (now (recorded .entry))) r) ⌝ }
 {
     if form > 0 {
         return seen.digest == first_word(recorded);
@@ -239,7 +243,8 @@ pub fn same_places(form: u64, cells: &[u64], recorded: &[u64]) -> bool
 }
 
 pub fn same_bands(form: u64, middle: &[f64], upper: &[f64], lower: &[f64], recorded: &[u64]) -> bool
-    ensures { λ r. ⌜ Decides (Told form (map floatWord (now (middle .entry)) ++ map floatWord (now (upper .entry)) ++ map floatWord (now (lower .entry))) (now (recorded .entry))) r ⌝ }
+    ensures { λ r. ⌜ Decides (Told form (map floatWord (now (middle .entry)) ++ map floatWord (now (upper .entry)) ++
+        map floatWord (now (lower .entry))) (now (recorded .entry))) r ⌝ }
 {
     let one = see_floats(no_cell(), middle, recorded);
     let two = see_floats(one, upper, recorded);
@@ -271,7 +276,8 @@ pub fn same_work(work: &[f64], cleared: u64) -> bool
 // Writes the numbers that the words stand for.
 pub fn write_floats(words: &[u64], cells: &mut [f64])
     requires { ⌜ length (now words) ≤ length (now cells) ⌝ }
-    ensures { λ _. ⌜ Writing (length (now (words .entry))) (floats (now (words .entry))) (now (cells .entry)) (now (cells .exit)) ⌝ }
+    ensures { λ _. ⌜ Writing (length (now (words .entry))) (floats (now (words .entry))) (now (cells .entry))
+        (now (cells .exit)) ⌝ }
 {
     let mut i = 0;
     while i < words.len() {

@@ -1,5 +1,5 @@
--- A block of bytes from which words are taken, and which is filled again from the input. What the input holds no contract says, so the words are those
--- that stand in the block. Assumes nothing.
+-- A block of bytes from which words are taken, and which is filled again from the input. What the input holds no
+-- contract says, so the words are those that stand in the block. Assumes nothing.
 use mathlib.Core.List.{List, [], _∷_}
 use mathlib.Core.Path.{_≡_, sym, ap, _∙_}
 use Prim.Native.Nat.{ℕ, zero, suc, _+_, _-_, _*_, _≤_, min}
@@ -53,16 +53,27 @@ module _ {at end kept : ℕ} {old mid : List ℕ} (w : Kept at end old kept mid)
   pub read-behind : {now : List ℕ} (more : ℕ) → take kept now ≡ take kept mid → kept + more ≤ length now
       → Holds (slice at end old) now 0 (kept + more)
   read-behind {now} more e l =
-      record { inside = (omega arith, l); kept = rw (unused-long, take-take kept (kept + more) now (omega arith)) (e ∙ w .bytes) }
+      record {
+        inside = (omega arith, l);
+        kept = rw (unused-long, take-take kept (kept + more) now (omega arith))
+            (e ∙ w .bytes);
+      }
 
 -- ---- what was taken of it
 
-module _ {unused block old now : List ℕ} {at end k : ℕ} (p : Holds unused block at end) (w : Words (take (end - at) (drop at block)) old k now) where
+module _ {unused block old now : List ℕ} {at end k : ℕ} (p : Holds unused block at end)
+    (w : Words (take (end - at) (drop at block)) old k now) where
   -- the words end within the block
   pub used-fits : at + 17 * k ≤ end
   used-fits =
       let s = take (end - at) (drop at block) in
-      omega (arith, length-take (end - at) (drop at block), words-fit s 0 (length old) (omega arith), w .count, p .inside)
+      omega (
+        arith,
+        length-take (end - at) (drop at block),
+        words-fit s 0 (length old) (omega arith),
+        w .count,
+        p .inside,
+      )
 
   pub taken : Taken unused block (at + 17 * k) end old k now
   taken =

@@ -17,14 +17,20 @@ the-nan (fin s m d) e = absurd (true≢false (sym e))
 pub told-nan : (x : Float) (bits : ℕ) → isNan x ≡ true → Decides (x ≡ ofBits binary64 bits) (nanBits binary64 bits)
 told-nan x bits n =
     let is = nanBits-is binary64 bits in
-    record { yes = λ t. the-nan x n ∙ sym (the-nan (ofBits binary64 bits) (sym is ∙ t)); no = λ e. is ∙ sym (ap isNan e) ∙ n }
+    record {
+      yes = λ t. the-nan x n ∙ sym (the-nan (ofBits binary64 bits) (sym is ∙ t));
+      no = λ e. is
+          ∙ sym (ap isNan e) ∙ n;
+    }
 
-pub told-number : (x : Float) (bits : ℕ) → T (fits binary64 x) → isNan x ≡ false → bits < 2 ^ 64 → Decides (x ≡ ofBits binary64 bits) (eqb (toBits binary64 x) bits)
+pub told-number : (x : Float) (bits : ℕ) → T (fits binary64 x) → isNan x ≡ false → bits < 2 ^ 64
+    → Decides (x ≡ ofBits binary64 bits) (eqb (toBits binary64 x) bits)
 told-number x bits f n h = record {
   yes = λ t. sym (ofBits-toBits binary64 x f) ∙ ap (ofBits binary64) (eqb-true (toBits binary64 x) bits t);
   no =
       λ e. eq-eqb (toBits binary64 x) bits
-      (ap (toBits binary64) e ∙ toBits-ofBits binary64 bits h (subst (λ (t : Bool). T (not t)) (sym (sym (ap isNan e) ∙ n)) tt));
+      (ap (toBits binary64) e ∙ toBits-ofBits binary64 bits h
+      (subst (λ (t : Bool). T (not t)) (sym (sym (ap isNan e) ∙ n)) tt));
 }
 
 pub nan-pattern : (bits : ℕ) → nanBits binary64 bits ≡ true → nan ≡ ofBits binary64 bits

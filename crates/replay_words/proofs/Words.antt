@@ -15,7 +15,8 @@ use Rattle.replay_words.specs.declared.Word.the-variants.{Bits, Missing}
 use Rattle.replay_words.specs.inner.Words.{digitAt, digitOf, digitsAt, isEnd, numberAt, numberIn, wordAt}
 
 -- 14 zeros and `af`, with a line feed after them; and the same with a capital letter
-word-cases : (wordAt (replicate 14 48 ++ (97 ∷ 102 ∷ 10 ∷ [])) 0 ≡ Bits 175) × (wordAt (replicate 14 48 ++ (65 ∷ 102 ∷ 10 ∷ [])) 0 ≡ Missing)
+word-cases : (wordAt (replicate 14 48 ++ (97 ∷ 102 ∷ 10 ∷ [])) 0 ≡ Bits 175)
+    × (wordAt (replicate 14 48 ++ (65 ∷ 102 ∷ 10 ∷ [])) 0 ≡ Missing)
 unfolding wordAt numberIn digitsAt numberAt digitOf
 word-cases = (refl, refl)
 
@@ -43,7 +44,8 @@ room {k = k} r h =
     lt-of-lt-of-le (r .small) (pow-mono most)
 
 -- one more digit
-pub one-read : {s : List ℕ} {at k x d : ℕ} → Reading s at k x → d ≡ digitAt s (at + k) → d < 16 → Reading s at (k + 1) (16 * x + d)
+pub one-read : {s : List ℕ} {at k x d : ℕ} → Reading s at k x → d ≡ digitAt s (at + k) → d < 16
+    → Reading s at (k + 1) (16 * x + d)
 unfolding digitsAt numberAt
 one-read {s} {at} {k} {x} {d} r e l = record {
   ok = rw (add-one, r .ok, ← e) (lt-ltb d 16 l);
@@ -61,7 +63,8 @@ no-digit s at i (suc k) h l = go (no-digit s at i k) (eq-or-lt-of-le (le-of-suc-
     and-no true = refl
     and-no false = refl
 
-    go : (i < k → 15 < digitAt s (at + i) → digitsAt s at k ≡ false) → (i ≡ k) ⊎ (i < k) → digitsAt s at k && ltb (digitAt s (at + k)) 16 ≡ false
+    go : (i < k → 15 < digitAt s (at + i) → digitsAt s at k ≡ false) → (i ≡ k) ⊎ (i < k)
+        → digitsAt s at k && ltb (digitAt s (at + k)) 16 ≡ false
     go before (inl e) = rw (← e, le-ltb (digitAt s (at + i)) 16 l) (and-no (digitsAt s at i))
     go before (inr g) = rw (before g l)
 

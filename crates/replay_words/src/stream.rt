@@ -50,7 +50,8 @@ fn read_on(input: i32, block: &mut [u8], at: usize, end: usize) -> Place
 
 // Reads on where fewer words than `count` are left in the block.
 fn ready(input: i32, block: &mut [u8], place: Place, count: usize) -> Place
-    ensures { λ r. ⌜ Holds (slice (place .at) (place .end) (now (block .entry))) (now (block .exit)) (r .at) (r .end) ⌝ }
+    ensures { λ r. ⌜ Holds (slice (place .at) (place .end) (now (block .entry))) (now (block .exit)) (r .at) (r .end)
+        ⌝ }
 {
     let from = within(place, block.len());
     let at = from.at;
@@ -65,7 +66,8 @@ fn ready(input: i32, block: &mut [u8], place: Place, count: usize) -> Place
 // Fills the cells with the next words, up to the first that is missing. Words that run over the end of the block are
 // moved to its start, so a block has room for as many words as there are cells.
 pub fn fill(input: i32, block: &mut [u8], place: Place, cells: &mut [u64]) -> Filled
-    ensures { λ r. ⌜ Taken (slice (place .at) (place .end) (now (block .entry))) (now (block .exit)) (r .place .at) (r .place .end) (now (cells .entry)) (r .count) (now (cells .exit)) ⌝ }
+    ensures { λ r. ⌜ Taken (slice (place .at) (place .end) (now (block .entry))) (now (block .exit)) (r .place .at)
+        (r .place .end) (now (cells .entry)) (r .count) (now (cells .exit)) ⌝ }
 {
     let from = ready(input, block, place, cells.len());
     let at = from.at;

@@ -6,7 +6,8 @@ use Rattle.leaves.proofs.compare_all.Statement.{statement}
 use Rattle.leaves.proofs.compare_all.Tie as tie
 
 abbrev Inv-loop : tie.InvT-loop
-Inv-loop block₀ words₀ tally₀ place₀ turns₀ block words tally place turns = (length words ≡ length words₀) × (length block ≡ length block₀)
+Inv-loop block₀ words₀ tally₀ place₀ turns₀ block words tally place turns = (length words ≡ length words₀)
+    × (length block ≡ length block₀)
 
 abbrev μ-loop : tie.MeasureT-loop
 μ-loop block₀ words₀ tally₀ place₀ turns₀ block words tally place turns = turns

@@ -12,5 +12,9 @@ miss-spec =
     (tie.spec
     (λ c κs. search needs)  -- is-float-of-requires
     (λ c. ((λ z. c .before .is-float-of .ensures .yes (c .if1 .taken)), (λ e. refl)))  -- returns
-    (λ c. ((λ z. absurd (omega arith)), (λ e. absurd (true≢false (sym (c .before .is-float-of .ensures .no e) ∙ c .if1 .left)))))  -- returns-2
+    (λ c. (
+      (λ z. absurd (omega arith)),
+      (λ e. absurd
+          (true≢false (sym (c .before .is-float-of .ensures .no e) ∙ c .if1 .left))),
+    ))  -- returns-2
     )

@@ -12,6 +12,8 @@ record-agrees-spec =
     (λ c. search needs)  -- element-copy-out-if1
     (λ c κs. given-short (c .if1 .taken) (c .before .before .before .pre))  -- written-agrees-requires
     (λ c κs. given-long (c .if1 .left) (c .before .before .before .pre))  -- ruled-agrees-requires
-    (λ c. let s = given-short (c .before .if1 .taken) (c .before .before .before .before .pre) in was-written (s .form) (s .words) (c .written-agrees .ensures))  -- returns
-    (λ c. let s = given-long (c .before .if1 .left) (c .before .before .before .before .pre) in was-ruled (s .form) (s .words) (c .ruled-agrees .ensures))  -- returns-2
+    (λ c. let s = given-short (c .before .if1 .taken) (c .before .before .before .before .pre) in was-written
+    (s .form) (s .words) (c .written-agrees .ensures))  -- returns
+    (λ c. let s = given-long (c .before .if1 .left) (c .before .before .before .before .pre) in was-ruled (s .form)
+    (s .words) (c .ruled-agrees .ensures))  -- returns-2
     )

@@ -22,14 +22,19 @@ ran : (c : tie.After-known-told Inv-loop μ-loop)
     → let step = c .before .step .given .0 in
     let next = c .before .before .before .before .before in
     let at = next .before .before .before .loop in
-    RanNext (slice (at .place .at) (at .place .end) (at .block)) (next .run-next .last .0) (step .0) (step .1 .0) (step .1 .1 .0)
+    RanNext (slice (at .place .at) (at .place .end) (at .block)) (next .run-next .last .0) (step .0) (step .1 .0)
+    (step .1 .1 .0)
 ran c = rw (c .before .step .given .1) at (c .before .before .before .before .before .run-next .ensures)
 
 loop-again : tie.Need-loop-again Inv-loop μ-loop
 loop-again c =
     let told = c .before .before .before .before in
-    let at = told .before .before .before .before .before .before .before .before .loop in
-    (search needs, one-run (at .inv .1) (ran told) (told .before .before .before .before .before .before .before .loop-test .taken) (c .before .before .tally .ensures) (c .tally2 .ensures))
+    let at = told .before .before .before .before .before .before .before .before .loop in (
+      search needs,
+      one-run (at .inv .1) (ran told)
+          (told .before .before .before .before .before .before .before .loop-test .taken)
+          (c .before .before .tally .ensures) (c .tally2 .ensures),
+    )
 
 pub run-all-spec : {M : Type 1} → statement M
 run-all-spec =

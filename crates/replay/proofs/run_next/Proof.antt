@@ -9,7 +9,8 @@ returns-2 c =
     let rest = c .before .before in
     let else = rest .before .before .before .before in
     let fill = else .before .before .before .before .before in
-    read-on _ _ (rest .run-rest .last .1 .0) _ (rest .run-rest .result) (stood-all (fill .fill .ensures) (else .if1 .left)) (rest .run-rest .ensures)
+    read-on _ _ (rest .run-rest .last .1 .0) _ (rest .run-rest .result)
+    (stood-all (fill .fill .ensures) (else .if1 .left)) (rest .run-rest .ensures)
 
 pub run-next-spec : {M : Type 1} → statement M
 run-next-spec =

@@ -29,7 +29,9 @@ run-with-spec =
     (λ c. search needs)  -- same-length
     (λ c. search needs)  -- same-length-2
     (λ c. search needs)  -- returns
-    (λ c κs. let fill = c .before .before .before .before .before .before .before .before in rw (fill .fill .ensures .words .cells .long) (fill .before .before .before .before .before .pre))  -- record-agrees-requires
+    -- record-agrees-requires
+    (λ c κs. let fill = c .before .before .before .before .before .before .before .before in rw
+    (fill .fill .ensures .words .cells .long) (fill .before .before .before .before .before .pre))
     (λ c κs. search needs)  -- misses-requires
     (λ c. search needs)  -- element-copy-out-t18
     (λ c. search needs)  -- same-length-3

@@ -10,7 +10,8 @@ use Rattle.replay.proofs.with_rule.Tie as tie
 returns : tie.Need-returns
 returns c =
     let wrote = c .before .before .before .before in
-    cut (wrote .write-rule .ensures) (omega arith) ruled (λ i l. refl) 1 2 (omega arith) (omega arith) (omega arith) (c .parts-agree .ensures)
+    cut (wrote .write-rule .ensures) (omega arith) ruled (λ i l. refl) 1 2 (omega arith) (omega arith) (omega arith)
+    (c .parts-agree .ensures)
 
 pub with-rule-spec : {M : Type 1} → statement M
 with-rule-spec =

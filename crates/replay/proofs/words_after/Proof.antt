@@ -18,7 +18,11 @@ returns c l =
 returns-3 : tie.Need-returns-3
 returns-3 c l =
     let tested = c .before in
-    long (record { form = tested .before .if3 .taken; within = tested .is-within2 .ensures .yes (c .if4 .taken); words = search needs })
+    long (record {
+      form = tested .before .if3 .taken;
+      within = tested .is-within2 .ensures .yes (c .if4 .taken);
+      words = search needs;
+    })
 
 pub words-after-spec : {M : Type 1} → statement M
 words-after-spec =

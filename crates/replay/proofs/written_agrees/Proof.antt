@@ -1,4 +1,5 @@
--- `written_agrees` meets its contract: the words of the series come first, and then those of the cells. Assumes nothing.
+-- `written_agrees` meets its contract: the words of the series come first, and then those of the cells. Assumes
+-- nothing.
 use mathlib.Core.Path.{sym}
 use native.Mathlib.Omega.{arith}
 use borrow.Author.Needs.{needs}
@@ -12,7 +13,8 @@ returns : tie.Need-returns
 returns c =
     let wrote = c .before .before .before .before in
     let at-start = wrote .before .before .before .before .before .before .before in
-    cut-written (at-start .args .head .now) (at-start .args .words .now) (wrote .write-floats .ensures) (c .parts-agree .ensures)
+    cut-written (at-start .args .head .now) (at-start .args .words .now) (wrote .write-floats .ensures)
+    (c .parts-agree .ensures)
     (omega arith)
     (omega arith)
 

@@ -8,7 +8,18 @@ use lib.Ieee.{Float}
 use Rattle.replay_words.specs.declared.stream.Place.{Place}
 use Rattle.replay.specs.declared.Step.{Step}
 use Rattle.replay.specs.declared.Step.the-variants.{Run, Stop}
-use Rattle.replay_compare.specs.Head.{functionOf, formOf, firstOf, secondOf, thirdOf, workOf, barsOf, cellsOf, Within, Rooms}
+use Rattle.replay_compare.specs.Head.{
+  functionOf,
+  formOf,
+  firstOf,
+  secondOf,
+  thirdOf,
+  workOf,
+  barsOf,
+  cellsOf,
+  Within,
+  Rooms,
+}
 use Rattle.replay_compare.specs.Left.{untouched}
 use Rattle.replay_calls.specs.Compared.{Compared}
 use Rattle.replay.specs.Records.{Ran, Stood}

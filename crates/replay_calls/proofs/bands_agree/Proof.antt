@@ -10,16 +10,20 @@ returns c =
     let p = left .before .before .before .before .before in
     let x = p .before in
     let rooms = x .before .before .before .before .before .before .before .before .before .pre in
-    bands-compared 65537 (p .parameters-of .ensures) (x .float-of .ensures) (rooms .out) (rooms .upper) (rooms .lower) (left .bands-left .ensures)
+    bands-compared 65537 (p .parameters-of .ensures) (x .float-of .ensures) (rooms .out) (rooms .upper) (rooms .lower)
+    (left .bands-left .ensures)
 
 slice-middle : tie.Need-slice-aggregate-bands-left
-slice-middle c = part-long 65537 _ _ (c .before .before .before .before .before .before .before .before .before .before .before .pre .out)
+slice-middle c = part-long 65537 _ _ (c .before .before .before .before .before .before .before .before .before
+    .before .before .pre .out)
 
 slice-upper : tie.Need-slice-aggregate-bands-left-2
-slice-upper c = part-long 65537 _ _ (c .before .before .before .before .before .before .before .before .before .before .before .before .pre .upper)
+slice-upper c = part-long 65537 _ _ (c .before .before .before .before .before .before .before .before .before .before
+    .before .before .pre .upper)
 
 slice-lower : tie.Need-slice-aggregate-bands-left-3
-slice-lower c = part-long 65537 _ _ (c .before .before .before .before .before .before .before .before .before .before .before .before .before .pre .lower)
+slice-lower c = part-long 65537 _ _ (c .before .before .before .before .before .before .before .before .before .before
+    .before .before .before .pre .lower)
 
 pub bands-agree-spec : {M : Type 1} → statement M
 bands-agree-spec =
@@ -30,11 +34,14 @@ bands-agree-spec =
     (λ c. search needs)  -- element-copy-out-three
     (λ c κs. search needs)  -- float-of-requires
     (λ c κs. search needs)  -- parameters-of-requires
-    (λ c. c .before .before .before .before .before .before .before .before .before .before .pre .out)  -- array-borrow-prefix-middle
+    -- array-borrow-prefix-middle
+    (λ c. c .before .before .before .before .before .before .before .before .before .before .pre .out)
     slice-middle
-    (λ c. c .before .before .before .before .before .before .before .before .before .before .before .pre .upper)  -- array-borrow-prefix-upper
+    -- array-borrow-prefix-upper
+    (λ c. c .before .before .before .before .before .before .before .before .before .before .before .pre .upper)
     slice-upper
-    (λ c. c .before .before .before .before .before .before .before .before .before .before .before .before .pre .lower)  -- array-borrow-prefix-lower
+    -- array-borrow-prefix-lower
+    (λ c. c .before .before .before .before .before .before .before .before .before .before .before .before .pre .lower)
     slice-lower
     (λ c κs. tt)  -- bands-left-requires
     (λ c. search needs)  -- same-length

@@ -20,7 +20,8 @@ floats-agree-spec =
     (λ c κs. search needs)  -- float-of-requires
     (λ c κs. search needs)  -- parameters-of-requires
     (λ c. search needs)  -- array-borrow-prefix-out
-    (λ c. part-long 65537 _ _ (c .before .before .before .before .before .before .before .before .before .pre))  -- slice-aggregate-floats-left
+    -- slice-aggregate-floats-left
+    (λ c. part-long 65537 _ _ (c .before .before .before .before .before .before .before .before .before .pre))
     (λ c κs. search needs)  -- floats-left-requires
     (λ c. search needs)  -- same-length
     returns

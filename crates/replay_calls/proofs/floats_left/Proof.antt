@@ -12,7 +12,8 @@ returns c =
     record {
       answer = call .answer-floats .result;
       called = call .answer-floats .ensures;
-      decides = left-told _ _ _ _ _ (numbers .same-answer .ensures) (work .same-work .ensures) (c .same-floats .ensures);
+      decides = left-told _ _ _ _ _ (numbers .same-answer .ensures) (work .same-work .ensures)
+          (c .same-floats .ensures);
     }
 
 pub floats-left-spec : {M : Type 1} → statement M

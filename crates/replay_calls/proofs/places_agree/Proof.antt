@@ -8,7 +8,8 @@ returns : tie.Need-returns
 returns c g k =
     let left = c .before .before .before in
     let p = left .before .before .before in
-    places-compared 65537 g k (p .parameters-of .ensures) (p .before .before .before .before .before .pre) (left .places-left .ensures)
+    places-compared 65537 g k (p .parameters-of .ensures) (p .before .before .before .before .before .pre)
+    (left .places-left .ensures)
 
 pub places-agree-spec : {M : Type 1} → statement M
 places-agree-spec =

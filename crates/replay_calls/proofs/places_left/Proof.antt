@@ -12,7 +12,8 @@ returns c =
     record {
       answer = call .answer-places .result;
       called = call .answer-places .ensures;
-      decides = left-told _ _ _ _ _ (numbers .same-answer .ensures) (work .same-work .ensures) (c .same-places .ensures);
+      decides = left-told _ _ _ _ _ (numbers .same-answer .ensures) (work .same-work .ensures)
+          (c .same-places .ensures);
     }
 
 pub places-left-spec : {M : Type 1} → statement M

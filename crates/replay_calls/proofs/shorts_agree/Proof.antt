@@ -8,7 +8,8 @@ returns : tie.Need-returns
 returns c g k =
     let left = c .before .before .before in
     let p = left .before .before .before in
-    shorts-compared 65537 g k (p .parameters-of .ensures) (p .before .before .before .before .before .pre) (left .shorts-left .ensures)
+    shorts-compared 65537 g k (p .parameters-of .ensures) (p .before .before .before .before .before .pre)
+    (left .shorts-left .ensures)
 
 pub shorts-agree-spec : {M : Type 1} → statement M
 shorts-agree-spec =

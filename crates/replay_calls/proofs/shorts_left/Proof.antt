@@ -12,7 +12,8 @@ returns c =
     record {
       answer = call .answer-shorts .result;
       called = call .answer-shorts .ensures;
-      decides = left-told _ _ _ _ _ (numbers .same-answer .ensures) (work .same-work .ensures) (c .same-shorts .ensures);
+      decides = left-told _ _ _ _ _ (numbers .same-answer .ensures) (work .same-work .ensures)
+          (c .same-shorts .ensures);
     }
 
 pub shorts-left-spec : {M : Type 1} → statement M

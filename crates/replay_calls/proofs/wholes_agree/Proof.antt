@@ -8,7 +8,8 @@ returns : tie.Need-returns
 returns c g k work =
     let left = c .before in
     let p = left .before .before in
-    wholes-compared 65537 g k work (p .parameters-of .ensures) (p .before .before .before .before .pre) (left .wholes-left .ensures)
+    wholes-compared 65537 g k work (p .parameters-of .ensures) (p .before .before .before .before .pre)
+    (left .wholes-left .ensures)
 
 pub wholes-agree-spec : {M : Type 1} → statement M
 wholes-agree-spec =

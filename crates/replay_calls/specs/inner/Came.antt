@@ -7,7 +7,8 @@ use Rattle.calls.specs.declared.Answer.{Answer}
 use Rattle.replay_words.specs.Decides.{Decides}
 use Rattle.replay_compare.specs.Left.{Left}
 
--- a call whose contract is P left cells with the words `told` and this work slice, and `same` says whether that was recorded
+-- a call whose contract is P left cells with the words `told` and this work slice, and `same` says whether that was
+-- recorded
 pub record Came (P : Answer → Type 0) (h recorded told : List ℕ) (work : List Float) (same : Bool) : Type 0 where
   pub answer : Answer
   pub called : P answer

@@ -10,7 +10,9 @@ all-same-spec =
     tie.close
     (tie.spec
     (λ c κs. search needs)  -- first-word-requires
-    (λ c l p. by-rule l _ _ (c .before .before .if1 .taken) (by-digest p (c .before .first-word .ensures) (equal _ _)))  -- returns
-    (λ c l p. written-out l _ _ (c .before .before .if1 .left) (by-words p (c .before .if2 .taken) (equal _ _)))  -- returns-2
+    -- returns
+    (λ c l p. by-rule l _ _ (c .before .before .if1 .taken) (by-digest p (c .before .first-word .ensures) (equal _ _)))
+    -- returns-2
+    (λ c l p. written-out l _ _ (c .before .before .if1 .left) (by-words p (c .before .if2 .taken) (equal _ _)))
     (λ c l p. written-out l _ _ (c .before .if1 .left) (no-words p (c .if2 .left)))  -- returns-3
     )

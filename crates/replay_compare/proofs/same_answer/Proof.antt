@@ -9,7 +9,11 @@ returns-3 : tie.Need-returns-3
 returns-3 c =
     let counted = c .before .before in
     let first = counted .before in
-    holds (sym (first .before .before .refusal-of .ensures) ∙ first .if1 .left, sym (counted .count-of .ensures) ∙ c .if2 .left)
+    holds (
+      sym (first .before .before .refusal-of .ensures) ∙ first .if1 .left,
+      sym (counted .count-of .ensures)
+          ∙ c .if2 .left,
+    )
 
 pub same-answer-spec : {M : Type 1} → statement M
 same-answer-spec =

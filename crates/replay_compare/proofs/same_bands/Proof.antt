@@ -10,7 +10,8 @@ returns c =
     let two = three .before in
     let one = two .before in
     let none = one .before .no-cell .ensures _ in
-    let all = three .see-floats3 .ensures .more _ (two .see-floats2 .ensures .more _ (one .see-floats .ensures .more [] none)) in
+    let all = three .see-floats3 .ensures .more _
+    (two .see-floats2 .ensures .more _ (one .see-floats .ensures .more [] none)) in
     c .all-same .ensures _ all
 
 pub same-bands-spec : {M : Type 1} → statement M

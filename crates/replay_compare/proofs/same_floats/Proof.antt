@@ -11,5 +11,6 @@ same-floats-spec =
     (λ c κs. search needs)  -- no-cell-requires
     (λ c κs. search needs)  -- see-floats-requires
     (λ c κs. search needs)  -- all-same-requires
-    (λ c. c .all-same .ensures _ (c .before .see-floats .ensures .more [] (c .before .before .no-cell .ensures _)))  -- returns
+    -- returns
+    (λ c. c .all-same .ensures _ (c .before .see-floats .ensures .more [] (c .before .before .no-cell .ensures _)))
     )

@@ -11,5 +11,6 @@ same-wholes-spec =
     (λ c κs. search needs)  -- no-cell-requires
     (λ c κs. search needs)  -- see-wholes-requires
     (λ c κs. search needs)  -- all-same-requires
-    (λ c. c .all-same .ensures _ (c .before .see-wholes .ensures .more [] (c .before .before .no-cell .ensures _)))  -- returns
+    -- returns
+    (λ c. c .all-same .ensures _ (c .before .see-wholes .ensures .more [] (c .before .before .no-cell .ensures _)))
     )

@@ -21,8 +21,11 @@ abbrev μ-loop : tie.MeasureT-loop
 loop-again : tie.Need-loop-again Inv-loop μ-loop
 loop-again c =
     let tested = c .before .is-float-of .ensures .yes (c .if1 .taken) in
-    let word = c .before .before .work-word .ensures in
-    (search needs, one-agrees (c .before .before .before .before .before .loop .inv .1) (tested ∙ ap (ofBits binary64) word))
+    let word = c .before .before .work-word .ensures in (
+      search needs,
+      one-agrees (c .before .before .before .before .before .loop .inv .1)
+          (tested ∙ ap (ofBits binary64) word),
+    )
 
 returns : tie.Need-returns Inv-loop μ-loop
 returns c =

@@ -22,7 +22,10 @@ see-spec =
     (λ c. search needs)  -- shared-slice-read-if3
     (λ c. search needs)  -- add-t13
     returns
-    (λ c l p. word-differs _ l _ p _ (c .before .before .before .before .digest-with .ensures) (λ t h g. c .if3 .left g) refl refl)  -- returns-2
-    (λ c l p. word-differs _ l _ p _ (c .before .before .digest-with .ensures) (λ t h g. omega (arith, h, c .if2 .left)) refl refl)  -- returns-3
-    (λ c l p. word-differs _ l _ p _ (c .before .digest-with .ensures) (λ t h g. true≢false (sym t ∙ c .if1 .left)) refl refl)  -- returns-4
+    (λ c l p. word-differs _ l _ p _ (c .before .before .before .before .digest-with .ensures)
+    (λ t h g. c .if3 .left g) refl refl)  -- returns-2
+    (λ c l p. word-differs _ l _ p _ (c .before .before .digest-with .ensures)
+    (λ t h g. omega (arith, h, c .if2 .left)) refl refl)  -- returns-3
+    (λ c l p. word-differs _ l _ p _ (c .before .digest-with .ensures) (λ t h g. true≢false (sym t ∙ c .if1 .left))
+    refl refl)  -- returns-4
     )

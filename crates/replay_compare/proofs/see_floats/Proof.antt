@@ -28,6 +28,10 @@ see-floats-spec =
     (λ c κs. search needs)  -- see-requires
     (λ c. search needs)  -- add-i
     (λ c. search needs)  -- loop-less
-    (λ c. (omega arith, one-shown nan (c .before .before .before .before .loop .inv .1) (omega arith) (c .before .word-of .ensures) (c .see .ensures)))  -- loop-again
+    (λ c. (
+      omega arith,
+      one-shown nan (c .before .before .before .before .loop .inv .1) (omega arith)
+          (c .before .word-of .ensures) (c .see .ensures),
+    ))  -- loop-again
     (λ c. all-shown (c .before .loop .inv .1) (omega arith))  -- returns
     )

@@ -26,6 +26,7 @@ see-places-spec =
     (λ c κs. search needs)  -- see-requires
     (λ c. search needs)  -- add-i
     (λ c. search needs)  -- loop-less
-    (λ c. (omega arith, one-shown 0 (c .before .before .before .loop .inv .1) (omega arith) refl (c .see .ensures)))  -- loop-again
+    -- loop-again
+    (λ c. (omega arith, one-shown 0 (c .before .before .before .loop .inv .1) (omega arith) refl (c .see .ensures)))
     (λ c. all-shown (c .before .loop .inv .1) (omega arith))  -- returns
     )

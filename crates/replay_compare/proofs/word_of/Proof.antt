@@ -22,7 +22,8 @@ positive c = not-below (c .before .args .whole) (c .before .fits .whole) (rw (re
 cast-result : tie.Need-cast-result
 cast-result c =
     let b = negative c in
-    rw (read (c .before), b .less, toZ-ofZ w64 (pos (b .size)) (small-fits (b .size) (b .small))) (tt, record { fits = omega arith })
+    rw (read (c .before), b .less, toZ-ofZ w64 (pos (b .size)) (small-fits (b .size) (b .small)))
+    (tt, record { fits = omega arith })
 
 sub-result-2 : tie.Need-sub-result-2
 sub-result-2 c =

@@ -29,7 +29,8 @@ write-floats-spec =
     (λ c. search needs)  -- slice-write-cells
     (λ c. search needs)  -- add-i
     (λ c. search needs)  -- loop-less
-    (λ c. (search needs, one-more (c .before .before .before .loop .inv .1) (c .float-of .ensures) (omega arith)))  -- loop-again
+    -- loop-again
+    (λ c. (search needs, one-more (c .before .before .before .loop .inv .1) (c .float-of .ensures) (omega arith)))
     (λ c. search needs)  -- same-length
     (λ c. ends (c .before .loop .inv .1) (omega arith))  -- returns
     )

@@ -19,10 +19,15 @@ small c = room (c .before .before .before .before .loop .inv .1) (c .before .bef
 returns : tie.Need-returns Inv-loop μ-loop
 returns c =
     let in-loop = c .before .before .before in
-    not-read _ _ (in-loop .before .loop .i) (in-loop .loop-test .taken) (rw (c .before .digit .ensures) at (c .if1 .taken))
+    not-read _ _ (in-loop .before .loop .i) (in-loop .loop-test .taken)
+    (rw (c .before .digit .ensures) at (c .if1 .taken))
 
 loop-again : tie.Need-loop-again Inv-loop μ-loop
-loop-again c = (search needs, one-read (c .before .before .before .before .loop .inv .1) (c .before .digit .ensures) (omega arith))
+loop-again c = (
+  search needs,
+  one-read (c .before .before .before .before .loop .inv .1) (c .before .digit .ensures)
+      (omega arith),
+)
 
 pub number-at-spec : {M : Type 1} → statement M
 number-at-spec =

@@ -1,4 +1,5 @@
--- `word_at` meets its contract: the text is long enough, the word has its end, and its digits are read. Assumes nothing.
+-- `word_at` meets its contract: the text is long enough, the word has its end, and its digits are read. Assumes
+-- nothing.
 use mathlib.Core.Path.{sym, _∙_}
 use native.Mathlib.Omega.{arith}
 use borrow.Author.Needs.{needs}
@@ -17,7 +18,8 @@ returns-3 : tie.Need-returns-3
 returns-3 c =
     let at-end = c .before .before in
     let args = at-end .before .before .before .before .before .args in
-    c .number-at .ensures ∙ has-end (now (args .text)) (args .at) (omega arith) (sym (at-end .is-end .ensures) ∙ c .before .if3 .taken)
+    c .number-at .ensures ∙ has-end (now (args .text)) (args .at) (omega arith)
+    (sym (at-end .is-end .ensures) ∙ c .before .if3 .taken)
 
 returns-4 : tie.Need-returns-4
 returns-4 c =

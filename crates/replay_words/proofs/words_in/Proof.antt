@@ -1,4 +1,5 @@
--- `words_in` meets its contract: the words before `count` stand in the cells, and the loop leaves at the first that is missing. Assumes nothing.
+-- `words_in` meets its contract: the words before `count` stand in the cells, and the loop leaves at the first that
+-- is missing. Assumes nothing.
 use mathlib.Core.Path.{sym, ap, _∙_}
 use Prim.Native.Nat.{_-_, _≤_}
 use native.Mathlib.Omega.{arith}
@@ -12,7 +13,8 @@ use Rattle.replay_words.proofs.words_in.Statement.{statement}
 use Rattle.replay_words.proofs.words_in.Tie as tie
 
 abbrev Inv-loop : tie.InvT-loop
-Inv-loop text cells₀ count₀ cells count = (count ≤ length cells₀) × Counting text (length cells₀) count × Writing count (numbers text) cells₀ cells
+Inv-loop text cells₀ count₀ cells count = (count ≤ length cells₀) × Counting text (length cells₀) count
+    × Writing count (numbers text) cells₀ cells
 
 abbrev μ-loop : tie.MeasureT-loop
 μ-loop text cells₀ count₀ cells count = length cells₀ - count
@@ -21,7 +23,11 @@ returns : tie.Need-returns Inv-loop μ-loop
 returns c =
     let read = c .before .before in
     let at = read .before .before .loop in
-    record { count = none-left (at .inv .1) (sym (c .enum-told .given .1) ∙ read .word-at .ensures) (omega arith); cells = at .inv .2; most = at .inv .0 }
+    record {
+      count = none-left (at .inv .1) (sym (c .enum-told .given .1) ∙ read .word-at .ensures) (omega arith);
+      cells = at .inv .2;
+      most = at .inv .0;
+    }
 
 loop-again : tie.Need-loop-again Inv-loop μ-loop
 loop-again c =

@@ -27,8 +27,8 @@ bitsOf Missing = 0
 abbrev pub numbers : List ℕ → ℕ → ℕ
 numbers s i = bitsOf (wordAt s (17 * i))
 
--- the first k cells are the words that stand one after the other from the text's start on, as many as there are or as there are cells;
--- the other cells are as before. `most` follows from `count`, and stands here for callers
+-- the first k cells are the words that stand one after the other from the text's start on, as many as there are or as
+-- there are cells; the other cells are as before. `most` follows from `count`, and stands here for callers
 pub record Words (s old : List ℕ) (k : ℕ) (now : List ℕ) : Type 0 where
   pub count : k ≡ wordsFrom s 0 (length old)
   pub cells : Writing k (numbers s) old now

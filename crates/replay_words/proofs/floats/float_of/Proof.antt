@@ -9,7 +9,8 @@ use Rattle.replay_words.proofs.floats.float_of.Statement.{statement}
 use Rattle.replay_words.proofs.floats.float_of.Tie as tie
 
 float-from-bits-result : tie.Need-float-from-bits-result
-float-from-bits-result c = subst (λ (t : Bool). T (not t)) (sym (sym (c .before .is-nan-pattern .ensures) ∙ c .if1 .left)) tt
+float-from-bits-result c = subst (λ (t : Bool). T (not t))
+    (sym (sym (c .before .is-nan-pattern .ensures) ∙ c .if1 .left)) tt
 
 zero-by-zero : div binary64 (ofBits binary64 0) (ofBits binary64 0) ≡ nan
 unfolding ofBits div

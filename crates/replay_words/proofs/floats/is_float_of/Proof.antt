@@ -12,12 +12,14 @@ number : (c : tie.Else1) → isNan (c .before .before .args .x) ≡ false
 number c = sym (c .before .is-nan .ensures) ∙ c .if1 .left
 
 returns : tie.Need-returns
-returns c = rw (c .is-nan-pattern .ensures) (told-nan _ _ (sym (c .before .before .is-nan .ensures) ∙ c .before .if1 .taken))
+returns c = rw (c .is-nan-pattern .ensures)
+    (told-nan _ _ (sym (c .before .before .is-nan .ensures) ∙ c .before .if1 .taken))
 
 returns-2 : tie.Need-returns-2
 returns-2 c =
     let at-start = c .before .before in
-    told-number (at-start .args .x) (at-start .args .bits) (subst T (sym (at-start .good .0 .1)) tt) (number c) (at-start .fits .bits .fits)
+    told-number (at-start .args .x) (at-start .args .bits) (subst T (sym (at-start .good .0 .1)) tt) (number c)
+    (at-start .fits .bits .fits)
 
 pub is-float-of-spec : {M : Type 1} → statement M
 is-float-of-spec =

@@ -1,4 +1,5 @@
--- `is_nan_pattern` meets its contract: without the sign, the NaNs' patterns are those above infinity's. Assumes nothing.
+-- `is_nan_pattern` meets its contract: without the sign, the NaNs' patterns are those above infinity's. Assumes
+-- nothing.
 use mathlib.Core.Path.{sym}
 use lib.Ieee.{binary64}
 use lib.Ieee.Bits.{nanBits-above}

@@ -1,4 +1,5 @@
--- `stream::fill` meets its contract: the block is made ready, and the words are read where its bytes begin. Assumes nothing.
+-- `stream::fill` meets its contract: the block is made ready, and the words are read where its bytes begin. Assumes
+-- nothing.
 use Prim.Native.Nat.{_+_, _*_, _≤_}
 use borrow.Author.Needs.{needs}
 use Rattle.replay_words.proofs.Blocks.{used-fits, taken}

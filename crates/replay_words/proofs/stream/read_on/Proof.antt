@@ -1,4 +1,5 @@
--- `stream::read_on` meets its contract: the bytes that were not used are at the front, and what was read stands behind them. Assumes nothing.
+-- `stream::read_on` meets its contract: the bytes that were not used are at the front, and what was read stands
+-- behind them. Assumes nothing.
 use native.Mathlib.Omega.{arith}
 use borrow.Author.Needs.{needs}
 use lib.Seq.{take-at}
@@ -11,7 +12,8 @@ returns c =
     let read = c .before .before in
     let keep = read .before .before .before .before in
     let kept = keep .keep .ensures in
-    read-behind kept (omega arith) (read .read-full .result) (take-at _ _ _ (front-long kept (omega arith))) (omega arith)
+    read-behind kept (omega arith) (read .read-full .result) (take-at _ _ _ (front-long kept (omega arith)))
+    (omega arith)
 
 pub read-on-spec : {M : Type 1} → statement M
 read-on-spec =

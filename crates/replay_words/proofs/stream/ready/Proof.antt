@@ -1,4 +1,5 @@
--- `stream::ready` meets its contract: numbers past the end of the block mean its end, and then it is read on or left as it was. Assumes nothing.
+-- `stream::ready` meets its contract: numbers past the end of the block mean its end, and then it is read on or left
+-- as it was. Assumes nothing.
 use native.Mathlib.Omega.{arith}
 use borrow.Author.Needs.{needs}
 use denote.Ref.{now}
@@ -17,7 +18,8 @@ returns-2 : tie.Need-returns-2
 returns-2 c =
     let within = c .before in
     let a = within .before .before .args in
-    rw (← same-part (now (a .block)) (a .place .at) (a .place .end) (within .within .ensures)) (as-it-was _ _ _ (omega arith))
+    rw (← same-part (now (a .block)) (a .place .at) (a .place .end) (within .within .ensures))
+    (as-it-was _ _ _ (omega arith))
 
 pub ready-spec : {M : Type 1} → statement M
 ready-spec =
