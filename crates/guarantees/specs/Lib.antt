@@ -1,4 +1,4 @@
--- What a user gets, as theorems about the definitions that the contracts cite. Each statement stands under one
+-- What a user gets, as theorems about the definitions that the contracts cite.
 pub mod FromC
 pub mod Leaves
 pub mod NoLookAhead
@@ -6,3 +6,4 @@ pub mod OnTicks
 pub mod Positions
 pub mod Series
 pub mod Starred
+pub mod WholeCells

@@ -1,5 +1,5 @@
--- Positions: every cell of an answered call of the sheet's rules is +1.0, -1.0 or +0.0, and so none is a NaN. Assumes
--- nothing.
+-- Positions: every cell of an answered call of the sheet's rules is +1.0, -1.0 or +0.0, and so none is a NaN; ranks
+-- lie from -1 to 1. Assumes nothing.
 use mathlib.Core.Path.{_≡_, refl, sym}
 use mathlib.Core.Logic.{_⊎_, inl, inr}
 use mathlib.Core.Bool.{Bool, true, false, cond, _||_}
@@ -8,7 +8,7 @@ use Prim.Native.Nat.{ℕ, _-_, _*_, _^_, _<_, _≤_}
 use native.Mathlib.Nat.{le-refl}
 use native.Mathlib.Omega.{arith}
 use lib.ListN.{length, getD}
-use lib.Ieee.{Float, nan, binary64, add, sub, div, eq, isNan}
+use lib.Ieee.{Float, nan, binary64, add, sub, div, eq, le, isNan}
 use Rattle.rounding.specs.Leaves.{one, plusOne, minusOne, signOf, two}
 use Rattle.calls.specs.declared.Answer.the-variants.{Cells}
 use Rattle.values.specs.Accepted.{accepted}
@@ -31,6 +31,8 @@ use Rattle.exact_ticks.proofs.Bounds.{
 use Rattle.rules_double.proofs.Bounds.{running-mean-bounded}
 use Rattle.rules_middle.proofs.Ticks.{two-is}
 use Rattle.calls.proofs.Cells.{bar, cell-at}
+use Rattle.rules_rank.specs.Rank.{RankCall}
+use Rattle.rules_rank.proofs.Bounds.{rank-within}
 
 -- long, short or flat
 abbrev pub Position : Float → Type 0
@@ -128,3 +130,11 @@ module _ (n : ℕ) (s : List Float) {out₀ out₁ : List Float} {k : ℕ} where
         let M = b .each .0 .narrow in
         rw (b .cell) (mid-position (line s) i (prices-bounded s i (b .values) (b .inside)) n (b .each .0 .some)
         (omega arith))
+
+    -- Rank: a number from -1 to 1, and so no NaN, for a window of 2 bars or more.
+    pub rank-writes-shares : 2 ≤ n → RankCall s n out₀ work₀ (Cells k) out₁ work₁ → (i : ℕ) → i < k
+        → (le minusOne (getD out₁ i nan) ≡ true) × (le (getD out₁ i nan) plusOne ≡ true)
+    rank-writes-shares h c i l =
+        let b = bar nan accepted s (n ∷ []) (length work₀ ∷ []) (c .call) i l in
+        let within = rank-within n (line s) i h (b .each .0 .narrow) in
+        rw (b .cell) (within .least, within .most)
