@@ -5,7 +5,8 @@ use Prim.Native.Nat.{ℕ, zero, suc, _+_, _-_, _*_, _/_, _%_, _^_, _<_, compare}
 use native.Mathlib.Nat.{zero-add, add-zero, sub-zero, zero-mul, mul-pos, zero-div}
 use native.Mathlib.Omega.{arith}
 use lib.IntN.{ℤ, pos}
-use lib.Ieee.{Float, nan, inf, fin, binary64, add, mul, sum, round, units, odd, size, nearest, prec, emax, low, lt, up, down, toBits}
+use lib.Ieee.{Float, nan, inf, fin, binary64, add, mul, lt, toBits}
+use lib.Ieee.{sum, round, units, odd, size, nearest, prec, emax, low, up, down}
 use lib.Dec.{eqb, ltb}
 use lib.Ieee.Fits.{up-pos}
 use borrow.Author.Tests.{lt-ltb}
@@ -19,7 +20,8 @@ abbrev pub EitherZero : Float → Type 0
 EitherZero x = add binary64 minusZero x ≡ add binary64 plusZero x
 
 -- from the first cell on two sums are the same, and so they stay
-pub sums-from-either : (f : Line) (a k : ℕ) → 0 < k → EitherZero (f a) → sumFrom minusZero f a k ≡ sumFrom plusZero f a k
+pub sums-from-either : (f : Line) (a k : ℕ) → 0 < k → EitherZero (f a)
+    → sumFrom minusZero f a k ≡ sumFrom plusZero f a k
 unfolding sumFrom
 sums-from-either f a zero h e = absurd (omega arith)
 sums-from-either f a (suc zero) h e = rw (add-zero, e)
