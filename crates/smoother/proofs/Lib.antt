@@ -1,1 +1,2 @@
 pub mod Smoother
+pub mod WarmUp

@@ -57,13 +57,13 @@ copied {f = f} c w h = writing-same w (λ i l. smooth-first c f i (omega arith))
 -- ---- NaN
 
 -- An input that is NaN makes the cell NaN, and so does a cell before it that is.
-nan-last : (x : Float) → add binary64 x nan ≡ nan
+pub nan-last : (x : Float) → add binary64 x nan ≡ nan
 unfolding add
 nan-last nan = refl
 nan-last (inf s) = refl
 nan-last (fin s m e) = refl
 
-nan-factor : (x : Float) → mul binary64 x nan ≡ nan
+pub nan-factor : (x : Float) → mul binary64 x nan ≡ nan
 unfolding mul
 nan-factor nan = refl
 nan-factor (inf s) = refl

@@ -1,0 +1,3 @@
+-- Two lines beside a middle line.
+pub mod OuterLines
+pub mod inner
