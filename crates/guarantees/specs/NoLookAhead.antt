@@ -31,7 +31,7 @@ use Rattle.smoother_table.specs.Period.{wholePart}
 use Rattle.smoother.specs.Smoother.{smootherAnswer, UltimateSmootherCall}
 use Rattle.smoother.proofs.Smoother.{causal-smooth}
 use Rattle.true_range.specs.TrueRange.{TrueRangeCall}
-use Rattle.true_range.proofs.TrueRange.{causal-range}
+use Rattle.true_range.proofs.TrueRange.{Causal₃, causal-given, causal-ranges}
 use Rattle.rules_single.specs.Single.{SingleCall}
 use Rattle.rules_single.proofs.Single.{causal-single}
 use Rattle.rules_double.specs.Double.{doubleAnswer, DoubleCall}
@@ -197,20 +197,31 @@ pub tick-mean-no-look-ahead : {s t : List Float} {out₀ out₁ out₀′ out₁
     → EqualCells (pos 0) out₁ out₁′ b
 tick-mean-no-look-ahead equal n = windows-agree (pos 0) tick equal (n ∷ []) [] [] (λ w. causal-tick-mean n)
 
--- true range, whose three series must each have equal bars
+-- ---- three series, each with equal bars
+
+module _ {high low close high′ low′ close′ : List Float} {b : ℕ} (h : EqualBars high high′ b) (l : EqualBars low low′ b)
+    (e : EqualBars close close′ b) {F : Line → Line → Line → Line} {due due′ : Answer}
+    {out₀ out₁ out₀′ out₁′ : List Float} where
+  -- whatever is asked, where there is room for the cells
+  three-agree : Causal₃ F → length high ≤ length out₀ → length high′ ≤ length out₀′
+      → Call due (F (line high) (line low) (line close)) out₀ (Cells (length high)) out₁
+      → Call due′ (F (line high′) (line low′) (line close′)) out₀′ (Cells (length high′)) out₁′
+      → EqualCells nan out₁ out₁′ b
+  three-agree causal room room′ c c′ j m =
+      let p = h .left in
+      let q = h .right in
+      cell-at nan c room j (omega arith)
+      ∙ causal _ _ _ _ _ _ j (λ i k. h .same i (omega arith)) (λ i k. l .same i (omega arith))
+      (λ i k. e .same i (omega arith))
+      ∙ sym (cell-at nan c′ room′ j (omega arith))
+
+-- true range
 pub true-range-no-look-ahead : {high low before high′ low′ before′ out₀ out₁ out₀′ out₁′ : List Float} {b : ℕ}
     → EqualBars high high′ b → EqualBars low low′ b → EqualBars before before′ b
     → TrueRangeCall high low before out₀ (Cells (length high)) out₁
     → TrueRangeCall high′ low′ before′ out₀′ (Cells (length high′)) out₁′
     → EqualCells nan out₁ out₁′ b
-true-range-no-look-ahead {high} {low} {before} {high′} {low′} {before′} {out₀} {out₀′ = out₀′} {b = b} h l e c c′ j m =
-    let p = h .left in
-    let q = h .right in
-    let room = checked-three-room accepted high low before (length out₀) [] (length high)
-    (sym (c .answer)) .0 .out-long in
-    let room′ = checked-three-room accepted high′ low′ before′ (length out₀′) [] (length high′)
-    (sym (c′ .answer)) .0 .out-long in
-    cell-at nan c room j (omega arith)
-    ∙ causal-range (line high) (line high′) (line low) (line low′) (line before) (line before′) j
-    (λ i k. h .same i (omega arith)) (λ i k. l .same i (omega arith)) (λ i k. e .same i (omega arith))
-    ∙ sym (cell-at nan c′ room′ j (omega arith))
+true-range-no-look-ahead h l e c c′ =
+    let room = checked-three-room accepted _ _ _ _ [] _ (sym (c .answer)) .0 .out-long in
+    let room′ = checked-three-room accepted _ _ _ _ [] _ (sym (c′ .answer)) .0 .out-long in
+    three-agree h l e (causal-ranges causal-given) room room′ c c′

@@ -1,5 +1,5 @@
--- Small cases, computed from the definitions: which numbers are periods, answers, cells that pure.rs gave, and true
--- ranges by hand. Assumes nothing.
+-- Small cases, computed from the definitions: which numbers are periods, answers, and cells that pure.rs gave. Assumes
+-- nothing.
 use mathlib.Core.Path.{_≡_, refl}
 use mathlib.Core.Bool.{true, false}
 use mathlib.Core.List.{List, [], _∷_, map}
@@ -13,12 +13,10 @@ use Rattle.values.specs.Accepted.{accepted, finite}
 use Rattle.calls.specs.Answer.{slices, checked}
 use Rattle.cells.specs.Line.{Line, line, plusZero, minusZero}
 use Rattle.cells.specs.Written.{written}
-use Rattle.rounding.specs.Leaves.{magnitudeOf}
 use Rattle.smoother_table.specs.Recorded.{a1Bits, b1Bits}
 use Rattle.smoother_table.specs.Coefficients.{a1Table, b1Table, a1Of, b1Of, ofPair, coefficients}
 use Rattle.smoother_table.specs.Period.{isPeriod}
 use Rattle.smoother.specs.Smoother.{formula, smooth, smootherAnswer}
-use Rattle.true_range.specs.TrueRange.{trueRange, trueRangeLine}
 
 abbrev num : ℕ → Float
 num k = ofInt binary64 (pos k)
@@ -70,13 +68,3 @@ smoother-cases : (cells 7 (smooth (coefficients 1) (line prices))
     × (cells 5 (smooth (coefficients 0) (line prices)) ≡ num 1 ∷ num 2 ∷ num 4 ∷ num 8 ∷ nan ∷ [])
 unfolding smooth formula coefficients ofPair a1Of b1Of a1Table b1Table a1Bits b1Bits ofBits ofInt neg add sub mul div
 smoother-cases = (refl, refl, refl, refl)
-
--- bar 0 does not look at its close; then the low is farthest from the close before, the high is, all are equal, and
--- the bar itself is longest
-range-cases : cells 5 (trueRangeLine
-    (line (num 5 ∷ num 5 ∷ num 10 ∷ num 3 ∷ num 7 ∷ []))
-    (line (num 3 ∷ num 3 ∷ num 8 ∷ num 3 ∷ num 2 ∷ []))
-    (line (num 9 ∷ num 9 ∷ num 5 ∷ num 3 ∷ num 4 ∷ [])))
-    ≡ num 2 ∷ num 6 ∷ num 5 ∷ num 0 ∷ num 5 ∷ []
-unfolding trueRangeLine trueRange magnitudeOf ofInt sub add neg lt
-range-cases = refl

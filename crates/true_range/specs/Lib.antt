@@ -1,3 +1,4 @@
 -- True range.
+pub mod Cases
 pub mod TrueRange
 pub mod inner

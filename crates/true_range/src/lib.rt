@@ -4,55 +4,78 @@ ghost use mathlib.Core.Path.{_≡_};
 ghost use mathlib.Core.List.{[]};
 ghost use Prim.Native.Nat.{_<_};
 ghost use lib.ListN.{length};
+ghost use Rattle.cells.specs.Line.{line};
 ghost use Rattle.checks.specs.inner.Three.{Three};
-ghost use Rattle.true_range.specs.TrueRange.{trueRange, TrueRangeCall};
-ghost use Rattle.true_range.specs.inner.Ranging.{Ranging};
+ghost use Rattle.true_range.specs.TrueRange.{trueRange, givenBefore, closeBefore, TrueRangeCall};
+ghost use Rattle.true_range.specs.inner.Ranging.{Ranged};
 
-// The true range of a bar, from the close before it.
-pub fn range_of(high: f64, low: f64, before: f64) -> f64
+// The close before a bar.
+pub enum CloseBefore {
+    Unknown,
+    Known(f64),
+}
+
+// The true range of a bar.
+pub fn range_of(high: f64, low: f64, before: CloseBefore) -> f64
     ensures { λ r. ⌜ r ≡ trueRange high low before ⌝ }
 {
-    let above = rounding::magnitude(high - before);
-    let below = rounding::magnitude(low - before);
+    let CloseBefore::Known(close) = before else {
+        return high - low;
+    };
+    let above = rounding::magnitude(high - close);
+    let below = rounding::magnitude(low - close);
     extremes::larger_of(extremes::larger_of(high - low, above), below)
 }
 
-// Writes the cell of bar 0, which has no close before it.
-fn write_first(high: &[f64], low: &[f64], close_prev: &[f64], out: &mut [f64])
-    requires { ⌜ (0 < length (now high)) × Three (now high) (now low) (now «close_prev») (length (now out)) [] ⌝ }
-    ensures { λ _. ⌜ Ranging 1 (now (high .entry)) (now (low .entry)) (now («close_prev» .entry)) (now (out .entry))
-        (now (out .exit)) ⌝ }
+// The close before bar i, which stands at the bar itself.
+pub fn given_before(before: &[f64], i: usize) -> CloseBefore
+    requires { ⌜ i < length (now before) ⌝ }
+    ensures { λ r. ⌜ r ≡ givenBefore (line (now (before .entry))) i ⌝ }
 {
-    out[0] = high[0] - low[0];
+    if i == 0 {
+        return CloseBefore::Unknown;
+    }
+    CloseBefore::Known(before[i])
 }
 
-// Writes the cells after bar 0, where that one stands.
-fn write_rest(high: &[f64], low: &[f64], close_prev: &[f64], out: &mut [f64])
-    requires { ⌜ (0 < length (now high)) × Three (now high) (now low) (now «close_prev») (length (now out)) [] ⌝ }
-    requires { ⌜ Ranging 1 (now high) (now low) (now «close_prev») (now out) (now out) ⌝ }
-    ensures { λ _. ⌜ Ranging (length (now (high .entry))) (now (high .entry)) (now (low .entry))
-        (now («close_prev» .entry)) (now (out .entry)) (now (out .exit)) ⌝ }
+// The close before bar i, which stands at the bar before.
+pub fn close_before(close: &[f64], i: usize) -> CloseBefore
+    requires { ⌜ i < length (now close) ⌝ }
+    ensures { λ r. ⌜ r ≡ closeBefore (line (now (close .entry))) i ⌝ }
 {
-    let mut i = 1;
+    if i == 0 {
+        return CloseBefore::Unknown;
+    }
+    CloseBefore::Known(close[i - 1])
+}
+
+// Writes the true range of every bar, with the close before at the bar itself.
+fn write_true_range(high: &[f64], low: &[f64], close_prev: &[f64], out: &mut [f64])
+    requires { ⌜ Three (now high) (now low) (now «close_prev») (length (now out)) [] ⌝ }
+    ensures { λ _. ⌜ Ranged (now (high .entry)) (now (low .entry)) (givenBefore (line (now («close_prev» .entry))))
+        (now (out .entry)) (now (out .exit)) ⌝ }
+{
+    let mut i = 0;
     while i < high.len() {
-        out[i] = range_of(high[i], low[i], close_prev[i]);
+        out[i] = range_of(high[i], low[i], given_before(close_prev, i));
         i += 1;
     }
 }
 
-// Writes the true range of every bar.
-pub fn write_true_range(high: &[f64], low: &[f64], close_prev: &[f64], out: &mut [f64])
-    requires { ⌜ Three (now high) (now low) (now «close_prev») (length (now out)) [] ⌝ }
-    ensures { λ _. ⌜ Ranging (length (now (high .entry))) (now (high .entry)) (now (low .entry))
-        (now («close_prev» .entry)) (now (out .entry)) (now (out .exit)) ⌝ }
+// The same with the closes of the bars themselves.
+pub fn write_ranges(high: &[f64], low: &[f64], close: &[f64], out: &mut [f64])
+    requires { ⌜ Three (now high) (now low) (now close) (length (now out)) [] ⌝ }
+    ensures { λ _. ⌜ Ranged (now (high .entry)) (now (low .entry)) (closeBefore (line (now (close .entry))))
+        (now (out .entry)) (now (out .exit)) ⌝ }
 {
-    if high.len() > 0 {
-        write_first(high, low, close_prev, out);
-        write_rest(high, low, close_prev, out);
+    let mut i = 0;
+    while i < high.len() {
+        out[i] = range_of(high[i], low[i], close_before(close, i));
+        i += 1;
     }
 }
 
-// True range: see `trueRangeLine`.
+// True range: see `trueRanges`.
 pub fn true_range(high: &[f64], low: &[f64], close_prev: &[f64], out: &mut [f64]) -> Answer
     ensures { λ r. ⌜ TrueRangeCall (now (high .entry)) (now (low .entry)) (now («close_prev» .entry))
         (now (out .entry)) r (now (out .exit)) ⌝ }

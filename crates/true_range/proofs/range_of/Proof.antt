@@ -4,25 +4,33 @@ use Rattle.true_range.specs.TrueRange.{trueRange}
 use Rattle.true_range.proofs.range_of.Statement.{statement}
 use Rattle.true_range.proofs.range_of.Tie as tie
 
-returns : tie.Need-returns
+enum-told : tie.Need-enum-told
+enum-told c = search needs
+
+returns-2 : tie.Need-returns-2
 unfolding trueRange
-returns c =
+returns-2 c =
     let at-first = c .before in
     let at-below = at-first .before in
+    let at-above = at-below .before in
     rw (
+      at-above .before .before .before2 .given .1,
       c .larger-of2 .ensures,
       at-first .larger-of .ensures,
       at-below .magnitude2 .ensures,
-      at-below .before .magnitude .ensures,
+      at-above .magnitude .ensures,
     )
 
 pub range-of-spec : {M : Type 1} → statement M
 range-of-spec =
     tie.close
     (tie.spec
+    (λ c. search needs)  -- enum-known-before
+    enum-told
+    (λ c. unfold trueRange in rw (c .enum-told .given .1))  -- returns
     (λ c κs. search needs)  -- magnitude-requires
     (λ c κs. search needs)  -- magnitude-requires-2
     (λ c κs. search needs)  -- larger-of-requires
     (λ c κs. search needs)  -- larger-of-requires-2
-    returns
+    returns-2
     )

@@ -1,23 +1,47 @@
--- `write_true_range` meets its contract: bar 0, and then the rest. Assumes nothing.
+-- `write_true_range` meets its contract: each turn writes the true range of its bar. Assumes nothing.
+use Prim.Native.Nat.{_-_, _≤_}
 use native.Mathlib.Omega.{arith}
+use lib.ListN.{length}
 use borrow.Author.Needs.{needs}
-use Rattle.cells.proofs.Written.{none-written, ends, stands, then-written}
+use Rattle.cells.specs.Line.{line}
+use Rattle.cells.specs.Written.{Writing}
+use Rattle.cells.proofs.Written.{none-written, one-more, ends}
+use Rattle.true_range.specs.TrueRange.{trueRanges, givenBefore}
+use Rattle.true_range.proofs.TrueRange.{range-at}
 use Rattle.true_range.proofs.write_true_range.Statement.{statement}
 use Rattle.true_range.proofs.write_true_range.Tie as tie
 
-returns : tie.Need-returns
-returns c =
-    let at-rest = c .before .before in
-    let at-first = at-rest .before .before .before .before in
-    then-written (at-first .write-first .ensures) (at-rest .write-rest .ensures) (omega arith)
+abbrev Inv-loop : tie.InvT-loop
+Inv-loop high low close-prev out₀ i₀ out i = (i ≤ length high) × Writing i (trueRanges (line high) (line low) (givenBefore (line close-prev))) out₀ out
+
+abbrev μ-loop : tie.MeasureT-loop
+μ-loop high low close-prev out₀ i₀ out i = length high - i
+
+loop-again : tie.Need-loop-again Inv-loop μ-loop
+loop-again c =
+    let told = c .before in
+    let at = told .before .before .before .before .loop in
+    let cell = range-at _ _ _ (at .i) (c .range-of .ensures) (told .given-before .ensures) in
+    (omega arith, one-more (at .inv .1) cell (omega arith))
 
 pub write-true-range-spec : {M : Type 1} → statement M
 write-true-range-spec =
     tie.close
     (tie.spec
-    (λ c κs. search needs)  -- write-first-requires
-    (λ c κs. (search needs, stands (c .before .before .before .write-first .ensures)))  -- write-rest-requires
+    Inv-loop
+    μ-loop
+    (λ c. (search needs, none-written))  -- loop-holds
+    (λ c. search needs)  -- mul-range-of
+    (λ c. search needs)  -- shared-slice-read-range-of
+    (λ c. search needs)  -- mul-range-of-2
+    (λ c. search needs)  -- shared-slice-read-range-of-2
+    (λ c κs. search needs)  -- given-before-requires
+    (λ c κs. search needs)  -- range-of-requires
+    (λ c. search needs)  -- mul-out
+    (λ c. search needs)  -- slice-write-out
+    (λ c. search needs)  -- add-i
+    (λ c. search needs)  -- loop-less
+    loop-again
     (λ c. search needs)  -- same-length
-    returns
-    (λ c. ends none-written (omega arith))  -- returns-2
+    (λ c. ends (c .before .loop .inv .1) (omega arith))  -- returns
     )
