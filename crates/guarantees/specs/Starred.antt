@@ -56,41 +56,30 @@ minusOne = ofInt binary64 (negsuc 0)
 abbrev pub threeHalves : Float
 threeHalves = fin false 3 (negsuc 0)
 
+abbrev pub oneHalf : Float
+oneHalf = fin false 1 (negsuc 0)
+
+-- a function, its series, and the cells that it is to write, one for each bar
+abbrev star : Function → List ℕ → List Cell → Case
+star f s c = record { function = f; series = s; answer = Cells (length s); cells = c }
+
+-- a whole number as an f64 cell
+abbrev float : ℕ → Cell
+float k = number (num k)
+
+-- in document 01's order
 abbrev pub table : List Case
 table =
-    record {
-      function = sma 2;
-      series = 1 ∷ 2 ∷ 4 ∷ [];
-      answer = Cells 3;
-      cells = number nan ∷ number threeHalves
-          ∷ number (num 3) ∷ [];
-    }
-    ∷ record {
-      function = double 1 2;
-      series = 10 ∷ 12 ∷ 12 ∷ 11 ∷ [];
-      answer = Cells 4;
-      cells = number (num 0) ∷ number (num 1) ∷ number (num 1) ∷ number minusOne ∷ [];
-    }
-    ∷ record {
-      function = oneAverage 2;
-      series = 1 ∷ 3 ∷ 5 ∷ [];
-      answer = Cells 3;
-      cells = number (num 0)
-          ∷ number (num 0) ∷ number (num 1) ∷ [];
-    }
-    ∷ record {
-      function = ema 3;
-      series = 2 ∷ 4 ∷ 6 ∷ 10 ∷ [];
-      answer = Cells 4;
-      cells = number nan ∷ number nan ∷ number (num 4) ∷ number (num 7) ∷ [];
-    }
-    ∷ record {
-      function = tickMean 2;
-      series = 2 ∷ 3 ∷ [];
-      answer = Cells 2;
-      cells = ticks (pos 0) ∷ ticks (pos 3)
-          ∷ [];
-    }
+    star (sma 2) (1 ∷ 2 ∷ 4 ∷ []) (number nan ∷ number threeHalves ∷ float 3 ∷ [])
+    ∷ star (double 1 2) (10 ∷ 12 ∷ 12 ∷ 11 ∷ []) (float 0 ∷ float 1 ∷ float 1 ∷ number minusOne ∷ [])
+    ∷ star (oneAverage 2) (1 ∷ 3 ∷ 5 ∷ []) (float 0 ∷ float 0 ∷ float 1 ∷ [])
+    ∷ star (rank 2) (1 ∷ 2 ∷ 3 ∷ []) (float 0 ∷ float 0 ∷ float 1 ∷ [])
+    ∷ star (rank 1) (5 ∷ []) (number nan ∷ [])
+    ∷ star (rollingRank 2) (3 ∷ 1 ∷ 2 ∷ []) (ticks (pos 0) ∷ ticks (pos 1) ∷ ticks (pos 2) ∷ [])
+    ∷ star (mms 1 2) (1 ∷ 3 ∷ 2 ∷ []) (float 0 ∷ float 1 ∷ number minusOne ∷ [])
+    ∷ star (bollReverse 2 oneHalf) (4 ∷ 4 ∷ 8 ∷ []) (ticks (pos 0) ∷ ticks (pos 0) ∷ ticks (negsuc 0) ∷ [])
+    ∷ star (ema 3) (2 ∷ 4 ∷ 6 ∷ 10 ∷ []) (number nan ∷ number nan ∷ float 4 ∷ float 7 ∷ [])
+    ∷ star (tickMean 2) (2 ∷ 3 ∷ []) (ticks (pos 0) ∷ ticks (pos 3) ∷ [])
     ∷ []
 
 -- what the definitions answer and write, where the slices are just long enough
