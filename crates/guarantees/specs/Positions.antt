@@ -1,10 +1,10 @@
--- Positions: every cell of an answered call of the sheet's rules is +1.0, -1.0 or +0.0, and so none is a NaN; ranks
--- lie from -1 to 1. Assumes nothing.
+-- Positions: every cell of an answered call of the sheet's rules and of the exponential rule is +1.0, -1.0 or +0.0, and
+-- so none is a NaN; the min-max rule's cells and ranks lie from -1 to 1. Assumes nothing.
 use mathlib.Core.Path.{_≡_, refl, sym}
 use mathlib.Core.Logic.{_⊎_, inl, inr}
 use mathlib.Core.Bool.{Bool, true, false, cond, _||_}
 use mathlib.Core.List.{List, [], _∷_}
-use Prim.Native.Nat.{ℕ, _-_, _*_, _^_, _<_, _≤_}
+use Prim.Native.Nat.{ℕ, _+_, _-_, _*_, _^_, _<_, _≤_}
 use native.Mathlib.Nat.{le-refl}
 use native.Mathlib.Omega.{arith}
 use lib.ListN.{length, getD}
@@ -31,6 +31,10 @@ use Rattle.exact_ticks.proofs.Bounds.{
 use Rattle.rules_double.proofs.Bounds.{running-mean-bounded}
 use Rattle.rules_middle.proofs.Ticks.{two-is}
 use Rattle.calls.proofs.Cells.{bar, cell-at}
+use Rattle.rules_ema.specs.SingleEma.{firstUsable, singleEmaFrom, singleEmaLine, SingleEmaCall}
+use Rattle.rules_ema.proofs.Bounds.{gap-bounded}
+use Rattle.rules_mms.specs.Mms.{MmsCall}
+use Rattle.rules_mms.proofs.Within.{mms-within}
 use Rattle.rules_rank.specs.Rank.{RankCall}
 use Rattle.rules_rank.proofs.Bounds.{rank-within}
 
@@ -96,7 +100,18 @@ module _ (f : Line) (i : ℕ) (h : Bounded (2 ^ 30) f i) where
       from-bar-holds Position (2 * n - 2) _ i (inr (inr refl))
       (λ k. flat-or (eq high plusZero || eq low plusZero) _ (sign-position gap))
 
+  ema-position : (l n : ℕ) → 0 < n → n ≤ 2 ^ 12 → i < 2 ^ 16 → Position (singleEmaLine l n f i)
+  unfolding singleEmaLine singleEmaFrom
+  ema-position l n N M L =
+      let start = firstUsable l (mean n f) + (n - 1) in
+      from-bar-holds Position start _ i (inr (inr refl))
+      (λ k. sign-position (gap-bounded n f i (N, M) h start k L))
+
 -- ---- the statements
+
+-- a number from -1 to 1, and so no NaN
+abbrev pub FromMinusOneToOne : Float → Type 0
+FromMinusOneToOne x = (le minusOne x ≡ true) × (le x plusOne ≡ true)
 
 module _ (n : ℕ) (s : List Float) {out₀ out₁ : List Float} {k : ℕ} where
   -- Double: each of its cells is a position.
@@ -131,9 +146,29 @@ module _ (n : ℕ) (s : List Float) {out₀ out₁ : List Float} {k : ℕ} where
         rw (b .cell) (mid-position (line s) i (prices-bounded s i (b .values) (b .inside)) n (b .each .0 .some)
         (omega arith))
 
-    -- Rank: a number from -1 to 1, and so no NaN, for a window of 2 bars or more.
+    -- Exponential: likewise.
+    pub single-ema-writes-positions : SingleEmaCall s n out₀ work₀ (Cells k) out₁ work₁ → (i : ℕ) → i < k
+        → Position (getD out₁ i nan)
+    single-ema-writes-positions c i h =
+        let b = bar nan accepted s (n ∷ []) (length work₀ ∷ []) (c .call) i h in
+        let M = b .each .0 .narrow in
+        rw (b .cell) (ema-position (line s) i (prices-bounded s i (b .values) (b .inside)) (length s) n (b .each .0 .some)
+        (omega arith) (let l = b .inside in let u = b .short in omega arith))
+
+    -- Min-max: a number from -1 to 1.
+    pub mms-writes-shares : (w : ℕ) → MmsCall s n w out₀ work₀ (Cells k) out₁ work₁ → (i : ℕ) → i < k
+        → FromMinusOneToOne (getD out₁ i nan)
+    mms-writes-shares w c i h =
+        let b = bar nan accepted s (n ∷ w ∷ []) (length work₀ ∷ []) (c .call) i h in
+        let M = b .each .0 .narrow in
+        let W = b .each .1 .0 .narrow in
+        let within = mms-within n w (line s) i (prices-bounded s i (b .values) (b .inside)) (b .each .0 .some, omega arith)
+        (b .each .1 .0 .some, omega arith) in
+        rw (b .cell) (within .least, within .most)
+
+    -- Rank: likewise, for a window of 2 bars or more.
     pub rank-writes-shares : 2 ≤ n → RankCall s n out₀ work₀ (Cells k) out₁ work₁ → (i : ℕ) → i < k
-        → (le minusOne (getD out₁ i nan) ≡ true) × (le (getD out₁ i nan) plusOne ≡ true)
+        → FromMinusOneToOne (getD out₁ i nan)
     rank-writes-shares h c i l =
         let b = bar nan accepted s (n ∷ []) (length work₀ ∷ []) (c .call) i l in
         let within = rank-within n (line s) i h (b .each .0 .narrow) in

@@ -1,3 +1,5 @@
+pub mod Compared
 pub mod Enclosed
 pub mod Outward
 pub mod Rounded
+pub mod Within

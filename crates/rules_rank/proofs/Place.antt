@@ -18,9 +18,9 @@ use Rattle.cells.proofs.Line.{from-bar}
 use Rattle.ranks.specs.Counted.{countFrom}
 use Rattle.rules_rank.specs.RollingRank.{near, wellBelow, rollingRankLine}
 use Rattle.rules_rank.specs.Sorted.{cellsFrom, Rearranged, none, keep, swap, then, ascending, next, placeOf}
+use Rattle.rounding_order.proofs.Compared.{either-way}
+use Rattle.rounding_order.proofs.Enclosed.{neither-way}
 use Rattle.rules_rank.proofs.Distances.{
-  either-way,
-  neither-way,
   number,
   self,
   below-with,
