@@ -152,8 +152,8 @@ module _ (n : ℕ) (s : List Float) {out₀ out₁ : List Float} {k : ℕ} where
     single-ema-writes-positions c i h =
         let b = bar nan accepted s (n ∷ []) (length work₀ ∷ []) (c .call) i h in
         let M = b .each .0 .narrow in
-        rw (b .cell) (ema-position (line s) i (prices-bounded s i (b .values) (b .inside)) (length s) n (b .each .0 .some)
-        (omega arith) (let l = b .inside in let u = b .short in omega arith))
+        rw (b .cell) (ema-position (line s) i (prices-bounded s i (b .values) (b .inside)) (length s) n
+        (b .each .0 .some) (omega arith) (let l = b .inside in let u = b .short in omega arith))
 
     -- Min-max: a number from -1 to 1.
     pub mms-writes-shares : (w : ℕ) → MmsCall s n w out₀ work₀ (Cells k) out₁ work₁ → (i : ℕ) → i < k
@@ -162,8 +162,8 @@ module _ (n : ℕ) (s : List Float) {out₀ out₁ : List Float} {k : ℕ} where
         let b = bar nan accepted s (n ∷ w ∷ []) (length work₀ ∷ []) (c .call) i h in
         let M = b .each .0 .narrow in
         let W = b .each .1 .0 .narrow in
-        let within = mms-within n w (line s) i (prices-bounded s i (b .values) (b .inside)) (b .each .0 .some, omega arith)
-        (b .each .1 .0 .some, omega arith) in
+        let within = mms-within n w (line s) i (prices-bounded s i (b .values) (b .inside))
+        (b .each .0 .some, omega arith) (b .each .1 .0 .some, omega arith) in
         rw (b .cell) (within .least, within .most)
 
     -- Rank: likewise, for a window of 2 bars or more.

@@ -1,6 +1,5 @@
 -- single_ema_positions: the price against the exponential average of its means, as TA-Lib's EMA takes it from a first
--- bar on. That bar is
--- searched for among all bars, so it may look ahead. Assumes nothing.
+-- bar on. That bar is searched for among all bars, so it may look ahead. Assumes nothing.
 use mathlib.Core.Bool.{cond}
 use mathlib.Core.List.{List, [], _∷_}
 use Prim.Native.Nat.{ℕ, _+_, _-_}

@@ -1,5 +1,5 @@
--- Every cell of `mms_positions` is a number from -1 to 1: the mean lies between the lowest and the highest, and rounding
--- keeps that order. Assumes nothing.
+-- Every cell of `mms_positions` is a number from -1 to 1: the mean lies between the lowest and the highest, and
+-- rounding keeps that order. Assumes nothing.
 use mathlib.Core.Path.{_≡_, refl, sym, ap, subst, _∙_}
 use mathlib.Core.Bool.{Bool, true, false, not, cond, false≢true, true≢false}
 use Prim.Native.Nat.{ℕ, zero, suc, _+_, _-_, _*_, _^_, _<_, _≤_}
@@ -79,8 +79,8 @@ module _ {x : Float} (w : Within false 1 1 x) where
   moved =
       let a = twice .count in
       let c = twice .parts in
-      rw (sub-at (mul binary64 x two) plusOne false a false c c (twice .some) (twice .value) (refl, omega arith) binary64)
-      (go (ltb a c) refl)
+      rw (sub-at (mul binary64 x two) plusOne false a false c c (twice .some) (twice .value) (refl, omega arith)
+      binary64) (go (ltb a c) refl)
     where
       go : (t : Bool) → ltb (twice .count) (twice .parts) ≡ t
           → FromMinusOneToOne (cond t (round binary64 true (twice .parts - twice .count) (twice .parts))
@@ -167,7 +167,8 @@ less-itself : (x : Float) {b : ℕ} → AtMost b x → sub binary64 x x ≡ plus
 unfolding sub neg add
 less-itself x p =
     let g = p .place in
-    rw (p .is) (nothing-left (p .sign) (p .digits * up g * down g) (down g * down g) (mul-pos (down-pos g) (down-pos g)))
+    rw (p .is) (nothing-left (p .sign) (p .digits * up g * down g) (down g * down g)
+    (mul-pos (down-pos g) (down-pos g)))
 
 module _ (average high low : Float) (m : AtMost (2 ^ 30) average) (h : AtMost (2 ^ 30) high)
     (l : AtMost (2 ^ 30) low) where
