@@ -1,0 +1,49 @@
+-- No look-ahead of the passes: the line is causal once it is known which of them copy. Assumes nothing.
+use mathlib.Core.Path.{_≡_}
+use mathlib.Core.Bool.{Bool, true, false}
+use Prim.Native.Nat.{ℕ, suc, _-_, _/_}
+use native.Mathlib.Nat.{le-refl}
+use native.Mathlib.Omega.{arith}
+use lib.Ieee.{Float, nan}
+use Rattle.cells.specs.Line.{plusZero, Causal}
+use Rattle.cells.specs.Search.{nonZero, firstBar}
+use Rattle.cells.proofs.Line.{causal-then, causal-from}
+use Rattle.cells.proofs.Carried.{carried-same}
+use Rattle.cells.proofs.Search.{firstBar-same}
+use Rattle.changes.proofs.Causal.{causal-change}
+use Rattle.averages_exponential.specs.Blend.{blend}
+use Rattle.averages_exponential.specs.Ema.{emaAlpha}
+use Rattle.jurik.specs.Jurik.{averaged, copied, passed, isNumber, swings, once, twice, leaned, jurikWith}
+
+module _ (usable : Float → Bool) (none : Float) where
+  pub causal-averaged : (alpha : Float) → Causal (averaged usable none alpha)
+  unfolding averaged
+  causal-averaged alpha f g b s =
+      let a = firstBar (λ j. usable (g j)) (suc b) in
+      rw (firstBar-same (λ j. usable (f j)) (λ j. usable (g j)) (suc b) (λ j l. rw (s j (omega arith))))
+      (carried-same none (blend alpha) a (f a) (g a) f g b (λ l. s a l) s)
+
+  pub causal-copied : Causal (copied usable none)
+  unfolding copied
+  causal-copied f g b s = rw (s b (le-refl b))
+
+  pub causal-passed : (alpha : Float) (copy : Bool) → Causal (passed usable none alpha copy)
+  causal-passed alpha true = causal-copied
+  causal-passed alpha false = causal-averaged alpha
+
+pub causal-swings : Causal swings
+unfolding swings
+causal-swings = causal-from 1 nan (λ f g b s l. rw (causal-change plusZero f g b s))
+
+pub causal-leaned : (power : Float) → Causal (leaned power)
+unfolding leaned
+causal-leaned power = causal-from 2 plusZero (λ f g b s l. rw (s b (omega arith), s (b - 1) (omega arith)))
+
+-- three times averaged, three times copied, or any of the others
+pub causal-jurik-with : (first second third : Bool) (n : ℕ) (power : Float) → Causal (jurikWith first second third n power)
+unfolding jurikWith twice once
+causal-jurik-with first second third n power =
+    let half = emaAlpha (n / 2) in
+    causal-then (causal-then (causal-then (causal-then causal-swings (causal-passed isNumber nan half first))
+    (causal-passed isNumber nan half second)) (causal-leaned power))
+    (causal-passed nonZero plusZero (emaAlpha (n / 3)) third)

@@ -1,0 +1,58 @@
+-- `write_passes` meets its contract: the stages one after the other in the output. Assumes nothing.
+use Prim.Native.Nat.{_/_}
+use native.Mathlib.Omega.{arith}
+use borrow.Author.Needs.{needs}
+use denote.Ref.{now}
+use lib.ListN.{length}
+use lib.Ieee.{nan, ofBits}
+use Rattle.cells.specs.Line.{plusZero}
+use Rattle.cells.specs.Search.{nonZero}
+use Rattle.windows.proofs.Window.{count-is-float}
+use Rattle.averages_exponential.specs.Ema.{emaAlpha}
+use Rattle.jurik.specs.Jurik.{isNumber, once, twice, leaned, jurikWith, jurikLine}
+use Rattle.jurik.specs.inner.Passes.{tested}
+use Rattle.jurik.proofs.Causal.{causal-leaned}
+use Rattle.jurik.proofs.Stages.{next-stage, local-causal, local-tested}
+use Rattle.jurik.proofs.write_passes.Statement.{statement}
+use Rattle.jurik.proofs.write_passes.Tie as tie
+
+returns : tie.Need-returns
+unfolding jurikLine jurikWith once twice ofBits
+returns c =
+    let fourth = c .before .before in
+    let third = fourth .before .before .before .before in
+    let second = third .before .before .before .before in
+    let first = second .before .before .before .before in
+    let swings = first .before .before .before .before in
+    let none = swings .before .before .before .before in
+    let a = none .before .before .before .args in
+    let l = length (now (a .close)) in
+    let half = emaAlpha (a .n / 2) in
+    let numbers = tested isNumber nan half l in
+    let locally = local-tested isNumber nan half l in
+    let is-nan = none .no-number .ensures in
+    let one = next-stage numbers locally (swings .write-swings .ensures) (rw is-nan at (first .pass .ensures))
+    (omega arith) in
+    let two = next-stage numbers locally one (rw is-nan at (second .pass2 .ensures)) (omega arith) in
+    let leant = next-stage (leaned (a .power)) (local-causal l (causal-leaned (a .power))) two (third .lean-on .ensures)
+    (omega arith) in
+    next-stage (tested nonZero plusZero (emaAlpha (a .n / 3)) l) (local-tested _ _ _ l) leant (fourth .pass3 .ensures)
+    (omega arith)
+
+pub write-passes-spec : {M : Type 1} → statement M
+write-passes-spec =
+    tie.close
+    (tie.spec
+    (λ c κs. search needs)  -- no-number-requires
+    (λ c. search needs)  -- add-half
+    (λ c. count-is-float _ (omega arith))  -- int-to-float-half
+    (λ c. search needs)  -- add-third
+    (λ c. count-is-float _ (omega arith))  -- int-to-float-third
+    (λ c κs. search needs)  -- write-swings-requires
+    (λ c κs. search needs)  -- pass-requires
+    (λ c κs. search needs)  -- pass-requires-2
+    (λ c κs. search needs)  -- lean-on-requires
+    (λ c κs. search needs)  -- pass-requires-3
+    (λ c. search needs)  -- same-length
+    returns
+    )

@@ -1,0 +1,4 @@
+-- The volatility smoothed three times.
+pub mod Cases
+pub mod Jurik
+pub mod inner

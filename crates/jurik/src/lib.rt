@@ -1,0 +1,227 @@
+// The volatility of a series: the sizes of its changes, smoothed three times.
+use calls::Answer;
+use calls::Refusal;
+ghost use mathlib.Core.Path.{_≡_};
+ghost use Prim.Native.Nat.{_<_, _≤_};
+ghost use lib.Dec.{ltb};
+ghost use lib.ListN.{length};
+ghost use lib.Ieee.{nan};
+ghost use Rattle.cells.specs.Line.{line};
+ghost use Rattle.cells.specs.Search.{firstBar};
+ghost use Rattle.cells.specs.Written.{Writing};
+ghost use Rattle.cells.specs.Recur.{carried};
+ghost use Rattle.averages_exponential.specs.Blend.{blend};
+ghost use Rattle.jurik.specs.Jurik.{
+  copied,
+  firstDiffering,
+  swings,
+  lean,
+  leaned,
+  jurikLine,
+  jurikAnswer,
+  JurikCall,
+};
+ghost use Rattle.jurik.specs.inner.Passes.{usableBy, differs, tested, leanAt, Ready};
+
+// Writes the size of each change, NaN at bar 0.
+fn write_swings(close: &[f64], out: &mut [f64])
+    requires { ⌜ length (now close) ≤ length (now out) ⌝ }
+    ensures { λ _. ⌜ Writing (length (now (close .entry))) (swings (line (now (close .entry)))) (now (out .entry))
+        (now (out .exit)) ⌝ }
+{
+    let mut i = averages::fill_nan(out, 1, close.len());
+    while i < close.len() {
+        out[i] = rounding::magnitude(changes::change_at(close, i));
+        i += 1;
+    }
+}
+
+// Whether a pass takes x: a value other than 0, or a number.
+fn usable(not_zero: bool, x: f64) -> bool
+    ensures { λ r. ⌜ r ≡ usableBy «not_zero» x ⌝ }
+{
+    if not_zero {
+        return x != 0.0;
+    }
+    x == x
+}
+
+// The first bar with a usable value that is not equal to x, or the end.
+fn first_differing(cells: &[f64], bars: usize, not_zero: bool, x: f64) -> usize
+    requires { ⌜ bars ≤ length (now cells) ⌝ }
+    ensures { λ r. ⌜ r ≡ firstBar (λ j. differs (usableBy «not_zero») x (line (now (cells .entry)) j)) bars ⌝ }
+{
+    let mut i = 0;
+    while i < bars {
+        if usable(not_zero, cells[i]) & (cells[i] != x) {
+            return i;
+        }
+        i += 1;
+    }
+    i
+}
+
+// No number.
+fn no_number() -> f64
+    ensures { λ r. ⌜ r ≡ nan ⌝ }
+{
+    0.0 / 0.0
+}
+
+// The first bar with a usable value, or the end: nothing is equal to a NaN.
+fn first_usable(cells: &[f64], bars: usize, not_zero: bool) -> usize
+    requires { ⌜ bars ≤ length (now cells) ⌝ }
+    ensures { λ r. ⌜ r ≡ firstBar (λ j. usableBy «not_zero» (line (now (cells .entry)) j)) bars ⌝ }
+{
+    first_differing(cells, bars, not_zero, no_number())
+}
+
+// Whether usable values differ: `first` is the bar of the first one, or the end.
+fn unlike(cells: &[f64], bars: usize, not_zero: bool, first: usize) -> bool
+    requires { ⌜ (bars ≤ length (now cells))
+        × (first ≡ firstBar (λ j. usableBy «not_zero» (line (now cells) j)) bars) ⌝ }
+    ensures { λ r. ⌜ r ≡ ltb (firstDiffering (usableBy «not_zero») bars (line (now (cells .entry)))) bars ⌝ }
+{
+    if first < bars {
+        first_differing(cells, bars, not_zero, cells[first]) < bars
+    } else {
+        false
+    }
+}
+
+// x where it is usable, else `none`.
+fn kept(not_zero: bool, none: f64, x: f64) -> f64
+    ensures { λ r. ⌜ r ≡ copied (usableBy «not_zero») none (λ i. x) 0 ⌝ }
+{
+    if usable(not_zero, x) { x } else { none }
+}
+
+// Writes `none` over the values that are not usable.
+fn keep_usable(cells: &mut [f64], bars: usize, not_zero: bool, none: f64)
+    requires { ⌜ bars ≤ length (now cells) ⌝ }
+    ensures { λ _. ⌜ Writing bars (copied (usableBy «not_zero») none (line (now (cells .entry)))) (now (cells .entry))
+        (now (cells .exit)) ⌝ }
+{
+    let mut i = 0;
+    while i < bars {
+        cells[i] = kept(not_zero, none, cells[i]);
+        i += 1;
+    }
+}
+
+// Writes over each value the average from bar `first` on, and `none` before it.
+fn average_from(cells: &mut [f64], bars: usize, first: usize, none: f64, alpha: f64)
+    requires { ⌜ (first < bars) × (bars ≤ length (now cells)) ⌝ }
+    ensures { λ _. ⌜ Writing bars (carried none (blend alpha) first (line (now (cells .entry)) first)
+        (line (now (cells .entry)))) (now (cells .entry)) (now (cells .exit)) ⌝ }
+{
+    cells::fill(cells, first, none);
+    let mut last = cells[first];
+    let mut i = first;
+    while i + 1 < bars {
+        cells[i] = last;
+        i += 1;
+        last = averages_exponential::blended(alpha, last, cells[i]);
+    }
+    cells[i] = last;
+}
+
+// A pass over the first bars: the average, or the usable values as they are where all of them are equal.
+fn pass(cells: &mut [f64], bars: usize, not_zero: bool, none: f64, alpha: f64)
+    requires { ⌜ bars ≤ length (now cells) ⌝ }
+    ensures { λ _. ⌜ Writing bars (tested (usableBy «not_zero») none alpha bars (line (now (cells .entry))))
+        (now (cells .entry)) (now (cells .exit)) ⌝ }
+{
+    let first = first_usable(cells, bars, not_zero);
+    if unlike(cells, bars, not_zero, first) {
+        average_from(cells, bars, first, none, alpha);
+    } else {
+        keep_usable(cells, bars, not_zero, none);
+    }
+}
+
+// (x + (x - last) * 0.5) * power, and 0.0 where one of the two is no number.
+fn leaned_by(power: f64, last: f64, x: f64) -> f64
+    ensures { λ r. ⌜ r ≡ lean power last x ⌝ }
+{
+    if (x == x) & (last == last) {
+        (x + (x - last) * 0.5) * power
+    } else {
+        0.0
+    }
+}
+
+// That cell from bar 2 on, and 0.0 before.
+fn leaned_at(i: usize, power: f64, last: f64, x: f64) -> f64
+    ensures { λ r. ⌜ r ≡ leanAt i power last x ⌝ }
+{
+    if i < 2 {
+        0.0
+    } else {
+        leaned_by(power, last, x)
+    }
+}
+
+// Writes over each value that of itself and the one before it.
+fn lean_on(cells: &mut [f64], bars: usize, power: f64)
+    requires { ⌜ bars ≤ length (now cells) ⌝ }
+    ensures { λ _. ⌜ Writing bars (leaned power (line (now (cells .entry)))) (now (cells .entry)) (now (cells .exit)) ⌝ }
+{
+    let mut last = 0.0;
+    let mut i = 0;
+    while i < bars {
+        let x = cells[i];
+        cells[i] = leaned_at(i, power, last, x);
+        last = x;
+        i += 1;
+    }
+}
+
+// Writes the cells pass by pass.
+fn write_passes(close: &[f64], n: usize, power: f64, out: &mut [f64])
+    requires { ⌜ Ready n (length (now close)) (length (now out)) ⌝ }
+    ensures { λ _. ⌜ Writing (length (now (close .entry)))
+        (jurikLine (length (now (close .entry))) n power (line (now (close .entry)))) (now (out .entry))
+        (now (out .exit)) ⌝ }
+{
+    let bars = close.len();
+    let none = no_number();
+    let half = 2.0 / ((n / 2 + 1) as f64);
+    let third = 2.0 / ((n / 3 + 1) as f64);
+    write_swings(close, out);
+    pass(out, bars, false, none, half);
+    pass(out, bars, false, none, half);
+    lean_on(out, bars, power);
+    pass(out, bars, true, 0.0, third);
+}
+
+// The answer of a call: refusal 6 for the power comes after the series' own refusals, and before those of the window.
+fn answer_jurik(close: &[f64], n: usize, power: f64, out: usize, work: usize) -> Answer
+    ensures { λ r. ⌜ r ≡ jurikAnswer (now (close .entry)) n power out work ⌝ }
+{
+    let due = checks::check_with_work(close, out, work);
+    let bars = close.len();
+    let window = checks::check_window(bars, n, Answer::Cells(bars));
+    let finite = values::is_finite(power);
+    let next = checks::unless_refused(finite, Refusal::ParameterNotFinite, window);
+    checks::and_then(due, next)
+}
+
+// The volatility smoothed three times: see `jurikLine`.
+pub fn jurik_volty(
+    close: &[f64],
+    period: usize,
+    power: f64,
+    out: &mut [f64],
+    work: &mut [f64],
+) -> Answer
+    ensures { λ r. ⌜ JurikCall (now (close .entry)) period power (now (out .entry)) (now (work .entry)) r
+        (now (out .exit)) (now (work .exit)) ⌝ }
+{
+    let due = answer_jurik(close, period, power, out.len(), work.len());
+    if checks::cells_due(due, close.len(), work) {
+        write_passes(close, period, power, out);
+        cells::clear(work, 8 * close.len());
+    }
+    due
+}
