@@ -40,7 +40,8 @@ unfolding leaned
 causal-leaned power = causal-from 2 plusZero (λ f g b s l. rw (s b (omega arith), s (b - 1) (omega arith)))
 
 -- three times averaged, three times copied, or any of the others
-pub causal-jurik-with : (first second third : Bool) (n : ℕ) (power : Float) → Causal (jurikWith first second third n power)
+pub causal-jurik-with : (first second third : Bool) (n : ℕ) (power : Float)
+    → Causal (jurikWith first second third n power)
 unfolding jurikWith twice once
 causal-jurik-with first second third n power =
     let half = emaAlpha (n / 2) in

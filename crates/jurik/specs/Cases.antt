@@ -37,8 +37,8 @@ jurik-cases : (cellsOf (jurikLine 6 6 plusOne) (prices (pos 1 ∷ pos 2 ∷ pos 
     ≡ bits (0 ∷ 0 ∷ 0x4004000000000000 ∷ 0xbff8000000000000 ∷ 0x4029000000000000 ∷ []))
     × (cellsOf (jurikLine 5 1 plusOne) (prices (pos 1 ∷ pos 2 ∷ pos 4 ∷ pos 3 ∷ pos 7 ∷ []))
     ≡ bits (0 ∷ 0 ∷ 0x401c000000000000 ∷ 0xc040800000000000 ∷ 0x405cc00000000000 ∷ []))
-unfolding jurikLine jurikWith once twice lean leaned swings averaged copied firstDiffering change carried firstBar recur fromBar magnitudeOf
-    isNan neg add sub mul div ofInt ofBits round eq
+unfolding jurikLine jurikWith once twice lean leaned swings averaged copied firstDiffering change carried firstBar
+    recur fromBar magnitudeOf isNan neg add sub mul div ofInt ofBits round eq
 jurik-cases = (refl, refl, refl, refl)
 
 -- equal changes are left as they are at every pass: one tenth a bar stays that, where an average would round; of four
@@ -58,8 +58,8 @@ jurik-equal : (cellsOf (jurikLine 5 7 plusOne) (bits (0 ∷ 0x3fb999999999999a �
     ≡ (plusZero ∷ plusZero ∷ plusZero ∷ plusZero ∷ plusZero ∷ []))
     × (cellsOf (jurikLine 1 3 plusOne) (prices (pos 7 ∷ [])) ≡ (plusZero ∷ []))
     × (cellsOf (jurikLine 2 3 plusOne) (prices (pos 7 ∷ pos 9 ∷ [])) ≡ (plusZero ∷ plusZero ∷ []))
-unfolding jurikLine jurikWith once twice lean leaned swings averaged copied firstDiffering change carried firstBar recur fromBar magnitudeOf
-    isNan neg add sub mul div ofInt ofBits round eq
+unfolding jurikLine jurikWith once twice lean leaned swings averaged copied firstDiffering change carried firstBar
+    recur fromBar magnitudeOf isNan neg add sub mul div ofInt ofBits round eq
 jurik-equal = (refl, refl, refl, refl, refl, refl, refl, refl)
 
 -- the third pass starts at the first cell that is not 0; n 1 of a single step; a power below 0
@@ -69,8 +69,8 @@ jurik-zeros : (cellsOf (jurikLine 6 3 plusOne) (prices (pos 5 ∷ pos 5 ∷ pos 
     ≡ bits (0 ∷ 0 ∷ 0 ∷ 0x4018000000000000 ∷ 0xc041000000000000 ∷ 0x4053800000000000 ∷ 0xc061400000000000 ∷ []))
     × (cellsOf (jurikLine 5 4 (ofInt binary64 (negsuc 2))) (prices (pos 1 ∷ pos 2 ∷ pos 4 ∷ pos 3 ∷ pos 7 ∷ []))
     ≡ bits (0 ∷ 0 ∷ 0xc013ffffffffffff ∷ 0xc00d555555555556 ∷ 0xc02271c71c71c71c ∷ []))
-unfolding jurikLine jurikWith once twice lean leaned swings averaged copied firstDiffering change carried firstBar recur fromBar magnitudeOf
-    isNan neg add sub mul div ofInt ofBits round eq
+unfolding jurikLine jurikWith once twice lean leaned swings averaged copied firstDiffering change carried firstBar
+    recur fromBar magnitudeOf isNan neg add sub mul div ofInt ofBits round eq
 jurik-zeros = (refl, refl, refl)
 
 -- one bar; a power that is not finite before a window too long; a window of 0; no bars

@@ -165,7 +165,8 @@ fn leaned_at(i: usize, power: f64, last: f64, x: f64) -> f64
 // Writes over each value that of itself and the one before it.
 fn lean_on(cells: &mut [f64], bars: usize, power: f64)
     requires { ⌜ bars ≤ length (now cells) ⌝ }
-    ensures { λ _. ⌜ Writing bars (leaned power (line (now (cells .entry)))) (now (cells .entry)) (now (cells .exit)) ⌝ }
+    ensures { λ _. ⌜ Writing bars (leaned power (line (now (cells .entry)))) (now (cells .entry))
+        (now (cells .exit)) ⌝ }
 {
     let mut last = 0.0;
     let mut i = 0;

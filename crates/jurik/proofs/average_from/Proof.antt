@@ -1,4 +1,5 @@
--- `average_from` meets its contract: each turn writes a cell and blends the next value, which still stands, into the average. Assumes nothing.
+-- `average_from` meets its contract: each turn writes a cell and blends the next value, which still stands, into
+-- the average. Assumes nothing.
 use mathlib.Core.Path.{_≡_, sym}
 use Prim.Native.Nat.{_+_, _-_, _<_, _≤_}
 use native.Mathlib.Omega.{arith}

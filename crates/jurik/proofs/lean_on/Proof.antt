@@ -1,4 +1,5 @@
--- `lean_on` meets its contract: each turn writes a cell over its own value, and keeps that for the next one. Assumes nothing.
+-- `lean_on` meets its contract: each turn writes a cell over its own value, and keeps that for the next one. Assumes
+-- nothing.
 use mathlib.Core.Path.{_≡_, refl, _∙_}
 use Prim.Native.Nat.{_-_, _≤_}
 use native.Mathlib.Omega.{arith}

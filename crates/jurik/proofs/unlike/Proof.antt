@@ -1,4 +1,5 @@
--- `unlike` meets its contract: the search from the first usable value, which finds nothing where there is none. Assumes nothing.
+-- `unlike` meets its contract: the search from the first usable value, which finds nothing where there is none.
+-- Assumes nothing.
 use mathlib.Core.Path.{sym, ap, _∙_}
 use Prim.Native.Nat.{ℕ}
 use native.Mathlib.Omega.{arith}
