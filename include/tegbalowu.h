@@ -33,7 +33,7 @@
  * an output or a work slice overlaps nothing else that is lent. Nothing is kept after the call, so
  * calls that write to different memory may run at the same time.
  *
- * Link with libcapi.a, which `rt staticlib capi` writes to target/staticlib/.
+ * Compile and link with what `pkg-config --cflags --libs tegbalowu` prints.
  */
 #ifndef TEGBALOWU_H
 #define TEGBALOWU_H
@@ -119,16 +119,16 @@ tegbalowu_answer tegbalowu_mid_positions(const double *series, size_t series_len
 
 /*
  * Min-max scaling: where the mean of timeperiod values stands between the lowest and the highest
- * of the last window means, from -1 to 1, from bar timeperiod+window-2; 0 where these are at most
- * 1e-10 apart.
+ * of the last window means, from -1 to 1, from bar timeperiod+window-2 on; 0 where these are at
+ * most 1e-10 apart. Refusals 1, 3, 4, 5, 7.
  */
 tegbalowu_answer tegbalowu_mms_positions(const double *series, size_t series_len, size_t timeperiod, size_t window,
                                          double *out, size_t out_len, double *work, size_t work_len);
 
 /*
  * Triple: +1 where the mean of m1 values is above its own mean over m3 and its mean over m1 above
- * that over m2, -1 where both are below, else 0; from bar m1+m3-2. Refused with 8 where m3 is
- * above series_len, then with 9 unless m1 < m2 < m3.
+ * that over m2, -1 where both are below, else 0; from bar m1+m3-2 on. Refusals 1, 3, 4, 5, 7; 8
+ * where m3 is above series_len; 9 unless m1 < m2 < m3.
  */
 tegbalowu_answer tegbalowu_triple_sma_positions(const double *series, size_t series_len, size_t m1, size_t m2,
                                                 size_t m3, int32_t *out, size_t out_len, double *work,
@@ -136,44 +136,48 @@ tegbalowu_answer tegbalowu_triple_sma_positions(const double *series, size_t ser
 
 /*
  * Exponential: the sign of price less the exponential average, with factor 2 / (n + 1), of the
- * means of the last n prices. It starts n-1 bars after the first mean that is not 0, with the
- * mean of n means; 0 earlier.
+ * means of the last n prices. It starts n-1 bars after the first mean that is not 0, or at bar n-1
+ * where every mean is 0, with the mean of n means. So while every mean is 0 a cell depends on later
+ * bars. Refusals 1, 3, 4, 5, 7.
  */
 tegbalowu_answer tegbalowu_single_ema_positions(const double *series, size_t series_len, size_t n, double *out,
                                                 size_t out_len, double *work, size_t work_len);
 
-/* Wilder's relative strength index, from bar n; NaN earlier. 100 where the average loss is 0. */
+/*
+ * Wilder's relative strength index, from bar n on; NaN before. 100 where the average loss is 0.
+ * Refusals 1, 3, 4, 5, 7.
+ */
 tegbalowu_answer tegbalowu_wilder_rsi(const double *series, size_t series_len, size_t n, double *out, size_t out_len,
                                       double *work, size_t work_len);
 
 /*
  * The relative strength index of exponential averages with factor 1 / period, NaN at bar 0,
  * smoothed with smooth_period, from 0 to 512: the first four cells copy the index. A
- * smooth_period of 0 is answered with count 0.
+ * smooth_period of 0 is answered with count 0. Refusals 1, 3, 4, 5, 7.
  */
 tegbalowu_answer tegbalowu_rsx_ss2(const double *close, size_t close_len, size_t period, size_t smooth_period,
                                    double *out, size_t out_len, double *work, size_t work_len);
 
 /*
  * Rank: the share of the n-1 means before the present one that lie below it, moved from 0..1 to
- * -1..1 and rounded to hundredths, half away from zero, so that -0.0 is possible; from bar 2n-2,
- * 0 earlier. n = 1 gives NaN at every bar.
+ * -1..1 and rounded to hundredths, half away from zero, so that -0.0 is possible; from bar 2n-2
+ * on. n = 1 gives NaN at every bar. Refusals 1, 3, 4, 5, 7.
  */
 tegbalowu_answer tegbalowu_rank_positions(const double *series, size_t series_len, size_t n, double *out,
                                           size_t out_len, double *work, size_t work_len);
 
 /*
  * Rolling rank: the place, from 1, in the sorted window of the first value less than 1e-8 away
- * from the present one, from bar window-1; 0 earlier. A window of 0 is no empty answer here: it
- * gives 0 at every bar.
+ * from the present one, from bar window-1 on. A window of 0 is no empty answer here: it gives 0 at
+ * every bar. Refusals 1, 3, 4, 5, 7.
  */
 tegbalowu_answer tegbalowu_rolling_rank(const double *series, size_t series_len, size_t window, uint64_t *out,
                                         size_t out_len, double *work, size_t work_len);
 
 /*
- * Bollinger's bands of the means of n prices, from bar 2n-2: +1 where the mean is above the
+ * Bollinger's bands of the means of n prices, from bar 2n-2 on: +1 where the mean is above the
  * middle plus k deviations, -1 where it is below the middle less k deviations, each by more than
- * 1e-10. The deviation is over n-1; n of 1 gives 0.
+ * 1e-10. The deviation is over n-1; n of 1 gives 0. Refusals 1, 3, 4, 5, 6, 7.
  */
 tegbalowu_answer tegbalowu_boll_positions(const double *series, size_t series_len, size_t n, double k, int32_t *out,
                                           size_t out_len, double *work, size_t work_len);
@@ -181,7 +185,7 @@ tegbalowu_answer tegbalowu_boll_positions(const double *series, size_t series_le
 /*
  * Against those bands, with the deviation over n and no margin: above the upper band a flat
  * position opens short, below the lower one it opens long; a long one closes above the middle,
- * and a short one below it.
+ * and a short one below it. Refusals 1, 3, 4, 5, 6, 7.
  */
 tegbalowu_answer tegbalowu_boll_reverse_positions(const double *series, size_t series_len, size_t n, double k,
                                                   int32_t *out, size_t out_len, double *work, size_t work_len);

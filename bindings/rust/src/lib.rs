@@ -1,0 +1,267 @@
+//! Averages and positions of a price series, from Rust: a safe function for each function of the C library, which
+//! is proved to give the cells of its definition.
+//!
+//! A series has a value for each bar; bars count from 0. The caller lends the outputs, and a work slice to the
+//! functions that take one ([`work_for`] makes it). A call is answered with the count of cells that it wrote at the
+//! front of each output, or refused, and then it changes nothing. The count is the series' length, or 0 where that
+//! length or an integer parameter is 0, unless a function says otherwise. Cells from the count on keep their values.
+//! The work slice's first `8 * series.len()` cells hold 0.0 after an answered call.
+//!
+//! Positions are +1 long, -1 short, 0 flat. A sign is +1 for +0.0 and above, so a tie is +1. No cell depends on a
+//! later bar, unless a function says so.
+//!
+//! ```
+//! use tegbalowu::{Refusal, double_sma_positions, single_sma_positions, sma, work_for};
+//!
+//! let prices = [10.0, 12.0, 12.0, 11.0];
+//! let mut out = [0.0; 4];
+//! assert_eq!(double_sma_positions(&prices, 1, 2, &mut out), Ok(4));
+//! assert_eq!(out, [0.0, 1.0, 1.0, -1.0]);
+//!
+//! let mut work = work_for(prices.len());
+//! assert_eq!(single_sma_positions(&prices, 2, &mut out, &mut work), Ok(4));
+//! assert_eq!(out, [0.0, 0.0, 1.0, -1.0]);
+//!
+//! let refused = sma(&prices, 4097, &mut out).unwrap_err();
+//! assert_eq!(refused, Refusal::WindowTooLong);
+//! assert_eq!(refused.number(), 7);
+//! ```
+#![warn(missing_docs)]
+
+mod refusal;
+
+pub use refusal::Refusal;
+
+/// The most bars of a series; a longer one is refused.
+pub const LONGEST_SERIES: usize = 65_536;
+/// The longest window; a longer one is refused.
+pub const LONGEST_WINDOW: usize = 4_096;
+/// The longest period of the smoother; a longer one is refused.
+pub const LONGEST_PERIOD: usize = 512;
+
+/// A work slice for a series of so many bars: 8 cells for each.
+pub fn work_for(bars: usize) -> Vec<f64> {
+    vec![0.0; 8 * bars]
+}
+
+/// What a C function answers.
+#[repr(C)]
+struct Answer {
+    refusal: u64,
+    count: u64,
+}
+
+impl Answer {
+    fn result(self) -> Result<usize, Refusal> {
+        match (Refusal::numbered(self.refusal), self.count) {
+            (None, count) => Ok(count as usize),
+            (Some(refusal), 0) => Err(refusal),
+            (Some(refusal), count) => unreachable!("refusal {} with count {count}", refusal.number()),
+        }
+    }
+}
+
+/// Declares the C functions and makes the safe ones. An entry has the C name and the Rust name, then the series, the
+/// parameters, the outputs with the type of their cells, and the work slice where there is one.
+macro_rules! functions {
+    ($($(#[$words:meta])* $symbol:ident $name:ident(
+        $($series:ident),+; $($parameter:ident: $of:ty),*; $($output:ident: $cell:ty),+ $(; $work:ident)?
+    );)*) => {
+        unsafe extern "C" {
+            $(fn $symbol(
+                $($series: *const f64, _: usize,)+
+                $($parameter: $of,)*
+                $($output: *mut $cell, _: usize,)+
+                $($work: *mut f64, _: usize,)?
+            ) -> Answer;)*
+        }
+
+        $($(#[$words])*
+        #[inline]
+        pub fn $name(
+            $($series: &[f64],)+
+            $($parameter: $of,)*
+            $($output: &mut [$cell],)+
+            $($work: &mut [f64],)?
+        ) -> Result<usize, Refusal> {
+            // The library assumes of its caller that a pointer is not null, also where the length after it is 0, that
+            // it is aligned and points to as many cells as that length says, and that an output or a work slice
+            // overlaps nothing else that is lent. The pointer and the length of a slice are so by the language, and a
+            // `&mut` slice lent by safe code overlaps no other slice. Any numbers are allowed, every bit pattern is a
+            // cell of its type, nothing is kept after the call, and a proved function does not unwind.
+            let answer = unsafe {
+                $symbol(
+                    $($series.as_ptr(), $series.len(),)+
+                    $($parameter,)*
+                    $($output.as_mut_ptr(), $output.len(),)+
+                    $($work.as_mut_ptr(), $work.len(),)?
+                )
+            };
+            answer.result()
+        })*
+    };
+}
+
+functions! {
+    /// The mean of the last `n` values, from bar n-1 on; NaN before. Refusals 1, 3, 5, 7.
+    ///
+    /// ```
+    /// let mut out = [0.0; 3];
+    /// assert_eq!(tegbalowu::sma(&[1.0, 2.0, 4.0], 2, &mut out), Ok(3));
+    /// assert!(out[0].is_nan());
+    /// assert_eq!(out[1..], [1.5, 3.0]);
+    /// ```
+    tegbalowu_sma sma(series; n: usize; out: f64);
+
+    /// The exponential average: k times the value plus 1 - k times the cell before, where k is 2 / (period + 1). It
+    /// starts at bar period-1 with the mean of the values so far; NaN before. Refusals 1, 3, 5, 7.
+    ///
+    /// ```
+    /// let mut out = [0.0; 4];
+    /// assert_eq!(tegbalowu::ema(&[2.0, 4.0, 6.0, 10.0], 3, &mut out), Ok(4));
+    /// assert_eq!(out[2..], [4.0, 7.0]);
+    /// ```
+    tegbalowu_ema ema(series; period: usize; out: f64);
+
+    /// `alpha` times the value plus 1 - alpha times the cell before, from bar 1 on; bar 0 is the value.
+    /// Refusals 1, 3, 5, 6.
+    tegbalowu_exponential_smoothing exponential_smoothing(series; alpha: f64; out: f64);
+
+    /// The mean of the last `n` whole ticks, rounded to a whole tick, half away from zero, from bar n-1 on; 0 before.
+    /// Refusals 1, 3, 5, 7.
+    ///
+    /// ```
+    /// let mut out = [7; 2];
+    /// assert_eq!(tegbalowu::tick_mean(&[2.0, 3.0], 2, &mut out), Ok(2));
+    /// assert_eq!(out, [0, 3]);
+    /// ```
+    tegbalowu_tick_mean tick_mean(series; n: usize; out: i64);
+
+    /// Ehlers' ultimate smoother, from bar 4 on; bars 0 to 3 copy the input. With period 0 every cell from bar 4 on is
+    /// NaN. Refusals 1, 3, 5, 6, 7.
+    tegbalowu_ultimate_smoother ultimate_smoother(price; period: f64; out: f64);
+
+    /// Wilder's true range, from bar 1 on; bar 0 is high less low. `close_prev[i]` is the close before bar i, and
+    /// `close_prev[0]` is not used, though it is checked. Refusals 1, 2, 3, 5.
+    tegbalowu_true_range true_range(high, low, close_prev; ; out: f64);
+
+    /// Additive Holt-Winters smoothing, started from the first season's mean: the cells of that season may depend on
+    /// its later bars. The count is 0 also where the season is above the series' length. Refusals 1, 3, 4, 5, 6, 7.
+    tegbalowu_holt_winters holt_winters(series; season_length: usize, alpha: f64, beta: f64, gamma: f64; out: f64; work);
+
+    /// Wilder's relative strength index, from bar n on; NaN before. 100 where the average loss is 0.
+    /// Refusals 1, 3, 4, 5, 7.
+    tegbalowu_wilder_rsi wilder_rsi(series; n: usize; out: f64; work);
+
+    /// The relative strength index of exponential averages with factor 1 / period, smoothed with `smooth_period`: NaN
+    /// at bar 0, and the first four cells copy the index. Refusals 1, 3, 4, 5, 7.
+    tegbalowu_rsx_ss2 rsx_ss2(close; period: usize, smooth_period: usize; out: f64; work);
+
+    /// Jurik's volatility. It looks for equal values to the end of the series, so its cells depend on later bars.
+    /// Refusals 1, 3, 4, 5, 6, 7.
+    tegbalowu_jurik_volty jurik_volty(close; period: usize, power: f64; out: f64; work);
+
+    /// Ehlers' ultimate channel: the smoothed close, and `multiplier` smoothed average ranges above and below it.
+    /// Refusals 1 to 8: 8 where the period is above the series' length + 1.
+    tegbalowu_ultimate_channel ultimate_channel(
+        high, low, close; period: usize, multiplier: f64; middle: f64, upper: f64, lower: f64; work
+    );
+
+    /// Ehlers' ultimate bands: the smoothed close, and `std_multiplier` deviations above and below it. The count is 0
+    /// also where the series is shorter than the period. Refusals 1, 3, 4, 5, 6, 7.
+    tegbalowu_ultimate_bands ultimate_bands(
+        close; period: usize, std_multiplier: f64, smooth_period: usize; middle: f64, upper: f64, lower: f64; work
+    );
+
+    /// Williams' ultimate oscillator: three windows weighed 4, 2, 1 over 7. Refusals 1, 2, 3, 4, 5, 7.
+    tegbalowu_ultimate_oscillator ultimate_oscillator(
+        high, low, close; short_period: usize, med_period: usize, long_period: usize; out: f64; work
+    );
+
+    /// One average: the sign of the price less the doubly averaged price, from bar 2n-2 on; 0 before, and where that
+    /// average is 0. Refusals 1, 3, 4, 5, 7.
+    ///
+    /// ```
+    /// let mut out = [9.0; 3];
+    /// let mut work = tegbalowu::work_for(3);
+    /// assert_eq!(tegbalowu::single_sma_positions(&[1.0, 3.0, 5.0], 2, &mut out, &mut work), Ok(3));
+    /// assert_eq!(out, [0.0, 0.0, 1.0]);
+    /// ```
+    tegbalowu_single_sma_positions single_sma_positions(series; n: usize; out: f64; work);
+
+    /// Double: the sign of the average of the last `n` values less that of the last `m`, from bar m-1 on; 0 before.
+    /// Refusals 1, 3, 5, 7, 9: 9 where n is not below m.
+    tegbalowu_double_sma_positions double_sma_positions(series; n: usize, m: usize; out: f64);
+
+    /// Middle: the sign of the mean of the last `n` values less half of the highest plus the lowest of the last n such
+    /// means, from bar 2n-2 on; 0 before, and where either is 0. Refusals 1, 3, 4, 5, 7.
+    tegbalowu_mid_positions mid_positions(series; n: usize; out: f64; work);
+
+    /// Exponential: the sign of the price less the exponential average, with factor 2 / (n + 1), of the means of the
+    /// last `n` values. It starts n-1 bars after the first mean that is not 0, or at bar n-1 where every mean is 0; 0
+    /// before. So while every mean is 0 a cell depends on later bars. Refusals 1, 3, 4, 5, 7.
+    tegbalowu_single_ema_positions single_ema_positions(series; n: usize; out: f64; work);
+
+    /// Triple: +1 where the mean of `m1` values is above its own mean over `m3` and its mean over m1 above that over
+    /// `m2`, -1 where both are below, else 0; from bar m1+m3-2 on. Refusals 1, 3, 4, 5, 7, 8, 9: 8 where m3 is above
+    /// the series' length, 9 unless m1 < m2 < m3.
+    tegbalowu_triple_sma_positions triple_sma_positions(series; m1: usize, m2: usize, m3: usize; out: i32; work);
+
+    /// Bollinger's bands of the means of `n` values, from bar 2n-2 on: +1 where the mean is above the middle plus `k`
+    /// deviations, -1 where it is below the middle less k deviations, each by more than 1e-10. The deviation is over
+    /// n-1; n of 1 gives 0. Refusals 1, 3, 4, 5, 6, 7.
+    tegbalowu_boll_positions boll_positions(series; n: usize, k: f64; out: i32; work);
+
+    /// Against those bands, with the deviation over n and no margin: above the upper band a flat position opens short,
+    /// below the lower one it opens long; a long one closes above the middle, and a short one below it.
+    /// Refusals 1, 3, 4, 5, 6, 7.
+    ///
+    /// ```
+    /// let mut out = [9; 3];
+    /// let mut work = tegbalowu::work_for(3);
+    /// assert_eq!(tegbalowu::boll_reverse_positions(&[4.0, 4.0, 8.0], 2, 0.5, &mut out, &mut work), Ok(3));
+    /// assert_eq!(out, [0, 0, -1]);
+    /// ```
+    tegbalowu_boll_reverse_positions boll_reverse_positions(series; n: usize, k: f64; out: i32; work);
+
+    /// Against the relative strength index of the means of `n` values, the present change left out: above `rsi_upper` a
+    /// flat position opens short, below `rsi_lower` long; a held one closes at `rsi_exit`. Refusals 1, 3, 4, 5, 6, 7.
+    tegbalowu_rsi_reverse_positions rsi_reverse_positions(
+        series; n: usize, rsi_upper: f64, rsi_lower: f64, rsi_exit: f64; out: i32; work
+    );
+
+    /// Min-max scaling: where the mean of `timeperiod` values stands between the lowest and the highest of the last
+    /// `window` means, from -1 to 1, from bar timeperiod+window-2 on; 0 before, and where these are at most 1e-10
+    /// apart. Refusals 1, 3, 4, 5, 7.
+    ///
+    /// ```
+    /// let mut out = [9.0; 3];
+    /// let mut work = tegbalowu::work_for(3);
+    /// assert_eq!(tegbalowu::mms_positions(&[1.0, 3.0, 2.0], 1, 2, &mut out, &mut work), Ok(3));
+    /// assert_eq!(out, [0.0, 1.0, -1.0]);
+    /// ```
+    tegbalowu_mms_positions mms_positions(series; timeperiod: usize, window: usize; out: f64; work);
+
+    /// Rank: the share of the n-1 means before the present one that lie below it, moved from 0..1 to -1..1 and rounded
+    /// to hundredths, half away from zero, so that -0.0 is possible; from bar 2n-2 on, 0 before. n = 1 gives NaN at
+    /// every bar. Refusals 1, 3, 4, 5, 7.
+    ///
+    /// ```
+    /// let mut out = [9.0; 3];
+    /// let mut work = tegbalowu::work_for(3);
+    /// assert_eq!(tegbalowu::rank_positions(&[1.0, 2.0, 3.0], 2, &mut out, &mut work), Ok(3));
+    /// assert_eq!(out, [0.0, 0.0, 1.0]);
+    /// ```
+    tegbalowu_rank_positions rank_positions(series; n: usize; out: f64; work);
+
+    /// Rolling rank: the place, from 1, in the sorted window of the first value less than 1e-8 away from the present
+    /// one, from bar window-1 on; 0 before. A window of 0 gives 0 at every bar. Refusals 1, 3, 4, 5, 7.
+    ///
+    /// ```
+    /// let mut out = [9; 3];
+    /// let mut work = tegbalowu::work_for(3);
+    /// assert_eq!(tegbalowu::rolling_rank(&[3.0, 1.0, 2.0], 2, &mut out, &mut work), Ok(3));
+    /// assert_eq!(out, [0, 1, 2]);
+    /// ```
+    tegbalowu_rolling_rank rolling_rank(series; window: usize; out: u64; work);
+}

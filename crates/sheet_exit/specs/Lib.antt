@@ -1,0 +1,2 @@
+-- What the exit status of a run says.
+pub mod Exit

@@ -1,0 +1,40 @@
+-- What is carried from turn to turn, and what a turn does. Assumes nothing.
+use mathlib.Core.Path.{_≡_}
+use mathlib.Core.Bool.{true}
+use mathlib.Core.List.{List}
+use Prim.Native.Nat.{ℕ, _+_, _-_, _≤_}
+use lib.ListN.{take}
+use lib.Seq.{slice}
+use lib.Ieee.{Float}
+use Rattle.sheet_blocks.specs.inner.Place.{beginning}
+use Rattle.sheet_blocks.specs.inner.Block.{Fed, Between}
+use Rattle.sheet_run.specs.declared.Carried.{Carried}
+use Rattle.sheet_run.specs.declared.Input.the-variants.{Came}
+use Rattle.sheet_run.specs.Run.{came}
+use Rattle.sheet_run.specs.inner.Buffers.{blockBytes}
+
+-- before the first turn
+abbrev pub start : Carried
+start =
+    record {
+      place = record { sheet = beginning; at = 0; filled = 0 };
+      end = 0;
+      input = Came 0;
+      output = record { bytes = 0; taken = true };
+    }
+
+-- what holds between two turns: the bytes that are left lie in the block, and are too few for a line
+pub record Carrying (c : Carried) : Type 0 where
+  pub between : Between (c .place .sheet) (c .end - c .place .at)
+  pub some : c .place .at ≤ c .end
+  pub within : c .end ≤ blockBytes
+
+-- A turn: the bytes that were left stand at the front of the block, so
+-- many came behind them, all of them are fed, and the text is handed over.
+pub record Turned (p : Carried) (block : List ℕ) (series : List Float) (q : Carried) (block′ : List ℕ)
+    (series′ : List Float) (text : List ℕ) : Type 0 where
+  pub kept : take (p .end - p .place .at) block′ ≡ slice (p .place .at) (p .end) block
+  pub end : q .end ≡ p .end - p .place .at + came (q .input)
+  pub fed : Fed (p .place .sheet) (take (q .end) block′) series (q .place) series′ text
+  pub written : q .output .bytes ≡ q .place .filled
+  pub carrying : Carrying q

@@ -1,0 +1,245 @@
+// A run of the sheet: requests on standard input, answers on standard output. All
+// that it reads and prints is the work of `sheet_blocks` and the crates below it;
+// here are the buffers, and the loop that reads blocks, feeds them and writes.
+//
+// No contract of the kit says which bytes a call of C's reads or writes. That the block
+// holds what came, and that the bytes handed over are written, is assumed here, and
+// tested by tools/sheet_compare; what is done with the bytes in the buffers is proved.
+use libc::STDIN_FILENO;
+use libc::STDOUT_FILENO;
+use sheet_blocks::Place;
+use sheet_blocks::Sheet;
+use sheet_blocks::Stage;
+use sheet_blocks::Status;
+use sheet_blocks::TEXT_ROOM;
+use sheet_lines::MOST_BARS;
+use sheet_requests::WORK_CELLS;
+ghost use mathlib.Core.Path.{_≡_};
+ghost use Prim.Native.Nat.{_≤_, _+_, _-_};
+ghost use lib.ListN.{length, take};
+ghost use Rattle.sheet_blocks.specs.inner.Block.{cutBytes, Finished};
+ghost use Rattle.sheet_run.specs.Run.{inputOf, came, statusOf, goesOn, Ran};
+ghost use Rattle.sheet_run.specs.inner.Buffers.{Buffers};
+ghost use Rattle.sheet_run.specs.inner.Turn.{start, Carrying, Turned};
+
+// The most bytes that are in the block, and the bytes that it may print.
+const BLOCK_BYTES: usize = 65536;
+
+const TEXT_BYTES: usize = BLOCK_BYTES + TEXT_ROOM;
+
+// What a read answered: so many bytes came, the input has ended, or it could not be read.
+enum Input {
+    Came(usize),
+    Ended,
+    Failed,
+}
+
+// What became of a text: how many bytes were handed over to be written, and whether all were taken.
+struct Output {
+    bytes: usize,
+    taken: bool,
+}
+
+// What is carried from turn to turn: the sheet and its place in the
+// block, where the bytes in the block end, and what was answered last.
+struct Carried {
+    place: Place,
+    end: usize,
+    input: Input,
+    output: Output,
+}
+
+// What the answer of a read says: below 0 it failed, and with no byte the input has ended.
+fn input_of(got: isize, room: &[u8]) -> Input
+    ensures { λ r. ⌜ r ≡ inputOf got (length (now (room .entry))) ⌝ }
+{
+    if got < 0 {
+        return Input::Failed;
+    }
+    let count = io::count(got, room);
+    if count == 0 {
+        Input::Ended
+    } else {
+        Input::Came(count)
+    }
+}
+
+// Reads once. The reason why a read failed goes to standard error.
+fn read_some(room: &mut [u8]) -> Input
+    ensures { λ r. ⌜ came r ≤ length (now (room .entry)) ⌝ }
+{
+    let got = libc::read(STDIN_FILENO, room);
+    if got < 0 {
+        os::fail(b"sheet: reading");
+    }
+    input_of(got, room)
+}
+
+// Reads once behind the first `kept` bytes of the block, which stay.
+fn read_on(block: &mut [u8], kept: usize) -> Input
+    requires { ⌜ kept ≤ length (now block) ⌝ }
+    ensures { λ r. ⌜ (kept + came r ≤ length (now (block .entry)))
+        × (take kept (now (block .exit)) ≡ take kept (now (block .entry))) ⌝ }
+{
+    read_some(&mut block[kept..])
+}
+
+// How many bytes came.
+fn count_of(input: Input) -> usize
+    ensures { λ r. ⌜ r ≡ came input ⌝ }
+{
+    match input {
+        Input::Came(count) => count,
+        Input::Ended => 0,
+        Input::Failed => 0,
+    }
+}
+
+// Writes the first `filled` bytes of the text. The reason why a write failed goes to standard error.
+fn write_text(text: &[u8], filled: usize) -> Output
+    requires { ⌜ filled ≤ length (now text) ⌝ }
+    ensures { λ r. ⌜ r .bytes ≡ filled ⌝ }
+{
+    let bytes = &text[..filled];
+    let taken = io::write_all(STDOUT_FILENO, bytes);
+    if !taken {
+        os::fail(b"sheet: writing");
+    }
+    Output {
+        bytes: bytes.len(),
+        taken: taken,
+    }
+}
+
+// How the program stands after a turn.
+fn status(carried: Carried) -> Status
+    ensures { λ r. ⌜ r ≡ statusOf (carried .output .taken) (carried .input) (carried .place .sheet .stage) ⌝ }
+{
+    let output = carried.output;
+    let input = carried.input;
+    let place = carried.place;
+    let sheet = place.sheet;
+    let stage = sheet.stage;
+    if output.taken {
+        match input {
+            Input::Failed => Status::ReadFailed,
+            Input::Ended => Status::Done,
+            Input::Came(_) => match stage {
+                Stage::Waiting => Status::Reading,
+                Stage::Collecting(_, _) => Status::Reading,
+                Stage::Stopped => Status::Done,
+            },
+        }
+    } else {
+        Status::WriteFailed
+    }
+}
+
+// Whether more is to be read.
+fn goes_on(status: Status) -> bool
+    ensures { λ r. ⌜ r ≡ goesOn status ⌝ }
+{
+    match status {
+        Status::Reading => true,
+        Status::Done => false,
+        Status::ReadFailed => false,
+        Status::WriteFailed => false,
+    }
+}
+
+// Moves the bytes that are left to the front of the block, reads
+// once behind them, feeds them all, and writes the answers.
+fn turn(
+    carried: Carried,
+    block: &mut [u8],
+    series: &mut [f64],
+    out: &mut [f64],
+    work: &mut [f64],
+    text: &mut [u8],
+) -> Carried
+    requires { ⌜ Carrying carried × Buffers (now block) (now series) (now out) (now work) (now text) ⌝ }
+    ensures { λ r. ⌜ Turned carried (now (block .entry)) (now (series .entry))
+        r (now (block .exit)) (now (series .exit)) (now (text .exit))
+        × (now (work .exit) ≡ now (work .entry)) ⌝ }
+{
+    let place = carried.place;
+    let kept = cells::keep(block, place.at, carried.end);
+    let input = read_on(block, kept);
+    let end = kept + count_of(input);
+    let next = sheet_blocks::feed(place.sheet, &block[..end], series, out, work, text);
+    let output = write_text(text, next.filled);
+    Carried {
+        place: next,
+        end: end,
+        input: input,
+        output: output,
+    }
+}
+
+// Before the first turn.
+fn first() -> Carried
+    ensures { λ r. ⌜ r ≡ start ⌝ }
+{
+    Carried {
+        place: Place {
+            sheet: sheet_blocks::begin(),
+            at: 0,
+            filled: 0,
+        },
+        end: 0,
+        input: Input::Came(0),
+        output: Output {
+            bytes: 0,
+            taken: true,
+        },
+    }
+}
+
+// Writes what is printed last: nothing where not all was read and written.
+fn close(carried: Carried, text: &mut [u8]) -> Output
+    requires { ⌜ Carrying carried × (cutBytes ≤ length (now text)) ⌝ }
+    ensures { λ r. ⌜ Finished (statusOf (carried .output .taken) (carried .input) (carried .place .sheet .stage))
+        (carried .place .sheet) (carried .end - carried .place .at) (r .bytes) (now (text .exit)) ⌝ }
+{
+    let place = carried.place;
+    let count = sheet_blocks::finish(status(carried), place.sheet, carried.end - place.at, text);
+    write_text(text, count)
+}
+
+// Reads to the end of the input, or to where a line breaks its columns, and gives what became of input and output.
+// The turns are counted down, from a number that no run uses up.
+fn run(
+    block: &mut [u8],
+    series: &mut [f64],
+    out: &mut [f64],
+    work: &mut [f64],
+    text: &mut [u8],
+) -> Status
+    requires { ⌜ Buffers (now block) (now series) (now out) (now work) (now text) ⌝ }
+    ensures { λ r. ⌜ Ran r ⌝ }
+{
+    let mut carried = first();
+    let mut turns = u64::MAX;
+    while turns > 0 && goes_on(status(carried)) {
+        carried = turn(carried, block, series, out, work, text);
+        turns -= 1;
+    }
+    let last = close(carried, text);
+    if last.taken {
+        status(carried)
+    } else {
+        Status::WriteFailed
+    }
+}
+
+// A run with buffers of its own.
+pub fn run_sheet() -> Status
+    ensures { λ r. ⌜ Ran r ⌝ }
+{
+    let mut block = [0u8; BLOCK_BYTES];
+    let mut series = [0.0; MOST_BARS];
+    let mut out = [0.0; MOST_BARS];
+    let mut work = [0.0; WORK_CELLS];
+    let mut text = [0u8; TEXT_BYTES];
+    run(&mut block, &mut series, &mut out, &mut work, &mut text)
+}
