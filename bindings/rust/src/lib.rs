@@ -147,7 +147,9 @@ functions! {
 
     /// Additive Holt-Winters smoothing, started from the first season's mean: the cells of that season may depend on
     /// its later bars. The count is 0 also where the season is above the series' length. Refusals 1, 3, 4, 5, 6, 7.
-    tegbalowu_holt_winters holt_winters(series; season_length: usize, alpha: f64, beta: f64, gamma: f64; out: f64; work);
+    tegbalowu_holt_winters holt_winters(
+        series; season_length: usize, alpha: f64, beta: f64, gamma: f64; out: f64; work
+    );
 
     /// Wilder's relative strength index, from bar n on; NaN before. 100 where the average loss is 0.
     /// Refusals 1, 3, 4, 5, 7.

@@ -1,5 +1,7 @@
 //! A call of a library function and what comes back, apart from which function it is.
 
+use tegbalowu::Refusal;
+
 /// An integer parameter or an f64 parameter.
 #[derive(Clone, Copy, Debug)]
 pub enum Value {
@@ -51,8 +53,7 @@ impl Call {
     }
 }
 
-/// The result of a C function, as include/tegbalowu.h declares it.
-#[repr(C)]
+/// The refusal and the count of a call, as include/tegbalowu.h has them.
 #[derive(Clone, Copy, Debug, PartialEq, Eq)]
 pub struct Answer {
     pub refusal: u64,
@@ -66,6 +67,12 @@ impl Answer {
 
     pub fn refused(refusal: u64) -> Answer {
         Answer { refusal, count: 0 }
+    }
+}
+
+impl From<Result<usize, Refusal>> for Answer {
+    fn from(result: Result<usize, Refusal>) -> Answer {
+        result.map_or_else(|refusal| Answer::refused(refusal.number()), Answer::cells)
     }
 }
 

@@ -1,6 +1,6 @@
 //! One entry for each function of the library: everything else here goes by this list.
 //!
-//! An entry gives the C name and the source's name, the series, the parameters with their roles in
+//! An entry gives the function of the Rust bindings and the name, the source's, the series, the parameters with their roles in
 //! document 01's table, the outputs, the type of their cells, `[work]` where there is a work slice,
 //! and how the expected cells are reckoned; `timed` where a benchmark runs something else. A function
 //! counts as exported once include/tegbalowu.h declares it.
@@ -79,7 +79,7 @@ impl Function {
     }
 }
 
-/// A C function called on the memory lent for its outputs and its work slice.
+/// A function of the library, by its Rust bindings, called on the memory lent for its outputs and its work slice.
 pub type Exported = fn(&Call, &mut [Lent], &mut Lent) -> Answer;
 
 pub fn exported() -> impl Iterator<Item = &'static Function> {
@@ -116,7 +116,7 @@ macro_rules! last {
 }
 
 macro_rules! functions {
-    ($($symbol:ident $name:literal {
+    ($($function:ident $name:literal {
         series: [$($series:ident),+],
         parameters: [$($parameter:ident: $role:ident),*],
         outputs: [$($output:ident),+],
@@ -125,16 +125,6 @@ macro_rules! functions {
         source: $source:expr $(; timed: $timed:expr)?
         $(, $field:ident: $value:expr)* $(,)?
     })*) => {
-        unsafe extern "C" {
-            $(#[cfg(exported = $name)]
-            fn $symbol(
-                $($series: *const f64, _: usize,)+
-                $($parameter: $role,)*
-                $($output: *mut $cell, _: usize,)+
-                $($work: *mut f64, _: usize,)?
-            ) -> Answer;)*
-        }
-
         static FUNCTIONS: &[Function] = &[$({
             fn lines(call: &Call) -> impl Lines {
                 take!(call, [$($series),+], [$($parameter: $role),*]);
@@ -150,16 +140,9 @@ macro_rules! functions {
             const LIBRARY: Option<Exported> = Some(|call, outputs, _work| {
                 take!(call, [$($series),+], [$($parameter: $role),*]);
                 let mut lent = outputs.iter_mut();
-                $(let $output = lent.next().unwrap();)+
-                // Each pointer is to as many cells as the length after it says, and none overlap.
-                unsafe {
-                    $symbol(
-                        $($series.as_ptr(), $series.len(),)+
-                        $($parameter,)*
-                        $($output.pointer().cast(), $output.len(),)+
-                        $({ let $work = _work.pointer(); $work.cast() }, _work.len(),)?
-                    )
-                }
+                $(let $output = lent.next().unwrap().cells::<$cell>();)+
+                $(let $work = _work.cells::<f64>();)?
+                tegbalowu::$function($($series,)+ $($parameter,)* $($output,)+ $($work)?).into()
             });
             #[cfg(not(exported = $name))]
             const LIBRARY: Option<Exported> = None;
@@ -198,111 +181,111 @@ const PLAIN: Function = Function {
 };
 
 functions! {
-    tegbalowu_sma "sma" {
+    sma "sma" {
         series: [series], parameters: [n: Window], outputs: [out], cells: f64, work: [],
         source: pure::sma(series, n),
     }
-    tegbalowu_ema "ema" {
+    ema "ema" {
         series: [series], parameters: [period: Window], outputs: [out], cells: f64, work: [],
         source: pure::ema(series, period),
     }
-    tegbalowu_exponential_smoothing "exponential_smoothing" {
+    exponential_smoothing "exponential_smoothing" {
         series: [series], parameters: [alpha: Weight], outputs: [out], cells: f64, work: [],
         source: pure::exponential_smoothing(series, alpha),
     }
-    tegbalowu_tick_mean "tick_mean" {
+    tick_mean "tick_mean" {
         series: [series], parameters: [n: Window], outputs: [out], cells: i64, work: [],
         source: tick_mean::line(series, n),
         domain: Domain::WholeTicks,
     }
-    tegbalowu_single_sma_positions "single_sma_positions" {
+    single_sma_positions "single_sma_positions" {
         series: [series], parameters: [n: Window], outputs: [out], cells: f64, work: [work],
         source: pure::single_sma_positions(series, n),
     }
-    tegbalowu_double_sma_positions "double_sma_positions" {
+    double_sma_positions "double_sma_positions" {
         series: [series], parameters: [n: Window, m: Window], outputs: [out], cells: f64, work: [],
         source: pure::double_sma_positions(series, n, m),
         rising: true,
     }
-    tegbalowu_mid_positions "mid_positions" {
+    mid_positions "mid_positions" {
         series: [series], parameters: [n: Window], outputs: [out], cells: f64, work: [work],
         source: pure::mid_positions(series, n),
     }
-    tegbalowu_ultimate_smoother "ultimate_smoother" {
+    ultimate_smoother "ultimate_smoother" {
         series: [price], parameters: [period: Period], outputs: [out], cells: f64, work: [],
         source: restated::ultimate_smoother(price, period); timed: pure::ultimate_smoother(price, period),
     }
-    tegbalowu_true_range "true_range" {
+    true_range "true_range" {
         series: [high, low, close_prev], parameters: [], outputs: [out], cells: f64, work: [],
         source: pure::true_range(high, low, close_prev),
     }
-    tegbalowu_single_ema_positions "single_ema_positions" {
+    single_ema_positions "single_ema_positions" {
         series: [series], parameters: [n: Window], outputs: [out], cells: f64, work: [work],
         source: pure::single_ema_positions(series, n),
     }
-    tegbalowu_triple_sma_positions "triple_sma_positions" {
+    triple_sma_positions "triple_sma_positions" {
         series: [series], parameters: [m1: Window, m2: Window, m3: Window],
         outputs: [out], cells: i32, work: [work],
         source: pure::triple_sma_positions(series, m1, m2, m3),
         rising: true,
     }
-    tegbalowu_mms_positions "mms_positions" {
+    mms_positions "mms_positions" {
         series: [series], parameters: [timeperiod: Window, window: Window], outputs: [out], cells: f64, work: [work],
         source: pure::mms_positions(series, timeperiod, window),
     }
-    tegbalowu_rank_positions "rank_positions" {
+    rank_positions "rank_positions" {
         series: [series], parameters: [n: Window], outputs: [out], cells: f64, work: [work],
         source: pure::rank_positions(series, n),
     }
-    tegbalowu_rolling_rank "rolling_rank" {
+    rolling_rank "rolling_rank" {
         series: [series], parameters: [window: Window], outputs: [out], cells: u64, work: [work],
         source: pure::rolling_rank(series, window),
     }
-    tegbalowu_boll_positions "boll_positions" {
+    boll_positions "boll_positions" {
         series: [series], parameters: [n: Window, k: Multiple], outputs: [out], cells: i32, work: [work],
         source: pure::boll_positions(series, n, k),
     }
-    tegbalowu_boll_reverse_positions "boll_reverse_positions" {
+    boll_reverse_positions "boll_reverse_positions" {
         series: [series], parameters: [n: Window, k: Multiple], outputs: [out], cells: i32, work: [work],
         source: pure::boll_reverse_positions(series, n, k),
     }
-    tegbalowu_rsi_reverse_positions "rsi_reverse_positions" {
+    rsi_reverse_positions "rsi_reverse_positions" {
         series: [series], parameters: [n: Window, rsi_upper: Level, rsi_lower: Level, rsi_exit: Level],
         outputs: [out], cells: i32, work: [work],
         source: pure::rsi_reverse_positions(series, n, rsi_upper, rsi_lower, rsi_exit),
     }
-    tegbalowu_ultimate_bands "ultimate_bands" {
+    ultimate_bands "ultimate_bands" {
         series: [close], parameters: [period: WholePeriod, std_multiplier: Multiple, smooth_period: WholePeriod],
         outputs: [middle, upper, lower], cells: f64, work: [work],
         source: restated::ultimate_bands(close, period, std_multiplier, smooth_period);
         timed: pure::ultimate_bands(close, period, std_multiplier, smooth_period),
     }
-    tegbalowu_wilder_rsi "wilder_rsi" {
+    wilder_rsi "wilder_rsi" {
         series: [series], parameters: [n: Window], outputs: [out], cells: f64, work: [work],
         source: wilder_rsi::line(series, n),
     }
-    tegbalowu_rsx_ss2 "rsx_ss2" {
+    rsx_ss2 "rsx_ss2" {
         series: [close], parameters: [period: Window, smooth_period: WholePeriod],
         outputs: [out], cells: f64, work: [work],
         source: restated::rsx_ss2(close, period, smooth_period);
         timed: pure::rsx_ss2(close, period, smooth_period),
     }
-    tegbalowu_jurik_volty "jurik_volty" {
+    jurik_volty "jurik_volty" {
         series: [close], parameters: [period: Window, power: Multiple], outputs: [out], cells: f64, work: [work],
         source: pure::jurik_volty(close, period, power),
     }
-    tegbalowu_ultimate_channel "ultimate_channel" {
+    ultimate_channel "ultimate_channel" {
         series: [high, low, close], parameters: [period: WholePeriod, multiplier: Multiple],
         outputs: [middle, upper, lower], cells: f64, work: [work],
         source: restated::ultimate_channel(high, low, close, period, multiplier);
         timed: pure::ultimate_channel(high, low, close, period, multiplier),
     }
-    tegbalowu_ultimate_oscillator "ultimate_oscillator" {
+    ultimate_oscillator "ultimate_oscillator" {
         series: [high, low, close], parameters: [short_period: Window, med_period: Window, long_period: Window],
         outputs: [out], cells: f64, work: [work],
         source: pure::ultimate_oscillator(high, low, close, short_period, med_period, long_period),
     }
-    tegbalowu_holt_winters "holt_winters" {
+    holt_winters "holt_winters" {
         series: [series], parameters: [season_length: Window, alpha: Weight, beta: Weight, gamma: Weight],
         outputs: [out], cells: f64, work: [work],
         source: pure::holt_winters(series, season_length, alpha, beta, gamma),

@@ -4,11 +4,33 @@ use crate::call::Kind;
 
 const GUARD: usize = 4;
 
-/// Cells of 64 bits, or of 32.
-enum Memory {
-    Wide(Vec<u64>),
-    Narrow(Vec<u32>),
+/// Cells of one type.
+pub enum Memory {
+    F64(Vec<f64>),
+    I64(Vec<i64>),
+    I32(Vec<i32>),
+    U64(Vec<u64>),
 }
+
+/// A type of cells that are lent.
+pub trait Lend: Sized {
+    fn in_memory(memory: &mut Memory) -> &mut Vec<Self>;
+}
+
+macro_rules! lend {
+    ($($cell:ty, $kind:ident;)*) => {$(
+        impl Lend for $cell {
+            fn in_memory(memory: &mut Memory) -> &mut Vec<$cell> {
+                match memory {
+                    Memory::$kind(cells) => cells,
+                    _ => panic!("the cells are of another type"),
+                }
+            }
+        }
+    )*};
+}
+
+lend! { f64, F64; i64, I64; i32, I32; u64, U64; }
 
 /// The memory of one output or work slice; what it held before the call is known for each cell.
 pub struct Lent {
@@ -21,7 +43,12 @@ pub struct Lent {
 impl Lent {
     /// A slice of no cell yet, for cells of this kind.
     pub fn new(kind: Kind) -> Lent {
-        let memory = if kind == Kind::I32 { Memory::Narrow(Vec::new()) } else { Memory::Wide(Vec::new()) };
+        let memory = match kind {
+            Kind::F64 => Memory::F64(Vec::new()),
+            Kind::I64 => Memory::I64(Vec::new()),
+            Kind::I32 => Memory::I32(Vec::new()),
+            Kind::U64 => Memory::U64(Vec::new()),
+        };
         Lent { kind, memory, len: 0, salt: 0 }
     }
 
@@ -37,14 +64,10 @@ impl Lent {
         self.len = len;
         let words = (0..len + 2 * GUARD).map(|place| filling(salt, place));
         match &mut self.memory {
-            Memory::Wide(cells) => {
-                cells.clear();
-                cells.extend(words);
-            }
-            Memory::Narrow(cells) => {
-                cells.clear();
-                cells.extend(words.map(|word| word as u32));
-            }
+            Memory::F64(cells) => refill(cells, words.map(f64::from_bits)),
+            Memory::I64(cells) => refill(cells, words.map(|word| word as i64)),
+            Memory::I32(cells) => refill(cells, words.map(|word| word as i32)),
+            Memory::U64(cells) => refill(cells, words),
         }
     }
 
@@ -52,12 +75,9 @@ impl Lent {
         self.len
     }
 
-    /// To the first cell that is no guard.
-    pub fn pointer(&mut self) -> *mut u8 {
-        match &mut self.memory {
-            Memory::Wide(cells) => cells[GUARD..].as_mut_ptr().cast(),
-            Memory::Narrow(cells) => cells[GUARD..].as_mut_ptr().cast(),
-        }
+    /// All cells but the guards.
+    pub fn cells<T: Lend>(&mut self) -> &mut [T] {
+        &mut T::in_memory(&mut self.memory)[GUARD..GUARD + self.len]
     }
 
     /// The words of all cells but the guards.
@@ -68,18 +88,17 @@ impl Lent {
     /// The word at a place, guards counted.
     fn word(&self, place: usize) -> u64 {
         match &self.memory {
-            Memory::Wide(cells) => cells[place],
-            Memory::Narrow(cells) => cells[place] as i32 as i64 as u64,
+            Memory::F64(cells) => cells[place].to_bits(),
+            Memory::I64(cells) => cells[place] as u64,
+            Memory::I32(cells) => cells[place] as i64 as u64,
+            Memory::U64(cells) => cells[place],
         }
     }
 
     /// Whether a place holds what it was filled with.
     fn untouched(&self, place: usize) -> bool {
         let filled = filling(self.salt, place);
-        match &self.memory {
-            Memory::Wide(cells) => cells[place] == filled,
-            Memory::Narrow(cells) => cells[place] == filled as u32,
-        }
+        self.word(place) == if self.kind == Kind::I32 { filled as i32 as i64 as u64 } else { filled }
     }
 
     /// What is wrong if the first cells should be `first` and all else, guards too, as filled.
@@ -95,6 +114,11 @@ impl Lent {
         let changed = others.find(|place| !self.untouched(*place));
         changed.map(|place| format!("cell {} was to stay as it was", place as isize - GUARD as isize))
     }
+}
+
+fn refill<T>(cells: &mut Vec<T>, with: impl Iterator<Item = T>) {
+    cells.clear();
+    cells.extend(with);
 }
 
 /// The word that a place holds before the call.
