@@ -46,8 +46,9 @@ bands-cases : (shown 2 (num 2) 3 (prices (pos 1 ∷ pos 2 ∷ pos 4 ∷ pos 3 �
     ∷ 0x40161c2f93070a2c ∷ 0x4010000000000000 ∷ 0x4019b546fc946ee3 ∷ 0x401e0154ed1d0725 ∷ 0x4018c065fe061758 ∷ [])
     ∷ bits (0x7ff8000000000000 ∷ 0x7ff8000000000000 ∷ 0x4003c7a0d9f1eba8 ∷ 0x4000000000000000 ∷ 0x40135d8443600f9d
     ∷ 0x4016a8dd68aae245 ∷ 0x4011c6aba337740c ∷ []) ∷ []))
-unfolding bandsMiddle bandsUpper bandsLower bandsWidth bandsDeviation upperLine lowerLine deviation sqrtOf smooth formula coefficients ofPair a1Of
-    b1Of a1Table b1Table a1Bits b1Bits sumFrom fromBar neg add sub mul div ofInt ofBits round lt eq
+unfolding bandsMiddle bandsUpper bandsLower bandsWidth bandsDeviation upperLine lowerLine deviation sqrtOf sumFrom
+    fromBar smooth formula coefficients ofPair a1Of b1Of a1Table b1Table a1Bits b1Bits neg add sub mul div ofInt ofBits
+    round lt eq
 bands-cases = (refl, refl)
 
 -- period 1 has no deviation; period 4: the outer lines have a number at bar 3 alone; period 5: they are NaN
@@ -82,8 +83,9 @@ bands-edges : (shown 1 (num 2) 3 (prices (pos 1 ∷ pos 2 ∷ pos 4 ∷ pos 3 �
     ∷ 0x4003c7a0d9f1eba8 ∷ []) ∷ []))
     × (shown 1 (num 2) 1 (prices (pos 7 ∷ []))
     ≡ (bits (0x401c000000000000 ∷ []) ∷ bits (0x401c000000000000 ∷ []) ∷ bits (0x401c000000000000 ∷ []) ∷ []))
-unfolding bandsMiddle bandsUpper bandsLower bandsWidth bandsDeviation upperLine lowerLine deviation sqrtOf smooth formula coefficients ofPair a1Of
-    b1Of a1Table b1Table a1Bits b1Bits sumFrom fromBar neg add sub mul div ofInt ofBits round lt eq
+unfolding bandsMiddle bandsUpper bandsLower bandsWidth bandsDeviation upperLine lowerLine deviation sqrtOf sumFrom
+    fromBar smooth formula coefficients ofPair a1Of b1Of a1Table b1Table a1Bits b1Bits neg add sub mul div ofInt ofBits
+    round lt eq
 bands-edges = (refl, refl, refl, refl, refl, refl, refl)
 
 abbrev oneBar : ℕ → Float → ℕ → Answer

@@ -1,14 +1,14 @@
--- Calls with three outputs and a work slice: what is known after their checks, how they meet their contract, and no
--- look-ahead. Assumes nothing.
+-- Calls with three outputs and a work slice: what is known after their checks, and how they meet their contract.
+-- Assumes nothing.
 use mathlib.Core.Path.{_≡_}
 use mathlib.Core.Bool.{true, false}
 use mathlib.Core.List.{List, [], _∷_}
 use Prim.Native.Nat.{ℕ, _*_, _<_, _≤_, min}
 use native.Mathlib.Omega.{arith}
-use lib.ListN.{length, getD}
-use lib.Ieee.{Float, nan}
+use lib.ListN.{length}
+use lib.Ieee.{Float}
 use Rattle.values.specs.Accepted.{accepted}
-use Rattle.cells.specs.Line.{Line, Causal, Same, plusZero}
+use Rattle.cells.specs.Line.{Line, plusZero}
 use Rattle.cells.specs.Written.{Writing}
 use Rattle.cells.specs.inner.Touched.{Touched}
 use Rattle.calls.specs.declared.Answer.{Answer}
@@ -16,7 +16,6 @@ use Rattle.calls.specs.declared.Answer.the-variants.{Cells}
 use Rattle.calls.specs.Answer.{countOf, clearedOf, andThen, checked}
 use Rattle.calls.specs.Call.{BandCall}
 use Rattle.calls.proofs.Call.{AllBars, all-called, none-called}
-use Rattle.calls.proofs.Cells.{no-look-ahead}
 use Rattle.calls.proofs.Room.{Room}
 use Rattle.checks.specs.inner.Due.{CellsDue}
 use Rattle.checks.specs.inner.Three.{Three}
@@ -81,24 +80,3 @@ module _ {due r : Answer} {l : ℕ} {f g h : Line} {middle₀ upper₀ lower₀ 
           lower = none-called e (none .0);
           work = none .1;
         }
-
--- ---- no look-ahead
-
--- Calls of three causal operators on x and y, which agree up to bar b, each with more than b cells: equal cells up to
--- bar b in each output.
-pub no-look-ahead-of-three : {X : Type 0} {F G H : (ℕ → X) → Line} → Causal F → Causal G → Causal H → (x y : ℕ → X)
-    (b : ℕ)
-    → Same x y b
-    → {due due′ : Answer} {m₀ u₀ l₀ work₀ m₁ u₁ l₁ work₁ m₀′ u₀′ l₀′ work₀′ m₁′ u₁′ l₁′ work₁′ : List Float}
-    {n n′ k k′ : ℕ}
-    → BandCall due (F x) (G x) (H x) m₀ u₀ l₀ n work₀ (Cells k) m₁ u₁ l₁ work₁
-    → (b < k) × (k ≤ min (length m₀) (min (length u₀) (length l₀)))
-    → BandCall due′ (F y) (G y) (H y) m₀′ u₀′ l₀′ n′ work₀′ (Cells k′) m₁′ u₁′ l₁′ work₁′
-    → (b < k′) × (k′ ≤ min (length m₀′) (min (length u₀′) (length l₀′)))
-    → (j : ℕ) → j ≤ b
-    → (getD m₁ j nan ≡ getD m₁′ j nan) × (getD u₁ j nan ≡ getD u₁′ j nan) × (getD l₁ j nan ≡ getD l₁′ j nan)
-no-look-ahead-of-three p q r x y b same c h c′ h′ j l = (
-  no-look-ahead nan p x y b same (c .middle) (omega arith) (c′ .middle) (omega arith) j l,
-  no-look-ahead nan q x y b same (c .upper) (omega arith) (c′ .upper) (omega arith) j l,
-  no-look-ahead nan r x y b same (c .lower) (omega arith) (c′ .lower) (omega arith) j l,
-)

@@ -21,6 +21,11 @@ Inv-loop close n i out₀ variances count j₀ out j =
 abbrev μ-loop : tie.MeasureT-loop
 μ-loop close n i out₀ variances count j₀ out j = count - j
 
+loop-holds : tie.Need-loop-holds Inv-loop μ-loop
+loop-holds c =
+    let start = c .before .before .before .before .before .before .before in
+    (omega arith, rw add-zero (start .pre .cells))
+
 loop-again : tie.Need-loop-again Inv-loop μ-loop
 loop-again c =
     let at = c .before .before in
@@ -29,8 +34,9 @@ loop-again c =
     let a = start .args in
     let j = at .loop .j in
     let variance = read-back j nan (spread .write-spreads .ensures .variances) (omega arith) in
-    let cell = c .square-root .ensures ∙ deviation-at (now (a .close)) (a .n) (a .i + j) (start .pre .asked .values) variance
-    (omega arith) in
+    let root = c .square-root .ensures in
+    let ok = start .pre .asked .values in
+    let cell = root ∙ deviation-at (now (a .close)) (a .n) (a .i + j) ok variance (omega arith) in
     (omega arith, step (a .i + j) (a .i + (j + 1)) (at .loop .inv .1) cell (omega arith))
 
 returns : tie.Need-returns Inv-loop μ-loop
@@ -49,7 +55,7 @@ write-some-deviations-spec =
     (λ c. search needs)  -- slice-aggregate-write-spreads
     (λ c. search needs)  -- slice-aggregate-write-spreads-2
     (λ c κs. search needs)  -- write-spreads-requires
-    (λ c. (omega arith, rw add-zero (c .before .before .before .before .before .before .before .pre .cells)))  -- loop-holds
+    loop-holds
     (λ c. search needs)  -- mul-square-root
     (λ c. search needs)  -- array-read-square-root
     (λ c κs. search needs)  -- square-root-requires
