@@ -1,0 +1,107 @@
+-- The call of `ultimate_oscillator`: what is known where its cells are due, and its cells from the two rows. Assumes
+-- nothing.
+use mathlib.Core.Path.{_≡_, sym, _∙_}
+use mathlib.Core.Bool.{Bool, true}
+use mathlib.Core.List.{List, [], _∷_}
+use Prim.Native.Nat.{ℕ, _+_, _*_, _<_, _≤_}
+use native.Mathlib.Omega.{arith}
+use lib.Dec.{T}
+use lib.ListN.{length}
+use lib.Ieee.{Float, binary64, fits}
+use Rattle.values.specs.Accepted.{accepted, all}
+use Rattle.calls.specs.declared.Answer.{Answer}
+use Rattle.calls.specs.declared.Answer.the-variants.{Cells}
+use Rattle.calls.specs.Answer.{andThen, unless, countOf, clearedOf, checked, slices, windowed}
+use Rattle.calls.specs.declared.Refusal.the-variants.{ValueNotAccepted}
+use Rattle.calls.proofs.Call.{AllBars}
+use Rattle.calls.proofs.Room.{asked, unless-cells, andThen-cells, same-count}
+use Rattle.checks.proofs.Three.{checked-three}
+use Rattle.checks.proofs.Passed.{passed, three-passed, three-clearable}
+use Rattle.cells.specs.Line.{Line, line, minusZero}
+use Rattle.cells.specs.Written.{Writing}
+use Rattle.cells.proofs.Written.{writing-same}
+use Rattle.cells.specs.inner.Rows.{beside}
+use Rattle.window_means.specs.inner.Row.{rowAt}
+use Rattle.true_range.specs.TrueRange.{trueRanges, closeBefore}
+use Rattle.oscillator.specs.Oscillator.{pressures, weighedShares, oscillatorLine, oscillatorAnswer}
+use Rattle.oscillator.specs.inner.Rows.{Ready}
+use Rattle.oscillator.proofs.Oscillator.{shares-either, from-rows}
+use Rattle.oscillator.proofs.Zeros.{Plain, plain-values, either-pressures, either-ranges}
+
+-- the values of three series that were checked
+three-values : (ok : Float → Bool) (s t u : List Float) (outputs work : List ℕ) (k : ℕ)
+    → checked ok (s ∷ t ∷ u ∷ []) outputs work ≡ Cells k
+    → (all ok s ≡ true) × (all ok t ≡ true) × (all ok u ≡ true)
+three-values ok s t u outputs work k e =
+    let lengths = slices (length s ∷ length t ∷ length u ∷ []) outputs work in
+    let last = andThen lengths (unless (all ok u) ValueNotAccepted (Cells (length u))) in
+    let later = andThen last (unless (all ok t) ValueNotAccepted (Cells (length t))) in
+    let one = andThen-cells later _ k (sym (checked-three ok s t u outputs work) ∙ e) in
+    let two = andThen-cells last _ _ (one .0) in
+    let three = andThen-cells lengths _ _ (two .0) in (
+      unless-cells (all ok s) _ _ _ (one .1) .0,
+      unless-cells (all ok t) _ _ _ (two .1) .0,
+      unless-cells (all ok u) _ _ _ (three .1) .0,
+    )
+
+module _ (high low close : List Float) (n m k out work : ℕ) where
+  abbrev due : Answer
+  due = checked accepted (high ∷ low ∷ close ∷ []) (out ∷ []) (work ∷ [])
+
+  abbrev rest : Answer
+  rest = windowed (length high) (n ∷ m ∷ k ∷ []) (Cells (length high))
+
+  pub oscillator-clearable : {r : Answer} → r ≡ oscillatorAnswer high low close n m k out work
+      → clearedOf r (8 * length high) ≤ work
+  unfolding oscillatorAnswer
+  oscillator-clearable e = three-clearable high low close out work rest e
+
+  -- it has a cell for each bar
+  pub oscillator-bars : AllBars (oscillatorAnswer high low close n m k out work) (length high)
+  unfolding oscillatorAnswer windowed
+  oscillator-bars j e h =
+      let next = andThen-cells due rest j e .1 in
+      sym (same-count _ _ (asked (length high) [] (n ∷ m ∷ k ∷ []) [] (Cells (length high)) j next h .rest))
+
+  -- and where they are due, all is in order
+  pub oscillator-ready : {r : Answer} → r ≡ oscillatorAnswer high low close n m k out work → 0 < countOf r
+      → Ready high low close n m k out work
+  unfolding oscillatorAnswer windowed
+  oscillator-ready {r} e h =
+      let p = three-passed high low close out work rest e h in
+      let a = asked (length high) [] (n ∷ m ∷ k ∷ []) [] (Cells (length high)) (countOf r) (p .1) h in
+      record {
+        lows = p .0 .second;
+        closes = p .0 .third;
+        values = three-values accepted high low close (out ∷ []) (work ∷ []) _ (passed due rest e h .0);
+        short = a .each .0;
+        medium = a .each .1 .0;
+        long = a .each .1 .1 .0;
+        out-long = p .0 .out-long;
+        work-long = p .0 .work-long .0;
+      }
+
+-- ---- the cells
+
+abbrev Fit : List Float → Type 0
+Fit s = (i : ℕ) → T (fits binary64 (line s i))
+
+pub oscillator-cells : (high low close : List Float) {n m k out room : ℕ} → Ready high low close n m k out room
+    → Fit high → Fit low → Fit close
+    → {work rows old now : List Float}
+    → Writing (length high + length high) (beside (length high) (pressures (line low) (line close))
+    (trueRanges (line high) (line low) (closeBefore (line close)))) work rows
+    → 2 * length high ≤ length work
+    → Writing (length high) (weighedShares minusZero n m k (line rows) (rowAt (length high) rows)) old now
+    → Writing (length high) (oscillatorLine n m k (line high) (line low) (line close)) old now
+unfolding oscillatorLine
+oscillator-cells high low close {n} {m} {k} r x y z rows h w =
+    let hs = plain-values high x (r .values .0) in
+    let ls : (i : ℕ) → i < length high → Plain (line low i) =
+    λ i l. plain-values low y (r .values .1) i (rw (r .lows) l) in
+    let cs : (i : ℕ) → i < length high → Plain (line close i) =
+    λ i l. plain-values close z (r .values .2) i (rw (r .closes) l) in
+    writing-same (from-rows n m k (length high) _ _ rows h w)
+    (λ i l.
+    shares-either _ _ i (λ j s. either-pressures hs ls cs j (omega arith))
+    (λ j s. either-ranges hs ls cs j (omega arith)) n m k (r .short .some, r .medium .some, r .long .some))

@@ -1,0 +1,42 @@
+-- `write_oscillator` meets its contract: a row of pressures, one of true ranges, and the cells from both. Assumes
+-- nothing.
+use native.Mathlib.Omega.{arith}
+use borrow.Author.Needs.{needs}
+use Rattle.cells.proofs.Rows.{lent-on}
+use Rattle.cells.proofs.Touched.{touched, touched-more}
+use Rattle.cells.proofs.Written.{ends}
+use Rattle.oscillator.proofs.Calls.{oscillator-cells}
+use Rattle.oscillator.proofs.write_oscillator.Statement.{statement}
+use Rattle.oscillator.proofs.write_oscillator.Tie as tie
+
+returns : tie.Need-returns
+returns c =
+    let cells = c .before .before in
+    let ranges = cells .before .before .before .before .before in
+    let pressures = ranges .before .before .before .before in
+    let closes = pressures .before .before .before .before in
+    let lows = closes .before in
+    let highs = lows .before in
+    let pre = highs .before .pre in
+    let rows = lent-on (ends (pressures .write-pressures .ensures) (pre .closes)) (ranges .write-ranges .ensures)
+    (omega arith) in (
+      oscillator-cells _ _ _ pre (highs .shared-slice-known .given) (lows .shared-slice-known2 .given)
+          (closes .shared-slice-known3 .given) rows (omega arith) (cells .write-from-rows .ensures),
+      touched-more (touched rows) (omega arith),
+    )
+
+pub write-oscillator-spec : {M : Type 1} → statement M
+write-oscillator-spec =
+    tie.close
+    (tie.spec
+    (λ c κs. search needs)  -- write-pressures-requires
+    (λ c. search needs)  -- mul-write-ranges
+    (λ c. search needs)  -- sub-write-ranges
+    (λ c. search needs)  -- part-write-ranges-start
+    (λ c. search needs)  -- part-write-ranges-end
+    (λ c κs. search needs)  -- write-ranges-requires
+    (λ c κs. search needs)  -- write-from-rows-requires
+    (λ c. search needs)  -- same-length
+    (λ c. search needs)  -- same-length-2
+    returns
+    )

@@ -1,0 +1,89 @@
+-- What the functions under `ultimate_oscillator` ask of each other. Assumes nothing.
+use mathlib.Core.Path.{_≡_}
+use mathlib.Core.Bool.{true}
+use mathlib.Core.List.{List, [], _∷_}
+use Prim.Native.Nat.{ℕ, _+_, _-_, _*_, _<_, _≤_, max, min}
+use lib.ListN.{length}
+use lib.Ieee.{Float}
+use Rattle.limits.specs.Limits.{Window}
+use Rattle.values.specs.Accepted.{accepted, all}
+use Rattle.cells.specs.Line.{Line, line, minusZero}
+use Rattle.cells.specs.Written.{Writing}
+use Rattle.windows.specs.declared.Lanes.{Lanes}
+use Rattle.oscillator.specs.Oscillator.{ratio, weighed, weighedShares}
+
+-- three series of one length with accepted values, three windows, a cell for each bar, and eight rows of work cells
+pub record Ready (high low close : List Float) (n m k out work : ℕ) : Type 0 where
+  pub lows : length low ≡ length high
+  pub closes : length close ≡ length high
+  pub values : (all accepted high ≡ true) × (all accepted low ≡ true) × (all accepted close ≡ true)
+  pub short : Window n
+  pub medium : Window m
+  pub long : Window k
+  pub out-long : length high ≤ out
+  pub work-long : 8 * length high ≤ work
+
+-- three windows over two rows of one length
+pub record Windows₃ (n m k : ℕ) (f g : List Float) : Type 0 where
+  pub short : Window n
+  pub medium : Window m
+  pub long : Window k
+  pub same : length g ≡ length f
+
+-- all of them are whole at each of `count` bars from i on
+pub record Whole₃ (n m k : ℕ) (f g : List Float) (i count : ℕ) : Type 0 where
+  pub windows : Windows₃ n m k f g
+  pub full : max n (max m k) ≤ i + 1
+  pub inside : i + count ≤ length f
+
+-- three windows over two rows that stand one after the other, and a cell for each bar
+pub record TwoRows (n m k bars rows out : ℕ) : Type 0 where
+  pub short : Window n
+  pub medium : Window m
+  pub long : Window k
+  pub inside : 2 * bars ≤ rows
+  pub room : bars ≤ out
+
+-- the cells, with windows summed from -0.0
+abbrev pub afresh : ℕ → ℕ → ℕ → List Float → List Float → Line
+afresh n m k f g = weighedShares minusZero n m k (line f) (line g)
+
+-- the cells before bar `from`, which is past the lead, stand in `now`, which has room for the rest
+pub record Begun (n m k : ℕ) (f g : List Float) (from : ℕ) (now : List Float) : Type 0 where
+  pub windows : Windows₃ n m k f g
+  pub past-lead : min (max n (max m k) - 1) (length f) ≤ from
+  pub inside : from ≤ length f
+  pub room : length f ≤ length now
+  pub cells : Writing from (afresh n m k f g) now now
+
+-- they were written on, up to bar r
+pub record Reached (n m k : ℕ) (f g : List Float) (from r : ℕ) (old now : List Float) : Type 0 where
+  pub on : from ≤ r
+  pub inside : r ≤ length f
+  pub cells : Writing r (afresh n m k f g) old now
+
+-- each lane of x over that of y
+abbrev pub eachRatio : Lanes → Lanes → Lanes
+eachRatio x y = record {
+  lane0 = ratio (x .lane0) (y .lane0);
+  lane1 = ratio (x .lane1) (y .lane1);
+  lane2 = ratio (x .lane2) (y .lane2);
+  lane3 = ratio (x .lane3) (y .lane3);
+  lane4 = ratio (x .lane4) (y .lane4);
+  lane5 = ratio (x .lane5) (y .lane5);
+  lane6 = ratio (x .lane6) (y .lane6);
+  lane7 = ratio (x .lane7) (y .lane7);
+}
+
+-- the lanes of three shares, weighed
+abbrev pub eachWeighed : Lanes → Lanes → Lanes → Lanes
+eachWeighed x y z = record {
+  lane0 = weighed (x .lane0) (y .lane0) (z .lane0);
+  lane1 = weighed (x .lane1) (y .lane1) (z .lane1);
+  lane2 = weighed (x .lane2) (y .lane2) (z .lane2);
+  lane3 = weighed (x .lane3) (y .lane3) (z .lane3);
+  lane4 = weighed (x .lane4) (y .lane4) (z .lane4);
+  lane5 = weighed (x .lane5) (y .lane5) (z .lane5);
+  lane6 = weighed (x .lane6) (y .lane6) (z .lane6);
+  lane7 = weighed (x .lane7) (y .lane7) (z .lane7);
+}
