@@ -4,11 +4,10 @@ use mathlib.Core.Logic.{⊎-elim}
 use Rattle.oscillator.proofs.longest.Statement.{statement}
 use Rattle.oscillator.proofs.longest.Tie as tie
 
-returns : tie.Need-returns
-returns c = ⊎-elim (λ w. omega arith) (λ w. omega arith) (c .before .if1 .came)
-
-returns-2 : tie.Need-returns-2
-returns-2 c = ⊎-elim (λ w. omega arith) (λ w. omega arith) (c .before .if1 .came)
-
 pub longest-spec : {M : Type 1} → statement M
-longest-spec = tie.close (tie.spec returns returns-2)
+longest-spec =
+    tie.close
+    (tie.spec
+    (λ c. ⊎-elim (λ w. omega arith) (λ w. omega arith) (c .before .if1 .came))  -- returns
+    (λ c. ⊎-elim (λ w. omega arith) (λ w. omega arith) (c .before .if1 .came))  -- returns-2
+    )
