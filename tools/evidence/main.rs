@@ -4,6 +4,7 @@ mod compare;
 mod evidence;
 mod request;
 
+use std::io::{Write, stdout};
 use std::process::ExitCode;
 
 use evidence::Answer;
@@ -15,10 +16,7 @@ fn main() -> ExitCode {
     let words: Vec<String> = std::env::args().skip(1).collect();
     let words: Vec<&str> = words.iter().map(String::as_str).collect();
     match words[..] {
-        ["--help"] => {
-            println!("{USAGE}");
-            ExitCode::SUCCESS
-        }
+        ["--help"] => print(&format!("{USAGE}\n")),
         ["compare", program, seed, count, input] => match (seed.parse(), count.parse()) {
             (Ok(seed), Ok(count)) => compare::run(program, seed, count, input),
             _ => wrong("a seed and a count are numbers"),
@@ -40,25 +38,35 @@ fn wrong(why: &str) -> ExitCode {
     ExitCode::from(2)
 }
 
+fn print(text: &str) -> ExitCode {
+    match stdout().write_all(text.as_bytes()) {
+        Ok(()) => ExitCode::SUCCESS,
+        Err(error) => {
+            eprintln!("explain: writing: {error}");
+            ExitCode::from(1)
+        }
+    }
+}
+
 /// Explains the bar's cell in each request of the desk.
 fn explain(input: &[u8], desk: usize, bar: usize) -> ExitCode {
     let (requests, broken) = request::read(input);
+    let mut text = String::new();
     let mut told = false;
     for (place, request) in requests.iter().enumerate().filter(|(_, request)| request.desk == desk) {
         told |= bar < request.prices.len();
         let (verdict, words) = verdict(request, bar);
-        println!("{}: {verdict}", headed(request, place + 1, bar));
+        text += &format!("{}: {verdict}\n", headed(request, place + 1, bar));
         for line in words {
-            println!("    {line}");
+            text += &format!("    {line}\n");
         }
     }
     if broken {
-        println!(
-            "request {} breaks its columns: the sheet refuses it with 10 and reads no further",
-            requests.len() + 1
-        );
+        let place = requests.len() + 1;
+        text += &format!("request {place} breaks its columns: the sheet refuses it with 10 and reads no further\n");
     }
-    if told { ExitCode::SUCCESS } else { wrong(&format!("no request of desk {desk} that is read has a bar {bar}")) }
+    let printed = print(&text);
+    if told { printed } else { wrong(&format!("no request of desk {desk} that is read has a bar {bar}")) }
 }
 
 fn headed(request: &Request, place: usize, bar: usize) -> String {
