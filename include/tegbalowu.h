@@ -159,6 +159,17 @@ tegbalowu_answer tegbalowu_rsx_ss2(const double *close, size_t close_len, size_t
                                    double *out, size_t out_len, double *work, size_t work_len);
 
 /*
+ * Additive Holt-Winters smoothing: level plus trend plus seasonal part of each bar, from bar
+ * season_length on; the cells before copy the series. The level starts as the mean of the first
+ * season_length values and the trend as 0; alpha, beta and gamma, of any finite size, weigh a new
+ * value in level, trend and seasonal part. A season longer than the series is answered with
+ * count 0. Refusals 1, 3, 4, 5, 6, 7.
+ */
+tegbalowu_answer tegbalowu_holt_winters(const double *series, size_t series_len, size_t season_length, double alpha,
+                                        double beta, double gamma, double *out, size_t out_len, double *work,
+                                        size_t work_len);
+
+/*
  * Rank: the share of the n-1 means before the present one that lie below it, moved from 0..1 to
  * -1..1 and rounded to hundredths, half away from zero, so that -0.0 is possible; from bar 2n-2
  * on. n = 1 gives NaN at every bar. Refusals 1, 3, 4, 5, 7.

@@ -13,6 +13,7 @@ ghost use Rattle.rules_middle.specs.Middle.{MidCall};
 ghost use Rattle.capi.specs.Numbers.{Numbers, InNumbers};
 ghost use Rattle.averages_wilder.specs.WilderRsi.{WilderRsiCall};
 ghost use Rattle.rsx.specs.Rsx.{RsxCall};
+ghost use Rattle.holt_winters.specs.HoltWinters.{HoltWintersCall};
 ghost use Rattle.rules_bands.specs.Boll.{BollCall};
 ghost use Rattle.rules_bands.specs.BollReverse.{BollReverseCall};
 ghost use Rattle.rules_ema.specs.SingleEma.{SingleEmaCall};
@@ -200,6 +201,22 @@ pub extern "C" fn tegbalowu_rsx_ss2(
         (now (work .entry)) a (now (out .exit)) (now (work .exit))) r ⌝ }
 {
     numbers(rsx::rsx_ss2(close, period, smooth_period, out, work))
+}
+
+#[no_mangle]
+pub extern "C" fn tegbalowu_holt_winters(
+    series: &[f64],
+    season_length: usize,
+    alpha: f64,
+    beta: f64,
+    gamma: f64,
+    out: &mut [f64],
+    work: &mut [f64],
+) -> CAnswer
+    ensures { λ r. ⌜ InNumbers (λ a. HoltWintersCall (now (series .entry)) «season_length» alpha beta gamma
+        (now (out .entry)) (now (work .entry)) a (now (out .exit)) (now (work .exit))) r ⌝ }
+{
+    numbers(holt_winters::holt_winters(series, season_length, alpha, beta, gamma, out, work))
 }
 
 #[no_mangle]

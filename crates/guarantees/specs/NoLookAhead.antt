@@ -41,6 +41,8 @@ use Rattle.rules_middle.specs.Middle.{MidCall}
 use Rattle.rules_middle.proofs.Middle.{causal-mid}
 use Rattle.averages_wilder.proofs.Causal.{causal-wilder-rsi}
 use Rattle.averages_wilder.specs.WilderRsi.{WilderRsiCall}
+use Rattle.holt_winters.proofs.Causal.{causal-holt-winters}
+use Rattle.holt_winters.specs.HoltWinters.{HoltWintersCall, weights, holtWintersAnswer}
 use Rattle.rsx.proofs.Causal.{causal-rsx}
 use Rattle.rsx.specs.Rsx.{RsxCall, rsxAnswer}
 use Rattle.rules_bands.proofs.Bands.{causal-boll, causal-boll-reverse}
@@ -162,6 +164,14 @@ module _ {s t out₀ out₁ out₀′ out₁′ work₀ work₁ work₀′ work�
       → RsxCall t n m out₀′ work₀′ (Cells (length t)) out₁′ work₁′ → EqualCells nan out₁ out₁′ b
   unfolding rsxAnswer
   rsx-no-look-ahead n m c c′ = table-agrees nan accepted equal _ _ _ _ (causal-rsx n m) (c .call) (c′ .call)
+
+  -- at every bar: a cell of the first season is its own price, so nothing after it is read
+  pub holt-winters-no-look-ahead : (m : ℕ) (alpha beta gamma : Float)
+      → HoltWintersCall s m alpha beta gamma out₀ work₀ (Cells (length s)) out₁ work₁
+      → HoltWintersCall t m alpha beta gamma out₀′ work₀′ (Cells (length t)) out₁′ work₁′ → EqualCells nan out₁ out₁′ b
+  unfolding holtWintersAnswer
+  holt-winters-no-look-ahead m alpha beta gamma c c′ =
+      table-agrees nan accepted equal _ _ _ _ (causal-holt-winters m (weights alpha beta gamma)) (c .call) (c′ .call)
 
 -- those whose cells are whole numbers
 module _ {s t : List Float} {out₀ out₁ out₀′ out₁′ : List ℤ} {work₀ work₁ work₀′ work₁′ : List Float} {b : ℕ}

@@ -1,0 +1,3 @@
+pub mod Bars
+pub mod Causal
+pub mod Stages

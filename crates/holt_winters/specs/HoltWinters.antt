@@ -1,0 +1,72 @@
+-- Additive Holt-Winters smoothing: what `holt_winters` answers and writes. C. C. Holt, 1957; P. R. Winters, Forecasting
+-- Sales by Exponentially Weighted Moving Averages, 1960. Every operation is rounded once. Assumes nothing.
+use mathlib.Core.Bool.{cond}
+use mathlib.Core.List.{List, [], _∷_}
+use Prim.Native.Nat.{ℕ, _+_, _-_}
+use lib.Dec.{ltb, eqb}
+use lib.ListN.{length}
+use lib.Ieee.{Float, binary64, add, sub}
+use Rattle.cells.specs.Line.{Line, line, plusZero}
+use Rattle.cells.specs.Recur.{recur}
+use Rattle.windows.specs.Window.{mean}
+use Rattle.averages_exponential.specs.Blend.{blend}
+use Rattle.values.specs.Accepted.{accepted}
+use Rattle.calls.specs.declared.Answer.{Answer}
+use Rattle.calls.specs.declared.Answer.the-variants.{Cells}
+use Rattle.calls.specs.Answer.{andThen, checked, limited, unlessEmpty, emptyIf}
+use Rattle.calls.specs.Call.{WorkCall}
+use Rattle.holt_winters.specs.declared.Fit.{Fit}
+use Rattle.holt_winters.specs.declared.Weights.{Weights}
+
+-- how much a new price weighs in the level, in the trend and in the seasonal part
+abbrev pub weights : Float → Float → Float → Weights
+weights alpha beta gamma = record { alpha = alpha; beta = beta; gamma = gamma }
+
+-- a bar of the first season: the season's mean, no trend, and the price less the mean
+abbrev pub firstFit : Float → Float → Fit
+firstFit average x = record { level = average; trend = plusZero; season = sub binary64 x average }
+
+-- A later bar, of price x: `last` is the bar before it, and `old` the seasonal part one season before it. Each part
+-- blends what the price says with what was known.
+unfoldable pub nextFit : Weights → Fit → Float → Float → Fit
+nextFit w last old x =
+    let level = blend (w .alpha) (add binary64 (last .level) (last .trend)) (sub binary64 x old) in
+    let trend = blend (w .beta) (last .trend) (sub binary64 level (last .level)) in
+    record { level = level; trend = trend; season = blend (w .gamma) old (sub binary64 x level) }
+
+-- the bars before bar m + k, and that bar
+unfoldable pub withNext : ℕ → Weights → Line → ℕ → (ℕ → Fit) → ℕ → Fit
+withNext m w f k fits j =
+    cond (eqb j (m + k)) (nextFit w (fits (m + k - 1)) (fits k .season) (f (m + k))) (fits j)
+
+-- the bars of the first season, which has m bars, and the k bars after it
+unfoldable pub fitsAfter : ℕ → Weights → Line → ℕ → ℕ → Fit
+fitsAfter m w f = recur (λ j. firstFit (mean m f (m - 1)) (f j)) (withNext m w f)
+
+-- bar i's level, trend and seasonal part
+unfoldable pub fitLine : ℕ → Weights → Line → ℕ → Fit
+fitLine m w f i = fitsAfter m w f (i + 1 - m) i
+
+-- level + trend + season
+abbrev pub total : Fit → Float
+total fit = add binary64 (add binary64 (fit .level) (fit .trend)) (fit .season)
+
+-- the first season's cells are the prices
+unfoldable pub holtWintersLine : ℕ → Weights → Line → Line
+holtWintersLine m w f i = cond (ltb i m) (f i) (total (fitLine m w f i))
+
+-- the season is a window, and the answer is empty also where it is longer than the series
+unfoldable pub holtWintersAnswer : List Float → ℕ → Weights → ℕ → ℕ → Answer
+holtWintersAnswer s m w output work =
+    andThen (checked accepted (s ∷ []) (output ∷ []) (work ∷ []))
+    (limited (w .alpha ∷ w .beta ∷ w .gamma ∷ []) (m ∷ []) []
+    (unlessEmpty (length s) (m ∷ []) []
+    (emptyIf (ltb (length s) m)
+    (Cells (length s)))))
+
+-- what a call of `holt_winters` promises
+abbrev pub HoltWintersCall : List Float → ℕ → Float → Float → Float → List Float → List Float → Answer → List Float
+    → List Float → Type 0
+HoltWintersCall s m alpha beta gamma out₀ work₀ =
+    let w = weights alpha beta gamma in
+    WorkCall (holtWintersAnswer s m w (length out₀) (length work₀)) (holtWintersLine m w (line s)) out₀ (length s) work₀
