@@ -145,8 +145,9 @@ functions! {
     /// `close_prev[0]` is not used, though it is checked. Refusals 1, 2, 3, 5.
     tegbalowu_true_range true_range(high, low, close_prev; ; out: f64);
 
-    /// Additive Holt-Winters smoothing, started from the first season's mean: the cells of that season may depend on
-    /// its later bars. The count is 0 also where the season is above the series' length. Refusals 1, 3, 4, 5, 6, 7.
+    /// Additive Holt-Winters smoothing, started from the first season's mean: level plus trend plus seasonal part. The
+    /// first season's cells copy the series. The count is 0 also where the season is above the series' length.
+    /// Refusals 1, 3, 4, 5, 6, 7.
     tegbalowu_holt_winters holt_winters(
         series; season_length: usize, alpha: f64, beta: f64, gamma: f64; out: f64; work
     );
