@@ -21,11 +21,17 @@ unsigned int tegbalowu_sheet(void);
 
 static const char USAGE[] = "usage: sheet < REQUESTS > ANSWERS\n";
 
-/* Writes the usage after the words before it, and gives the status. */
-static int say(int file, const char *before, int status)
+/* Writes the words and then the usage to standard error: the status of wrong use. */
+static int wrong(const char *why)
 {
-    if (write(file, before, strlen(before)) >= 0 && write(file, USAGE, strlen(USAGE)) >= 0)
-        return status;
+    if (write(ERRORS, why, strlen(why)) >= 0)
+        (void)write(ERRORS, USAGE, strlen(USAGE));
+    return 2;
+}
+
+/* The status after a write that failed. */
+static int unwritten(void)
+{
     perror("sheet: writing");
     return 1;
 }
@@ -35,17 +41,13 @@ int main(int count, char **words)
     /* A reader that goes away is a write that fails, not the end of the program: SIG_IGN is 1. */
     signal(SIGPIPE, (handler *)1);
     if (count == 2 && strcmp(words[1], "--help") == 0)
-        return say(OUTPUT, "", 0);
+        return write(OUTPUT, USAGE, strlen(USAGE)) < 0 ? unwritten() : 0;
     if (count > 1)
-        return say(ERRORS, "sheet: it takes no argument; ", 2);
+        return wrong("sheet: it takes no argument; ");
     if (isatty(INPUT))
-        return say(ERRORS, "sheet: standard input is a terminal; ", 2);
-
-    int status = (int)tegbalowu_sheet();
+        return wrong("sheet: standard input is a terminal; ");
+    if (tegbalowu_sheet() != 0)
+        return 1;
     /* Some file systems tell only now that they could not keep what was written. */
-    if (status == 0 && close(OUTPUT) != 0) {
-        perror("sheet: writing");
-        status = 1;
-    }
-    return status;
+    return close(OUTPUT) != 0 ? unwritten() : 0;
 }

@@ -145,9 +145,17 @@ functions! {
     /// `close_prev[0]` is not used, though it is checked. Refusals 1, 2, 3, 5.
     tegbalowu_true_range true_range(high, low, close_prev; ; out: f64);
 
-    /// Additive Holt-Winters smoothing, started from the first season's mean: level plus trend plus seasonal part. The
-    /// first season's cells copy the series. The count is 0 also where the season is above the series' length.
-    /// Refusals 1, 3, 4, 5, 6, 7.
+    /// Additive Holt-Winters smoothing: level plus trend plus seasonal part of each bar, from bar season_length on; the
+    /// cells before copy the series. The level starts as the mean of the first `season_length` values and the trend as
+    /// 0; `alpha`, `beta` and `gamma` weigh a new value in level, trend and seasonal part. The count is 0 also where
+    /// the season is longer than the series. Refusals 1, 3, 4, 5, 6, 7.
+    ///
+    /// ```
+    /// let mut out = [9.0; 2];
+    /// let mut work = tegbalowu::work_for(2);
+    /// assert_eq!(tegbalowu::holt_winters(&[4.0, 6.0], 1, 0.5, 0.0, 0.0, &mut out, &mut work), Ok(2));
+    /// assert_eq!(out, [4.0, 5.0]);
+    /// ```
     tegbalowu_holt_winters holt_winters(
         series; season_length: usize, alpha: f64, beta: f64, gamma: f64; out: f64; work
     );
