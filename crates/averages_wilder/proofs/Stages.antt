@@ -1,4 +1,4 @@
--- Wilder's averages of gains and losses, as the loops find them. Assumes nothing.
+-- Wilder's average, and those of gains and losses, as the loops find them. Assumes nothing.
 use mathlib.Core.Path.{_≡_}
 use Prim.Native.Nat.{ℕ, _+_, _-_, _<_, _≤_}
 use native.Mathlib.Omega.{arith}
@@ -15,22 +15,21 @@ use Rattle.averages_wilder.specs.WilderRsi.{wilderCell, wilderRsiLine}
 use Rattle.averages_wilder.specs.inner.Averaged.{Averaged}
 
 -- one more bar is summed
-pub summed : {f : Line} {k : ℕ} {x y : Float} → Summing plusZero f 1 k x → y ≡ f (1 + k)
-    → Summing plusZero f 1 (k + 1) (add binary64 x y)
+pub summed : {f : Line} {a k : ℕ} {x y : Float} → Summing plusZero f a k x → y ≡ f (a + k)
+    → Summing plusZero f a (k + 1) (add binary64 x y)
 summed s e = rw e (one-added s)
 
--- the seed, from the sum of the bars 1 to n
-pub seed-of : (n : ℕ) (f : Line) {k : ℕ} {x : Float} → Summing plusZero f 1 k x → k ≡ n → over n x ≡ wilder n n f n
-unfolding wilder
-seed-of n f s e =
-    let start : n + 1 - n ≡ 1 = omega arith in
-    rw (carried-seed nan (wilderStep n) n (wilderSeed n n f) f, s .is, e, start)
+module _ (n a : ℕ) (f : Line) where
+  -- the seed, from the sum of the n bars from bar b on
+  pub seed-of : {b k : ℕ} {x : Float} → Summing plusZero f b k x → (k ≡ n) × (b ≡ a + 1 - n)
+      → over n x ≡ wilder n a f a
+  unfolding wilder
+  seed-of s (e, start) = rw (carried-seed nan (wilderStep n) a (wilderSeed n a f) f, s .is, e, start)
 
--- the next cell
-pub next-of : (n i : ℕ) (f : Line) {x y : Float} → x ≡ wilder n n f (i - 1) → y ≡ f i → n < i
-    → wilderStep n x y ≡ wilder n n f i
-unfolding wilder
-next-of n i f e g h = rw (carried-next nan (wilderStep n) n (wilderSeed n n f) f i h, e, g)
+  -- the next cell
+  pub next-of : (i : ℕ) {x y : Float} → x ≡ wilder n a f (i - 1) → y ≡ f i → a < i → wilderStep n x y ≡ wilder n a f i
+  unfolding wilder
+  next-of i e g h = rw (carried-next nan (wilderStep n) a (wilderSeed n a f) f i h, e, g)
 
 -- the cell of bar i
 pub rsi-at : (n i : ℕ) (f : Line) (r : Averages) → Averaged n f i r → n ≤ i

@@ -1,4 +1,4 @@
-// Wilder's averages of gains and losses, and the relative strength index that is made of them.
+// Wilder's average, and the relative strength index that is made of those of gains and losses.
 use calls::Answer;
 use changes::Averages;
 ghost use mathlib.Core.Path.{_≡_};
@@ -7,7 +7,7 @@ ghost use lib.ListN.{length};
 ghost use Rattle.limits.specs.Limits.{Window};
 ghost use Rattle.cells.specs.Line.{line};
 ghost use Rattle.cells.specs.Written.{Writing};
-ghost use Rattle.averages_wilder.specs.Wilder.{wilderStep};
+ghost use Rattle.averages_wilder.specs.Wilder.{wilderStep, wilder};
 ghost use Rattle.averages_wilder.specs.WilderRsi.{wilderCell, wilderRsiLine, WilderRsiCall};
 ghost use Rattle.averages_wilder.specs.inner.Averaged.{Averaged};
 
@@ -17,6 +17,49 @@ pub fn step(last: f64, n: usize, x: f64) -> f64
     ensures { λ r. ⌜ r ≡ wilderStep n last x ⌝ }
 {
     (last * ((n - 1) as f64) + x) / (n as f64)
+}
+
+// The mean of the first n cells, summed from +0.0.
+fn first_mean(series: &[f64], n: usize) -> f64
+    requires { ⌜ Window n × (n ≤ length (now series)) ⌝ }
+    ensures { λ r. ⌜ r ≡ wilder n (n - 1) (line (now (series .entry))) (n - 1) ⌝ }
+{
+    let mut sum = 0.0;
+    let mut k = 0;
+    while k < n {
+        sum = sum + series[k];
+        k += 1;
+    }
+    sum / (n as f64)
+}
+
+// Writes the averages from bar n - 1 on, where the cells before it stand.
+fn write_from_mean(series: &[f64], n: usize, out: &mut [f64])
+    requires { ⌜ Window n × (n ≤ length (now series)) × (length (now series) ≤ length (now out)) ⌝ }
+    requires { ⌜ Writing (n - 1) (wilder n (n - 1) (line (now series))) (now out) (now out) ⌝ }
+    ensures { λ _. ⌜ Writing (length (now (series .entry))) (wilder n (n - 1) (line (now (series .entry))))
+        (now (out .entry)) (now (out .exit)) ⌝ }
+{
+    let mut last = first_mean(series, n);
+    let mut i = n - 1;
+    while i + 1 < series.len() {
+        out[i] = last;
+        i += 1;
+        last = step(last, n, series[i]);
+    }
+    out[i] = last;
+}
+
+// Writes Wilder's average of a line, NaN before bar n - 1.
+pub fn write_average(series: &[f64], n: usize, out: &mut [f64])
+    requires { ⌜ Window n × (length (now series) ≤ length (now out)) ⌝ }
+    ensures { λ _. ⌜ Writing (length (now (series .entry))) (wilder n (n - 1) (line (now (series .entry))))
+        (now (out .entry)) (now (out .exit)) ⌝ }
+{
+    let first = averages::fill_nan(out, n - 1, series.len());
+    if first < series.len() {
+        write_from_mean(series, n, out);
+    }
 }
 
 // The cell of two averages: 100 where the average loss is 0.

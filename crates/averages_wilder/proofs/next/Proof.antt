@@ -16,10 +16,10 @@ returns c =
     record {
       gain =
           let gain = gain-is _ _ (change .change-at .ensures) (up .gain-of .ensures) in
-          down .before .step .ensures ∙ next-of _ _ _ (last .gain) gain (omega arith);
+          down .before .step .ensures ∙ next-of _ _ _ _ (last .gain) gain (omega arith);
       loss =
           let loss = loss-is _ _ (change .change-at .ensures) (down .loss-of .ensures) in
-          c .step2 .ensures ∙ next-of _ _ _ (last .loss) loss (omega arith);
+          c .step2 .ensures ∙ next-of _ _ _ _ (last .loss) loss (omega arith);
     }
 
 pub next-spec : {M : Type 1} → statement M

@@ -33,7 +33,7 @@ loop-again c =
 returns : tie.Need-returns Inv-loop μ-loop
 returns c =
     let inv = c .before .before .before .loop .inv in
-    record { gain = seed-of _ _ (inv .1) (omega arith); loss = seed-of _ _ (inv .2) (omega arith) }
+    record { gain = seed-of _ _ _ (inv .1) (omega arith); loss = seed-of _ _ _ (inv .2) (omega arith) }
 
 pub seed-spec : {M : Type 1} → statement M
 seed-spec =

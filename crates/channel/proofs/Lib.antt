@@ -1,0 +1,2 @@
+pub mod Causal
+pub mod Stages

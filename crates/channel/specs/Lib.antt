@@ -1,0 +1,4 @@
+-- The ultimate channel.
+pub mod Cases
+pub mod Channel
+pub mod inner
