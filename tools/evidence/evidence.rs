@@ -204,13 +204,13 @@ fn rounded(request: &Request, bar: usize, words: &mut Vec<String>) -> i32 {
         Rule::OneAverage => ["the price", "the doubly averaged price"],
         Rule::Middle => ["the mean", "the middle"],
     };
-    words.push(format!("{} is {left}, {} {right}", names[0], names[1]));
-    if flat {
-        words.push("an average of 0 is flat".to_string());
-        0
-    } else if (left - right).is_sign_negative() {
-        -1
+    let (position, why) = if flat {
+        (0, "an average of 0 is flat")
+    } else if left < right {
+        (-1, "below is short")
     } else {
-        1
-    }
+        (1, "not below is long")
+    };
+    words.push(format!("{} is {left}, {} {right}: {why}", names[0], names[1]));
+    position
 }
