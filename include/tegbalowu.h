@@ -170,6 +170,18 @@ tegbalowu_answer tegbalowu_holt_winters(const double *series, size_t series_len,
                                         size_t work_len);
 
 /*
+ * A volatility: the sizes of the changes averaged exponentially twice with factor
+ * 2 / (period / 2 + 1), a step beyond each average by half its last change, times power, and that
+ * averaged with factor 2 / (period / 3 + 1) from the first value that is not 0 on; 0 at bars 0
+ * and 1. Both divisions are of whole numbers, so that a factor can be 2 and the cells can grow. An
+ * average is left out where all the values that it takes are equal, to the end of the series: a
+ * cell may depend on later bars. Any finite power is taken; with a large one cells may be infinite
+ * or NaN.
+ */
+tegbalowu_answer tegbalowu_jurik_volty(const double *close, size_t close_len, size_t period, double power,
+                                       double *out, size_t out_len, double *work, size_t work_len);
+
+/*
  * Rank: the share of the n-1 means before the present one that lie below it, moved from 0..1 to
  * -1..1 and rounded to hundredths, half away from zero, so that -0.0 is possible; from bar 2n-2
  * on. n = 1 gives NaN at every bar. Refusals 1, 3, 4, 5, 7.

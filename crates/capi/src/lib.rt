@@ -14,6 +14,7 @@ ghost use Rattle.capi.specs.Numbers.{Numbers, InNumbers};
 ghost use Rattle.averages_wilder.specs.WilderRsi.{WilderRsiCall};
 ghost use Rattle.rsx.specs.Rsx.{RsxCall};
 ghost use Rattle.holt_winters.specs.HoltWinters.{HoltWintersCall};
+ghost use Rattle.jurik.specs.Jurik.{JurikCall};
 ghost use Rattle.rules_bands.specs.Boll.{BollCall};
 ghost use Rattle.rules_bands.specs.BollReverse.{BollReverseCall};
 ghost use Rattle.rules_ema.specs.SingleEma.{SingleEmaCall};
@@ -217,6 +218,20 @@ pub extern "C" fn tegbalowu_holt_winters(
         (now (out .entry)) (now (work .entry)) a (now (out .exit)) (now (work .exit))) r ⌝ }
 {
     numbers(holt_winters::holt_winters(series, season_length, alpha, beta, gamma, out, work))
+}
+
+#[no_mangle]
+pub extern "C" fn tegbalowu_jurik_volty(
+    close: &[f64],
+    period: usize,
+    power: f64,
+    out: &mut [f64],
+    work: &mut [f64],
+) -> CAnswer
+    ensures { λ r. ⌜ InNumbers (λ a. JurikCall (now (close .entry)) period power (now (out .entry))
+        (now (work .entry)) a (now (out .exit)) (now (work .exit))) r ⌝ }
+{
+    numbers(jurik::jurik_volty(close, period, power, out, work))
 }
 
 #[no_mangle]
