@@ -1,3 +1,4 @@
 pub mod Causal
+pub mod Fused
 pub mod Passes
 pub mod Stages

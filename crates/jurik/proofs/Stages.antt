@@ -33,9 +33,9 @@ use Rattle.jurik.proofs.Passes.{differing-same}
 -- ---- cells
 
 -- the swing of bar i
-pub swing-at : (f : Line) (i : ℕ) {c x : Float} → c ≡ change plusZero f i → x ≡ magnitudeOf c → 0 < i → x ≡ swings f i
+pub swing-is : (f : Line) (i : ℕ) {c x : Float} → c ≡ change plusZero f i → x ≡ magnitudeOf c → 0 < i → x ≡ swings f i
 unfolding swings
-swing-at f i p q h = rw (q, p, from-bar 1 nan (λ j. magnitudeOf (change plusZero f j)) i h)
+swing-is f i p q h = rw (q, p, from-bar 1 nan (λ j. magnitudeOf (change plusZero f j)) i h)
 
 earlier-is : (d : Float) (f : Line) (i : ℕ) → 0 < i → earlier d f i ≡ f (i - 1)
 unfolding earlier

@@ -2,6 +2,7 @@
 use calls::Answer;
 use calls::Refusal;
 ghost use mathlib.Core.Path.{_≡_};
+ghost use mathlib.Core.Bool.{true};
 ghost use Prim.Native.Nat.{_<_, _≤_};
 ghost use lib.Dec.{ltb};
 ghost use lib.ListN.{length};
@@ -12,6 +13,7 @@ ghost use Rattle.cells.specs.Written.{Writing};
 ghost use Rattle.cells.specs.Recur.{carried};
 ghost use Rattle.averages_exponential.specs.Blend.{blend};
 ghost use Rattle.jurik.specs.Jurik.{
+  isNumber,
   copied,
   firstDiffering,
   swings,
@@ -21,7 +23,24 @@ ghost use Rattle.jurik.specs.Jurik.{
   jurikAnswer,
   JurikCall,
 };
-ghost use Rattle.jurik.specs.inner.Passes.{usableBy, differs, tested, leanAt, Ready};
+ghost use Rattle.jurik.specs.inner.Passes.{
+  usableBy,
+  differs,
+  tested,
+  leanAt,
+  Ready,
+  Differing,
+  Leant,
+  BothAverage,
+};
+
+// The size of the change of bar i.
+fn swing_at(close: &[f64], i: usize) -> f64
+    requires { ⌜ (0 < i) × (i < length (now close)) ⌝ }
+    ensures { λ r. ⌜ r ≡ swings (line (now (close .entry))) i ⌝ }
+{
+    rounding::magnitude(changes::change_at(close, i))
+}
 
 // Writes the size of each change, NaN at bar 0.
 fn write_swings(close: &[f64], out: &mut [f64])
@@ -31,7 +50,7 @@ fn write_swings(close: &[f64], out: &mut [f64])
 {
     let mut i = averages::fill_nan(out, 1, close.len());
     while i < close.len() {
-        out[i] = rounding::magnitude(changes::change_at(close, i));
+        out[i] = swing_at(close, i);
         i += 1;
     }
 }
@@ -196,6 +215,84 @@ fn write_passes(close: &[f64], n: usize, power: f64, out: &mut [f64])
     pass(out, bars, true, 0.0, third);
 }
 
+// Whether x is a number that is not equal to `first`.
+fn differing(first: f64, x: f64) -> bool
+    ensures { λ r. ⌜ r ≡ differs isNumber first x ⌝ }
+{
+    usable(false, x) & (x != first)
+}
+
+// Whether the first pass averages: some change is of another size than the first.
+fn uneven(close: &[f64]) -> bool
+    ensures { λ r. ⌜ (r ≡ true → Differing (length (now (close .entry))) (swings (line (now (close .entry))))) ⌝ }
+{
+    let bars = close.len();
+    if bars < 2 {
+        return false;
+    }
+    let first = swing_at(close, 1);
+    let mut i = 2;
+    while i < bars {
+        if usable(false, first) & differing(first, swing_at(close, i)) {
+            return true;
+        }
+        i += 1;
+    }
+    false
+}
+
+// Writes the leaned cells where both passes average, and says whether the second one does, if the first does.
+fn average_twice(close: &[f64], alpha: f64, power: f64, out: &mut [f64]) -> bool
+    requires { ⌜ (1 < length (now close)) × (length (now close) ≤ length (now out)) ⌝ }
+    ensures { λ r. ⌜ Leant r (length (now (close .entry))) alpha power (swings (line (now (close .entry))))
+        (now (out .entry)) (now (out .exit)) ⌝ }
+{
+    let bars = close.len();
+    let first = swing_at(close, 1);
+    let mut once = first;
+    let mut twice = first;
+    let mut differ = false;
+    let mut i = cells::fill_lead(out, 2, bars, 0.0);
+    while i < bars {
+        let last = twice;
+        once = averages_exponential::blended(alpha, once, swing_at(close, i));
+        twice = averages_exponential::blended(alpha, twice, once);
+        differ = differ | differing(first, once);
+        out[i] = leaned_by(power, last, twice);
+        i += 1;
+    }
+    differ
+}
+
+// Writes the leaned cells, if both passes average, and says whether they do.
+fn lean_averages(close: &[f64], n: usize, power: f64, out: &mut [f64]) -> bool
+    requires { ⌜ Ready n (length (now close)) (length (now out)) ⌝ }
+    ensures { λ r. ⌜ BothAverage r n (length (now (close .entry))) power (line (now (close .entry))) (now (out .entry))
+        (now (out .exit)) ⌝ }
+{
+    let half = 2.0 / ((n / 2 + 1) as f64);
+    if uneven(close) {
+        average_twice(close, half, power, out)
+    } else {
+        false
+    }
+}
+
+// Writes the cells: the first two passes in one loop, or all of them one by one where one of those copies.
+fn write_jurik(close: &[f64], n: usize, power: f64, out: &mut [f64])
+    requires { ⌜ Ready n (length (now close)) (length (now out)) ⌝ }
+    ensures { λ _. ⌜ Writing (length (now (close .entry)))
+        (jurikLine (length (now (close .entry))) n power (line (now (close .entry)))) (now (out .entry))
+        (now (out .exit)) ⌝ }
+{
+    let third = 2.0 / ((n / 3 + 1) as f64);
+    if lean_averages(close, n, power, out) {
+        pass(out, close.len(), true, 0.0, third);
+    } else {
+        write_passes(close, n, power, out);
+    }
+}
+
 // The answer of a call: refusal 6 for the power comes after the series' own refusals, and before those of the window.
 fn answer_jurik(close: &[f64], n: usize, power: f64, out: usize, work: usize) -> Answer
     ensures { λ r. ⌜ r ≡ jurikAnswer (now (close .entry)) n power out work ⌝ }
@@ -221,7 +318,7 @@ pub fn jurik_volty(
 {
     let due = answer_jurik(close, period, power, out.len(), work.len());
     if checks::cells_due(due, close.len(), work) {
-        write_passes(close, period, power, out);
+        write_jurik(close, period, power, out);
         cells::clear(work, 8 * close.len());
     }
     due

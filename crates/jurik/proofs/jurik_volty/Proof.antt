@@ -29,7 +29,7 @@ returns c =
     let then = cells .before .before in
     let due = then .before .before .before in
     written-call (due .before .before .answer-jurik .ensures) (jurik-bars _ _ _ _ _)
-    (rw (then .if1 .taken) at (due .cells-due .ensures)) (cells .write-passes .ensures, untouched {k = 0}) (omega arith)
+    (rw (then .if1 .taken) at (due .cells-due .ensures)) (cells .write-jurik .ensures, untouched {k = 0}) (omega arith)
     (clear .clear .ensures)
 
 returns-2 : tie.Need-returns-2
@@ -43,7 +43,7 @@ jurik-volty-spec =
     (tie.spec
     (λ c κs. search needs)  -- answer-jurik-requires
     (λ c κs. jurik-clearable _ _ _ _ _ (c .before .answer-jurik .ensures))  -- cells-due-requires
-    (λ c κs. let o = opened (c .before) in search needs)  -- write-passes-requires
+    (λ c κs. let o = opened (c .before) in search needs)  -- write-jurik-requires
     -- mul-clear, clear-requires
     (λ c. let o = opened (c .before .before .before .before .before) in search needs)
     (λ c κs. let o = opened (c .before .before .before .before .before) in search needs)

@@ -8,7 +8,6 @@ use Rattle.cells.specs.Written.{Writing}
 use Rattle.cells.proofs.Written.{one-more}
 use Rattle.cells.proofs.Leads.{lead-stands, lead-then}
 use Rattle.jurik.specs.Jurik.{swings}
-use Rattle.jurik.proofs.Stages.{swing-at}
 use Rattle.jurik.proofs.write_swings.Statement.{statement}
 use Rattle.jurik.proofs.write_swings.Tie as tie
 
@@ -25,9 +24,8 @@ loop-holds c = (omega arith, omega arith, lead-stands _ (c .before .before .fill
 
 loop-again : tie.Need-loop-again Inv-loop μ-loop
 loop-again c =
-    let at = c .before .before .before in
-    let size = swing-at _ _ (c .before .change-at .ensures) (c .magnitude .ensures) (omega arith) in
-    (omega arith, omega arith, one-more (at .loop .inv .2) size (omega arith))
+    let at = c .before .before in
+    (omega arith, omega arith, one-more (at .loop .inv .2) (c .swing-at .ensures) (omega arith))
 
 returns : tie.Need-returns Inv-loop μ-loop
 returns c =
@@ -42,8 +40,7 @@ write-swings-spec =
     μ-loop
     (λ c κs. search needs)  -- fill-nan-requires
     loop-holds
-    (λ c κs. search needs)  -- change-at-requires
-    (λ c κs. search needs)  -- magnitude-requires
+    (λ c κs. search needs)  -- swing-at-requires
     (λ c. search needs)  -- mul-out
     (λ c. search needs)  -- slice-write-out
     (λ c. search needs)  -- add-i

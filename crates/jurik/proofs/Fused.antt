@@ -1,0 +1,179 @@
+-- The first two passes in one loop, where both of them average. Assumes nothing.
+use mathlib.Core.Path.{_≡_, refl, sym, _∙_}
+use mathlib.Core.Bool.{Bool, true, false, _||_, true≢false}
+use mathlib.Core.List.{List}
+use Prim.Native.Nat.{ℕ, zero, suc, _+_, _-_, _/_, _<_, _≤_}
+use native.Mathlib.Omega.{arith}
+use borrow.Author.Tests.{lt-leb}
+use lib.Dec.{leb}
+use lib.Ieee.{Float, nan, isNan}
+use Rattle.cells.specs.Line.{Line, line, plusZero}
+use Rattle.cells.specs.Recur.{carried}
+use Rattle.cells.specs.Search.{nonZero, firstBar}
+use Rattle.cells.specs.Written.{Writing}
+use Rattle.cells.proofs.Line.{before-bar, from-bar}
+use Rattle.cells.proofs.Carried.{carried-seed, carried-next}
+use Rattle.cells.proofs.Search.{firstBar-found, firstBar-met, firstBar-most}
+use Rattle.cells.proofs.Touched.{touched, untouched}
+use Rattle.cells.proofs.Written.{writing-same}
+use Rattle.averages_exponential.specs.Blend.{blend}
+use Rattle.averages_exponential.specs.Ema.{emaAlpha}
+use Rattle.jurik.specs.Jurik.{averaged, alike, isNumber, swings, once, twice, lean, leaned, jurikWith, jurikLine}
+use Rattle.jurik.specs.inner.Passes.{
+  differs,
+  tested,
+  blendedOnce,
+  blendedTwice,
+  Other,
+  Differing,
+  Leant,
+  BothAverage,
+}
+use Rattle.jurik.proofs.Causal.{causal-averaged, causal-leaned}
+use Rattle.jurik.proofs.Passes.{differing-is, differing-same, averaged-is}
+use Rattle.jurik.proofs.Stages.{local-causal}
+
+-- ---- what the loops find
+
+-- a bar that passes
+pub found-under : (t : ℕ → Bool) (j l : ℕ) → t j ≡ true → j < l → firstBar t l < l
+found-under t j l e h = let most = firstBar-most t j e in rw (firstBar-met t j l e h) (omega arith)
+
+-- one more bar, where one of those before may have passed
+pub or-under : (t : ℕ → Bool) (j l : ℕ) {p q : Bool} → (p ≡ true → firstBar t l < l) → q ≡ t j → j < l → p || q ≡ true
+    → firstBar t l < l
+or-under t j l {p = true} h e k z = h refl
+or-under t j l {p = false} h e k z = found-under t j l (sym e ∙ z) k
+
+-- bars 1 and i differ
+pub differing-found : (f : Line) (i l : ℕ) {x y : Float} → x ≡ f 1 → y ≡ f i → isNumber x ≡ true
+    → differs isNumber x y ≡ true
+    → (2 ≤ i) × (i < l)
+    → Differing l f
+differing-found f i l p q number e (g, h) =
+    record {
+      bars = omega arith;
+      number = rw p at number;
+      other = found-under (λ j. differs isNumber (f 1) (f j)) i l (rw (p, q) at e) h;
+    }
+
+-- the averages begin with the value of bar 1
+pub begun : (alpha : Float) (f : Line) (i : ℕ) {x : Float} → x ≡ f 1 → i ≡ 2 → x ≡ blendedOnce alpha f (i - 1)
+begun alpha f i e h =
+    let one : i - 1 ≡ 1 = omega arith in
+    e ∙ rw (one, carried-seed nan (blend alpha) 1 (f 1) f)
+
+pub begun-twice : (alpha : Float) (f : Line) (i : ℕ) {x : Float} → x ≡ f 1 → i ≡ 2
+    → x ≡ blendedTwice alpha f (i - 1)
+begun-twice alpha f i e h =
+    begun alpha (blendedOnce alpha f) i (e ∙ sym (carried-seed nan (blend alpha) 1 (f 1) f)) h
+
+-- and go on with each bar's
+pub next-blend : (alpha : Float) (f : Line) (i : ℕ) {x m y : Float} → x ≡ blendedOnce alpha f (i - 1) → m ≡ f i
+    → y ≡ blend alpha x m
+    → 1 < i
+    → y ≡ blendedOnce alpha f i
+next-blend alpha f i p q e h = e ∙ rw (p, q) (sym (carried-next nan (blend alpha) 1 (f 1) f i h))
+
+-- the bar, as the next turn has it
+pub at-last : (f : Line) (i : ℕ) {x : Float} → x ≡ f i → x ≡ f (i + 1 - 1)
+at-last f i e = let last : i + 1 - 1 ≡ i = omega arith in rw last e
+
+-- whether one differed, with one more bar
+pub other-more : (alpha : Float) (f : Line) (i l : ℕ) {p r : Bool} {x y : Float}
+    → (p ≡ true → Other l (blendedOnce alpha f)) → x ≡ f 1 → y ≡ blendedOnce alpha f i → r ≡ differs isNumber x y
+    → i < l
+    → p || r ≡ true
+    → Other l (blendedOnce alpha f)
+other-more alpha f i l h a b e m =
+    let average = blendedOnce alpha f in
+    let seed = carried-seed nan (blend alpha) 1 (f 1) f in
+    or-under (λ j. differs isNumber (average 1) (average j)) i l h (e ∙ rw (a, b, seed)) m
+
+-- the leaned cell of a later bar
+pub lean-at : (power : Float) (f : Line) (i : ℕ) {last x y : Float} → y ≡ lean power last x → last ≡ f (i - 1)
+    → x ≡ f i → 2 ≤ i
+    → y ≡ leaned power f i
+unfolding leaned
+lean-at power f i e p q h = rw (e, p, q, from-bar 2 plusZero (λ j. lean power (f (j - 1)) (f j)) i h)
+
+-- ---- averages from bar 1 on
+
+swings-begin : (f : Line) → isNumber (swings f 0) ≡ false
+unfolding swings isNan
+swings-begin f = rw (before-bar 1 nan _ 0 (omega arith))
+
+blended-begin : (alpha : Float) (f : Line) → isNumber (blendedOnce alpha f 0) ≡ false
+unfolding carried isNan
+blended-begin alpha f = rw (before-bar 1 nan _ 0 (omega arith))
+
+module _ (l : ℕ) (h : 1 < l) (f : Line) (begin : isNumber (f 0) ≡ false) (number : isNumber (f 1) ≡ true) where
+  first-number : 1 ≡ firstBar (λ j. isNumber (f j)) l
+  first-number = sym (firstBar-found (λ j. isNumber (f j)) 1 l none number h)
+    where
+      none : (j : ℕ) → j < 1 → isNumber (f j) ≡ false
+      none zero m = begin
+      none (suc j) m = absurd (omega arith)
+
+  -- the pass averages
+  unlike-is : Other l f → alike isNumber l f ≡ false
+  unlike-is o =
+      let here = differing-is isNumber l f first-number in
+      lt-leb l _ (rw here at o)
+
+  -- and these are its cells
+  once-is : (alpha : Float) (i : ℕ) → i < l → blendedOnce alpha f i ≡ averaged isNumber nan alpha f i
+  once-is alpha = averaged-is isNumber nan alpha l f 1 first-number
+
+module _ (l n : ℕ) (f : Line) (d : Differing l (swings f)) where
+  abbrev alpha : Float
+  alpha = emaAlpha (n / 2)
+
+  abbrev average : Line
+  average = blendedOnce alpha (swings f)
+
+  average-is : (i : ℕ) → i < l → average i ≡ once false n f i
+  unfolding once
+  average-is = once-is l (d .bars) (swings f) (swings-begin f) (d .number) alpha
+
+  average-number : isNumber (average 1) ≡ true
+  average-number = rw (carried-seed nan (blend alpha) 1 (swings f 1) (swings f)) (d .number)
+
+  twice-is : (i : ℕ) → i < l → blendedTwice alpha (swings f) i ≡ twice false false n f i
+  unfolding twice
+  twice-is i h =
+      once-is l (d .bars) average (blended-begin alpha (swings f)) average-number alpha i h
+      ∙ local-causal l (causal-averaged isNumber nan alpha) average (once false n f) average-is i h
+
+  pub both-average : {r : Bool} {power : Float} {old now : List Float} → Leant r l alpha power (swings f) old now
+      → BothAverage r n l power f old now
+  both-average {power = power} w =
+      let leans = causal-leaned power in
+      let cells = local-causal l leans (blendedTwice alpha (swings f)) (twice false false n f) twice-is in
+      let same = differing-same isNumber l average (once false n f) average-is in
+      record {
+        used = touched (w .cells);
+        cells = λ e. writing-same (w .cells) cells;
+        first = λ e. unlike-is l (d .bars) (swings f) (swings-begin f) (d .number) (d .other);
+        second = λ e. rw (← same)
+            (unlike-is l (d .bars) average (blended-begin alpha (swings f)) average-number (w .other e));
+      }
+
+-- one of them does not
+pub none-average : {n l : ℕ} {power : Float} {f : Line} {old : List Float} → BothAverage false n l power f old old
+none-average =
+    record {
+      used = untouched;
+      cells = λ e. absurd (true≢false (sym e));
+      first = λ e. absurd (true≢false (sym e));
+      second = λ e. absurd (true≢false (sym e));
+    }
+
+-- ---- the line, where both average
+
+pub averages-then : (l n : ℕ) (power : Float) (f : Line) → alike isNumber l (swings f) ≡ false
+    → alike isNumber l (once false n f) ≡ false
+    → (i : ℕ) → tested nonZero plusZero (emaAlpha (n / 3)) l (leaned power (twice false false n f)) i
+    ≡ jurikLine l n power f i
+unfolding jurikLine jurikWith
+averages-then l n power f p q i = rw (p, q)
