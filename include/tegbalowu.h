@@ -22,7 +22,8 @@
  *      other than -0.0; tick_mean takes whole values within 16,777,216 only
  *   6  an f64 parameter that is not finite
  *   7  a window above 4,096, or a smoother period that is not whole from 0 to 512
- *   8  triple_sma_positions: m3 above the series' length
+ *   8  triple_sma_positions: m3 above the series' length; ultimate_channel: period above that
+ *      length + 1
  *   9  double_sma_positions: n is not below m; triple_sma_positions: not m1 < m2 < m3
  *
  * A work slice is lent for the call's own use. Its first 8 * series_len cells hold +0.0 after an
@@ -180,6 +181,18 @@ tegbalowu_answer tegbalowu_holt_winters(const double *series, size_t series_len,
  */
 tegbalowu_answer tegbalowu_jurik_volty(const double *close, size_t close_len, size_t period, double power,
                                        double *out, size_t out_len, double *work, size_t work_len);
+
+/*
+ * Ehlers' ultimate channel. middle is the ultimate smoother of the close with period, from 0 to
+ * 512; upper and lower are multiplier widths above and below it. A width is Wilder's average of
+ * true range from bar period-1 on, NaN earlier, smoothed with period / 2. So with period 4 only
+ * bar 3 of the outer lines is a number, and from period 5 on they are NaN at every bar; with
+ * period 1 they are NaN from bar 4 on. Refusals 1 to 8.
+ */
+tegbalowu_answer tegbalowu_ultimate_channel(const double *high, size_t high_len, const double *low, size_t low_len,
+                                            const double *close, size_t close_len, size_t period, double multiplier,
+                                            double *middle, size_t middle_len, double *upper, size_t upper_len,
+                                            double *lower, size_t lower_len, double *work, size_t work_len);
 
 /*
  * Rank: the share of the n-1 means before the present one that lie below it, moved from 0..1 to

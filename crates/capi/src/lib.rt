@@ -15,6 +15,7 @@ ghost use Rattle.averages_wilder.specs.WilderRsi.{WilderRsiCall};
 ghost use Rattle.rsx.specs.Rsx.{RsxCall};
 ghost use Rattle.holt_winters.specs.HoltWinters.{HoltWintersCall};
 ghost use Rattle.jurik.specs.Jurik.{JurikCall};
+ghost use Rattle.channel.specs.Channel.{ChannelCall};
 ghost use Rattle.rules_bands.specs.Boll.{BollCall};
 ghost use Rattle.rules_bands.specs.BollReverse.{BollReverseCall};
 ghost use Rattle.rules_ema.specs.SingleEma.{SingleEmaCall};
@@ -232,6 +233,35 @@ pub extern "C" fn tegbalowu_jurik_volty(
         (now (work .entry)) a (now (out .exit)) (now (work .exit))) r ⌝ }
 {
     numbers(jurik::jurik_volty(close, period, power, out, work))
+}
+
+#[no_mangle]
+pub extern "C" fn tegbalowu_ultimate_channel(
+    high: &[f64],
+    low: &[f64],
+    close: &[f64],
+    period: usize,
+    multiplier: f64,
+    middle: &mut [f64],
+    upper: &mut [f64],
+    lower: &mut [f64],
+    work: &mut [f64],
+) -> CAnswer
+    ensures { λ r. ⌜ InNumbers (λ a. ChannelCall (now (high .entry)) (now (low .entry)) (now (close .entry)) period
+        multiplier (now (middle .entry)) (now (upper .entry)) (now (lower .entry)) (now (work .entry)) a
+        (now (middle .exit)) (now (upper .exit)) (now (lower .exit)) (now (work .exit))) r ⌝ }
+{
+    numbers(channel::ultimate_channel(
+        high,
+        low,
+        close,
+        period,
+        multiplier,
+        middle,
+        upper,
+        lower,
+        work,
+    ))
 }
 
 #[no_mangle]

@@ -1,5 +1,5 @@
--- The stages of `ultimate_channel`: its widths from period 5 on, and what is known where its cells are due. Assumes
--- nothing.
+-- The stages of `ultimate_channel`, its outer lines from period 5 on, and what is known where its cells are due.
+-- Assumes nothing.
 use mathlib.Core.Path.{_≡_, sym}
 use mathlib.Core.Bool.{true}
 use mathlib.Core.List.{List, [], _∷_}
@@ -27,8 +27,9 @@ use Rattle.averages_wilder.specs.Wilder.{wilder}
 use Rattle.averages_wilder.proofs.Causal.{causal-wilder}
 use Rattle.smoother_table.specs.Coefficients.{coefficients}
 use Rattle.smoother.proofs.WarmUp.{nan-throughout}
+use Rattle.outer_lines.proofs.Lines.{nan-upper, nan-lower}
 use Rattle.outer_lines.proofs.Calls.{three-band-passed, three-band-clearable}
-use Rattle.channel.specs.Channel.{averageRange, channelWidth, channelAnswer}
+use Rattle.channel.specs.Channel.{averageRange, channelWidth, channelUpper, channelLower, channelAnswer}
 use Rattle.channel.specs.inner.Ready.{Ready}
 
 -- ---- from period 5 on
@@ -44,6 +45,11 @@ module _ (n : ℕ) (high low close : Line) where
   unfolding channelWidth
   no-width h = nan-throughout (coefficients (n / 2)) (averageRange n high low close)
       (λ i l. no-average i (omega arith))
+
+  -- and the outer lines are NaN at every bar
+  pub nan-outer : 5 ≤ n → (k : Float) (i : ℕ)
+      → (channelUpper n k high low close i ≡ nan) × (channelLower n k high low close i ≡ nan)
+  nan-outer h k i = (nan-upper k _ _ i (no-width h i), nan-lower k _ _ i (no-width h i))
 
 -- ---- the stages
 

@@ -2,6 +2,7 @@
 pub mod Exceptions
 pub mod FromC
 pub mod Leaves
+pub mod NanLines
 pub mod NoLookAhead
 pub mod OnTicks
 pub mod Positions

@@ -45,6 +45,9 @@ use Rattle.holt_winters.proofs.Causal.{causal-holt-winters}
 use Rattle.holt_winters.specs.HoltWinters.{HoltWintersCall, weights, holtWintersAnswer}
 use Rattle.rsx.proofs.Causal.{causal-rsx}
 use Rattle.rsx.specs.Rsx.{RsxCall, rsxAnswer}
+use Rattle.channel.proofs.Causal.{causal-channel-middle, causal-channel-upper, causal-channel-lower}
+use Rattle.channel.proofs.Stages.{channel-ready}
+use Rattle.channel.specs.Channel.{ChannelCall}
 use Rattle.rules_bands.proofs.Bands.{causal-boll, causal-boll-reverse}
 use Rattle.rules_bands.specs.Answer.{bandAnswer}
 use Rattle.rules_bands.specs.Boll.{BollCall}
@@ -235,3 +238,23 @@ true-range-no-look-ahead h l e c c′ =
     let room = checked-three-room accepted _ _ _ _ [] _ (sym (c .answer)) .0 .out-long in
     let room′ = checked-three-room accepted _ _ _ _ [] _ (sym (c′ .answer)) .0 .out-long in
     three-agree h l e (causal-ranges causal-given) room room′ c c′
+
+-- the channel, in each of its three outputs
+module _ {high low close high′ low′ close′ : List Float} {b : ℕ} (h : EqualBars high high′ b) (l : EqualBars low low′ b)
+    (e : EqualBars close close′ b)
+    {middle₀ upper₀ lower₀ work₀ middle₁ upper₁ lower₁ work₁ : List Float}
+    {middle₀′ upper₀′ lower₀′ work₀′ middle₁′ upper₁′ lower₁′ work₁′ : List Float} where
+  pub channel-no-look-ahead : (n : ℕ) (k : Float)
+      → ChannelCall high low close n k middle₀ upper₀ lower₀ work₀ (Cells (length high)) middle₁ upper₁ lower₁ work₁
+      → ChannelCall high′ low′ close′ n k middle₀′ upper₀′ lower₀′ work₀′ (Cells (length high′)) middle₁′ upper₁′ lower₁′
+      work₁′
+      → EqualCells nan middle₁ middle₁′ b × EqualCells nan upper₁ upper₁′ b × EqualCells nan lower₁ lower₁′ b
+  channel-no-look-ahead n k c c′ =
+      let p = h .left in
+      let q = h .right in
+      let room = channel-ready high low close n k _ _ _ _ (c .middle .answer) (omega arith) .0 .out-long in
+      let room′ = channel-ready high′ low′ close′ n k _ _ _ _ (c′ .middle .answer) (omega arith) .0 .out-long in (
+        three-agree h l e (causal-channel-middle n) (omega arith) (omega arith) (c .middle) (c′ .middle),
+        three-agree h l e (causal-channel-upper n k) (omega arith) (omega arith) (c .upper) (c′ .upper),
+        three-agree h l e (causal-channel-lower n k) (omega arith) (omega arith) (c .lower) (c′ .lower),
+      )

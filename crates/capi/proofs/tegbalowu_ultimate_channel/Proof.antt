@@ -1,0 +1,18 @@
+-- `tegbalowu_ultimate_channel` meets its contract: it is the library's `ultimate_channel`, in numbers. Assumes nothing.
+use borrow.Author.Needs.{needs}
+use Rattle.capi.proofs.InNumbers.{told}
+use Rattle.capi.proofs.tegbalowu_ultimate_channel.Statement.{statement}
+use Rattle.capi.proofs.tegbalowu_ultimate_channel.Tie as tie
+
+pub tegbalowu-ultimate-channel-spec : {M : Type 1} → statement M
+tegbalowu-ultimate-channel-spec =
+    tie.close
+    (tie.spec
+    (λ c κs. search needs)  -- ultimate-channel-requires
+    (λ c κs. search needs)  -- numbers-requires
+    (λ c. search needs)  -- same-length
+    (λ c. search needs)  -- same-length-2
+    (λ c. search needs)  -- same-length-3
+    (λ c. search needs)  -- same-length-4
+    (λ c. search (needs, told))  -- returns
+    )
