@@ -226,6 +226,17 @@ tegbalowu_answer tegbalowu_boll_positions(const double *series, size_t series_le
 tegbalowu_answer tegbalowu_boll_reverse_positions(const double *series, size_t series_len, size_t n, double k,
                                                   int32_t *out, size_t out_len, double *work, size_t work_len);
 
+/*
+ * Against the relative strength index of the means of n prices: below rsi_lower a flat position
+ * opens long, else above rsi_upper it opens short; a long one closes above rsi_exit, and a short
+ * one below it. The index at bar i is made of the changes of the means at bars max(0, i-n) to i-1,
+ * the present bar left out, and is 100 where none of them is a loss. It needs n-1 changes: from bar
+ * 2n-1, and for n of 1 from bar 0. Before, the cells are 0. Refusals 1, 3, 4, 5, 6, 7.
+ */
+tegbalowu_answer tegbalowu_rsi_reverse_positions(const double *series, size_t series_len, size_t n, double rsi_upper,
+                                                 double rsi_lower, double rsi_exit, int32_t *out, size_t out_len,
+                                                 double *work, size_t work_len);
+
 #ifdef __cplusplus
 }
 #endif

@@ -18,6 +18,7 @@ ghost use Rattle.jurik.specs.Jurik.{JurikCall};
 ghost use Rattle.channel.specs.Channel.{ChannelCall};
 ghost use Rattle.rules_bands.specs.Boll.{BollCall};
 ghost use Rattle.rules_bands.specs.BollReverse.{BollReverseCall};
+ghost use Rattle.rules_rsi.specs.RsiReverse.{RsiReverseCall};
 ghost use Rattle.rules_ema.specs.SingleEma.{SingleEmaCall};
 ghost use Rattle.rules_mms.specs.Mms.{MmsCall};
 ghost use Rattle.rules_rank.specs.Rank.{RankCall};
@@ -317,4 +318,20 @@ pub extern "C" fn tegbalowu_boll_reverse_positions(
         a (now (out .exit)) (now (work .exit))) r ⌝ }
 {
     numbers(rules::boll_reverse_positions(series, n, k, out, work))
+}
+
+#[no_mangle]
+pub extern "C" fn tegbalowu_rsi_reverse_positions(
+    series: &[f64],
+    n: usize,
+    rsi_upper: f64,
+    rsi_lower: f64,
+    rsi_exit: f64,
+    out: &mut [i32],
+    work: &mut [f64],
+) -> CAnswer
+    ensures { λ r. ⌜ InNumbers (λ a. RsiReverseCall (now (series .entry)) n «rsi_upper» «rsi_lower» «rsi_exit»
+        (now (out .entry)) (now (work .entry)) a (now (out .exit)) (now (work .exit))) r ⌝ }
+{
+    numbers(rules::rsi_reverse_positions(series, n, rsi_upper, rsi_lower, rsi_exit, out, work))
 }

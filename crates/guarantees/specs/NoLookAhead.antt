@@ -57,6 +57,8 @@ use Rattle.rules_mms.specs.Mms.{MmsCall}
 use Rattle.rules_rank.proofs.Causal.{causal-rank, causal-rolling-rank}
 use Rattle.rules_rank.specs.Rank.{RankCall}
 use Rattle.rules_rank.specs.RollingRank.{RollingRankCall, rollingRankAnswer}
+use Rattle.rules_rsi.proofs.Index.{causal-rsi-reverse}
+use Rattle.rules_rsi.specs.RsiReverse.{RsiReverseCall, rsiReverseAnswer}
 use Rattle.rules_triple.proofs.Crossover.{causal-triple}
 use Rattle.rules_triple.specs.Triple.{TripleCall, tripleAnswer}
 
@@ -195,6 +197,14 @@ module _ {s t : List Float} {out₀ out₁ out₀′ out₁′ : List ℤ} {work
   unfolding bandAnswer
   boll-reverse-no-look-ahead n k c c′ =
       table-agrees (pos 0) accepted equal _ _ _ _ (causal-boll-reverse n k) (c .call) (c′ .call)
+
+  pub rsi-reverse-no-look-ahead : (n : ℕ) (upper lower exit : Float)
+      → RsiReverseCall s n upper lower exit out₀ work₀ (Cells (length s)) out₁ work₁
+      → RsiReverseCall t n upper lower exit out₀′ work₀′ (Cells (length t)) out₁′ work₁′
+      → EqualCells (pos 0) out₁ out₁′ b
+  unfolding rsiReverseAnswer
+  rsi-reverse-no-look-ahead n upper lower exit c c′ =
+      table-agrees (pos 0) accepted equal _ _ _ _ (causal-rsi-reverse n upper lower exit) (c .call) (c′ .call)
 
 pub rolling-rank-no-look-ahead : {s t : List Float} {out₀ out₁ out₀′ out₁′ : List ℕ}
     {work₀ work₁ work₀′ work₁′ : List Float} {b : ℕ}

@@ -1,6 +1,6 @@
--- Cells that are whole numbers: every cell of an answered call of the triple rule and of both Bollinger rules is +1, -1
--- or 0; of two neighbouring cells of the reverse rule never is one +1 and the other -1; a rolling rank lies from 1 to
--- its window. Assumes nothing.
+-- Cells that are whole numbers: every cell of an answered call of the triple rule, of both Bollinger rules and of the
+-- rule against the relative strength index is +1, -1 or 0; of two neighbouring cells of a reverse rule never is one +1
+-- and the other -1; a rolling rank lies from 1 to its window. Assumes nothing.
 use mathlib.Core.Path.{_≡_, refl, sym}
 use mathlib.Core.Logic.{_⊎_, inl, inr}
 use mathlib.Core.Bool.{_&&_}
@@ -26,6 +26,8 @@ use Rattle.rules_bands.specs.Boll.{BollCall}
 use Rattle.rules_bands.specs.BollReverse.{BollReverseCall}
 use Rattle.rules_bands.proofs.Bands.{boll-position, boll-reverse-position, boll-reverse-neighbours}
 use Rattle.rules_triple.specs.Triple.{tripleLine, tripleAnswer, TripleCall}
+use Rattle.rules_rsi.specs.RsiReverse.{rsiReverseAnswer, RsiReverseCall}
+use Rattle.rules_rsi.proofs.Index.{rsi-reverse-position, rsi-reverse-neighbours}
 use Rattle.rules_rank.specs.RollingRank.{rollingRankAnswer, RollingRankCall}
 use Rattle.rules_rank.proofs.RollingCells.{rolling-before, rolling-within}
 
@@ -55,6 +57,19 @@ due-cell : {A : Type 0} (d : A) (s : List Float) (work : ℕ) (next : Answer) {f
 due-cell d s work next {out₀ = out₀} c =
     cell-at d c (room-after accepted s (length out₀) (work ∷ []) next (length s) (sym (c .answer)) .out-long)
 
+-- of two neighbouring cells never is one +1 and the other -1
+abbrev pub ClosesFirst : List Float → List ℤ → Type 0
+ClosesFirst s out = (i : ℕ) → suc i < length s
+    → (getD out i flat ≡ long → getD out (suc i) flat ≡ short → ⊥)
+    × (getD out i flat ≡ short → getD out (suc i) flat ≡ long → ⊥)
+
+-- as it is of the line
+closes-first : (s : List Float) (work : ℕ) (next : Answer) {f : ℕ → ℤ} {out₀ out₁ : List ℤ}
+    → Call (andThen (checked accepted (s ∷ []) (length out₀ ∷ []) (work ∷ [])) next) f out₀ (Cells (length s)) out₁
+    → ((i : ℕ) → (f i ≡ long → f (suc i) ≡ short → ⊥) × (f i ≡ short → f (suc i) ≡ long → ⊥)) → ClosesFirst s out₁
+closes-first s work next c law i h =
+    rw (due-cell flat s work next c i (omega arith), due-cell flat s work next c (suc i) h) (law i)
+
 -- ---- the statements
 
 module _ (s : List Float) {out₀ out₁ : List ℤ} {work₀ work₁ : List Float} where
@@ -83,15 +98,24 @@ module _ (s : List Float) {out₀ out₁ : List ℤ} {work₀ work₁ : List Flo
         rw (due-cell flat s (length work₀) _ (c .call) i h) (whole (boll-reverse-position n k (line s) i))
 
     -- The reverse rule: a position closes before the other one opens.
-    pub boll-reverse-closes-first : BollReverseCall s n k out₀ work₀ (Cells (length s)) out₁ work₁ → (i : ℕ)
-        → suc i < length s
-        → (getD out₁ i flat ≡ long → getD out₁ (suc i) flat ≡ short → ⊥)
-        × (getD out₁ i flat ≡ short → getD out₁ (suc i) flat ≡ long → ⊥)
+    pub boll-reverse-closes-first : BollReverseCall s n k out₀ work₀ (Cells (length s)) out₁ work₁ → ClosesFirst s out₁
     unfolding bandAnswer
-    boll-reverse-closes-first c i h =
-        let now = due-cell flat s (length work₀) _ (c .call) i (omega arith) in
-        let next = due-cell flat s (length work₀) _ (c .call) (suc i) h in
-        rw (now, next) (boll-reverse-neighbours n k (line s) i)
+    boll-reverse-closes-first c =
+        closes-first s (length work₀) _ (c .call) (boll-reverse-neighbours n k (line s))
+
+  module _ (n : ℕ) (upper lower exit : Float) (c : RsiReverseCall s n upper lower exit out₀ work₀ (Cells (length s)) out₁
+      work₁) where
+    -- The relative strength index: each cell is +1, -1 or 0.
+    pub rsi-reverse-writes-positions : (i : ℕ) → i < length s → WholePosition (getD out₁ i flat)
+    unfolding rsiReverseAnswer
+    rsi-reverse-writes-positions i h =
+        rw (due-cell flat s (length work₀) _ (c .call) i h) (whole (rsi-reverse-position n upper lower exit (line s) i))
+
+    -- And a position closes before the other one opens.
+    pub rsi-reverse-closes-first : ClosesFirst s out₁
+    unfolding rsiReverseAnswer
+    rsi-reverse-closes-first =
+        closes-first s (length work₀) _ (c .call) (rsi-reverse-neighbours n upper lower exit (line s))
 
 module _ (s : List Float) (w : ℕ) {out₀ out₁ : List ℕ} {work₀ work₁ : List Float} where
   -- A rolling rank: from 1 to the window where that is whole, and 0 before.

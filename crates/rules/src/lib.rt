@@ -6,6 +6,7 @@ ghost use Rattle.rules_middle.specs.Middle.{MidCall};
 ghost use Rattle.rules_double.specs.Double.{DoubleCall};
 ghost use Rattle.rules_bands.specs.Boll.{BollCall};
 ghost use Rattle.rules_bands.specs.BollReverse.{BollReverseCall};
+ghost use Rattle.rules_rsi.specs.RsiReverse.{RsiReverseCall};
 ghost use Rattle.rules_ema.specs.SingleEma.{SingleEmaCall};
 ghost use Rattle.rules_mms.specs.Mms.{MmsCall};
 ghost use Rattle.rules_rank.specs.Rank.{RankCall};
@@ -159,6 +160,35 @@ pub fn boll_reverse_positions(
     let due = rules_bands::answer_bands(series, n, k, out.len(), work.len());
     if checks::cells_due(due, series.len(), work) {
         rules_bands::write_boll_reverse(series, n, k, out, work);
+        cells::clear(work, 8 * series.len());
+    }
+    due
+}
+
+// Against the relative strength index of the means: a position is opened beyond a level, and held to the exit level.
+pub fn rsi_reverse_positions(
+    series: &[f64],
+    n: usize,
+    rsi_upper: f64,
+    rsi_lower: f64,
+    rsi_exit: f64,
+    out: &mut [i32],
+    work: &mut [f64],
+) -> Answer
+    ensures { λ r. ⌜ RsiReverseCall (now (series .entry)) n «rsi_upper» «rsi_lower» «rsi_exit» (now (out .entry))
+        (now (work .entry)) r (now (out .exit)) (now (work .exit)) ⌝ }
+{
+    let due = rules_rsi::answer_rsi_reverse(
+        series,
+        n,
+        rsi_upper,
+        rsi_lower,
+        rsi_exit,
+        out.len(),
+        work.len(),
+    );
+    if checks::cells_due(due, series.len(), work) {
+        rules_rsi::write_rsi_reverse(series, n, rsi_upper, rsi_lower, rsi_exit, out, work);
         cells::clear(work, 8 * series.len());
     }
     due

@@ -1,0 +1,4 @@
+-- The rule against the relative strength index.
+pub mod Cases
+pub mod RsiReverse
+pub mod inner
