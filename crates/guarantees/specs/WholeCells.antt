@@ -103,8 +103,8 @@ module _ (s : List Float) {out₀ out₁ : List ℤ} {work₀ work₁ : List Flo
     boll-reverse-closes-first c =
         closes-first s (length work₀) _ (c .call) (boll-reverse-neighbours n k (line s))
 
-  module _ (n : ℕ) (upper lower exit : Float) (c : RsiReverseCall s n upper lower exit out₀ work₀ (Cells (length s)) out₁
-      work₁) where
+  module _ (n : ℕ) (upper lower exit : Float)
+      (c : RsiReverseCall s n upper lower exit out₀ work₀ (Cells (length s)) out₁ work₁) where
     -- The relative strength index: each cell is +1, -1 or 0.
     pub rsi-reverse-writes-positions : (i : ℕ) → i < length s → WholePosition (getD out₁ i flat)
     unfolding rsiReverseAnswer

@@ -142,11 +142,12 @@ module _ {at bars : ℕ} {f : Line} {now : List Float} (row : RowHolds at 1 bars
         → windowSum k (line now) (at + i - 1) ≡ sumFrom plusZero f (i - k) k
     unfolding windowSum
     row-sum k i (a, b, c) =
-        let start : at + i - 1 + 1 - k ≡ at + (i - k) = omega arith in
+        let first = i - k in
+        let start : at + i - 1 + 1 - k ≡ at + first = omega arith in
+        let cell : (j : ℕ) → at + first + j ≡ at + (first + j) = λ j. omega arith in
         rw start
-        (sum-moved minusZero (line now) f (at + (i - k)) (i - k) k
-        (λ j l. let cell : at + (i - k) + j ≡ at + (i - k + j) = omega arith in rw cell (row .cell (i - k + j) (omega arith)))
-        ∙ sums-from-either f (i - k) k a (no (i - k)))
+        (sum-moved minusZero (line now) f (at + first) first k (λ j l. rw (cell j) (row .cell (first + j) (omega arith)))
+        ∙ sums-from-either f first k a (no first))
 
     -- of all changes that count
     pub sum-at : (n i : ℕ) → (0 < n) × (0 < changesBefore n i) × (i ≤ bars)

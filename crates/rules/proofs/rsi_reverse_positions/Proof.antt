@@ -37,7 +37,8 @@ rsi-reverse-positions-spec =
     (tie.spec
     (λ c κs. search needs)  -- answer-rsi-reverse-requires
     (λ c κs. rsi-clearable _ _ _ _ _ _ _ (c .before .answer-rsi-reverse .ensures))  -- cells-due-requires
-    (λ c κs. let (p, some) = opened (c .before .before) in (fewer-rows p (omega arith), some))  -- write-rsi-reverse-requires
+    -- write-rsi-reverse-requires
+    (λ c κs. let (priced, some) = opened (c .before .before) in (fewer-rows priced (omega arith), some))
     (λ c. let o = opened (c .before .before .before .before .before .before .before) in search needs)  -- mul-clear
     -- clear-requires
     (λ c κs. let o = opened (c .before .before .before .before .before .before .before) in search needs)
