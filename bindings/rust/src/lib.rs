@@ -32,13 +32,6 @@ mod refusal;
 
 pub use refusal::Refusal;
 
-/// The most bars of a series; a longer one is refused.
-pub const LONGEST_SERIES: usize = 65_536;
-/// The longest window; a longer one is refused.
-pub const LONGEST_WINDOW: usize = 4_096;
-/// The longest period of the smoother; a longer one is refused.
-pub const LONGEST_PERIOD: usize = 512;
-
 /// A work slice for a series of so many bars: 8 cells for each.
 pub fn work_for(bars: usize) -> Vec<f64> {
     vec![0.0; 8 * bars]
