@@ -177,7 +177,7 @@ tegbalowu_answer tegbalowu_holt_winters(const double *series, size_t series_len,
  * and 1. Both divisions are of whole numbers, so that a factor can be 2 and the cells can grow. An
  * average is left out where all the values that it takes are equal, to the end of the series: a
  * cell may depend on later bars. Any finite power is taken; with a large one cells may be infinite
- * or NaN.
+ * or NaN. Refusals 1, 3, 4, 5, 6, 7.
  */
 tegbalowu_answer tegbalowu_jurik_volty(const double *close, size_t close_len, size_t period, double power,
                                        double *out, size_t out_len, double *work, size_t work_len);

@@ -161,12 +161,17 @@ functions! {
     /// at bar 0, and the first four cells copy the index. Refusals 1, 3, 4, 5, 7.
     tegbalowu_rsx_ss2 rsx_ss2(close; period: usize, smooth_period: usize; out: f64; work);
 
-    /// Jurik's volatility. It looks for equal values to the end of the series, so its cells depend on later bars.
-    /// Refusals 1, 3, 4, 5, 6, 7.
+    /// A volatility: the sizes of the changes averaged exponentially twice with factor 2 / (period / 2 + 1), a step
+    /// beyond each average by half its last change, times `power`, and that averaged with factor 2 / (period / 3 + 1)
+    /// from the first value that is not 0 on; 0 at bars 0 and 1. Both divisions of the period are of whole numbers. An
+    /// average is left out where all the values that it takes are equal, to the end of the series: a cell may depend on
+    /// later bars. With a large power cells may be infinite or NaN. Refusals 1, 3, 4, 5, 6, 7.
     tegbalowu_jurik_volty jurik_volty(close; period: usize, power: f64; out: f64; work);
 
-    /// Ehlers' ultimate channel: the smoothed close, and `multiplier` smoothed average ranges above and below it.
-    /// Refusals 1 to 8: 8 where the period is above the series' length + 1.
+    /// Ehlers' ultimate channel. `middle` is the ultimate smoother of the close; `upper` and `lower` are `multiplier`
+    /// widths above and below it, a width being Wilder's average of true range from bar period-1 on, smoothed with
+    /// period / 2. From period 5 on the outer lines are NaN at every bar. Refusals 1 to 8: 8 where the period is above
+    /// the series' length + 1.
     tegbalowu_ultimate_channel ultimate_channel(
         high, low, close; period: usize, multiplier: f64; middle: f64, upper: f64, lower: f64; work
     );
@@ -228,8 +233,10 @@ functions! {
     /// ```
     tegbalowu_boll_reverse_positions boll_reverse_positions(series; n: usize, k: f64; out: i32; work);
 
-    /// Against the relative strength index of the means of `n` values, the present change left out: above `rsi_upper` a
-    /// flat position opens short, below `rsi_lower` long; a held one closes at `rsi_exit`. Refusals 1, 3, 4, 5, 6, 7.
+    /// Against the relative strength index of the means of `n` values: below `rsi_lower` a flat position opens long,
+    /// else above `rsi_upper` it opens short; a long one closes above `rsi_exit`, and a short one below it. The index is
+    /// made of up to n changes of the means, the present one left out, from bar 2n-1 on, and for n of 1 from bar 0; it
+    /// is 100 where none of them is a loss. 0 before. Refusals 1, 3, 4, 5, 6, 7.
     tegbalowu_rsi_reverse_positions rsi_reverse_positions(
         series; n: usize, rsi_upper: f64, rsi_lower: f64, rsi_exit: f64; out: i32; work
     );
