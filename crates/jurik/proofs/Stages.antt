@@ -1,7 +1,7 @@
 -- The stages of `jurik_volty`, one after the other in one slice, and what is known where its cells are due. Assumes
 -- nothing.
-use mathlib.Core.Path.{_≡_, refl, sym, _∙_}
-use mathlib.Core.Bool.{Bool, true, false}
+use mathlib.Core.Path.{_≡_, refl, sym, ap, _∙_}
+use mathlib.Core.Bool.{Bool, true, false, cond}
 use mathlib.Core.List.{List, [], _∷_}
 use Prim.Native.Nat.{ℕ, zero, suc, _-_, _*_, _/_, _<_, _≤_}
 use native.Mathlib.Nat.{le-refl}
@@ -9,7 +9,7 @@ use native.Mathlib.Omega.{arith}
 use borrow.Author.Tests.{ltb-true, ltb-false}
 use lib.Dec.{ltb}
 use lib.ListN.{length}
-use lib.Ieee.{Float, nan, binary64, sub}
+use lib.Ieee.{Float, nan, inf, fin, isNan}
 use Rattle.values.specs.Accepted.{accepted, finite}
 use Rattle.values.proofs.All.{and-true}
 use Rattle.calls.specs.declared.Refusal.the-variants.{ParameterNotFinite}
@@ -20,12 +20,12 @@ use Rattle.calls.proofs.Call.{AllBars}
 use Rattle.calls.proofs.Room.{asked, andThen-cells, same-count}
 use Rattle.checks.proofs.Passed.{one-passed, one-clearable}
 use Rattle.cells.specs.Line.{Line, line, plusZero, Causal}
-use Rattle.cells.specs.Written.{Writing}
+use Rattle.cells.specs.Written.{Writing, written}
 use Rattle.cells.proofs.Line.{before-bar, from-bar}
 use Rattle.cells.proofs.Written.{read-back, writing-same, then-written}
 use Rattle.rounding.specs.Leaves.{magnitudeOf}
 use Rattle.changes.specs.Changes.{earlier, change}
-use Rattle.jurik.specs.Jurik.{copied, swings, leaned, jurikAnswer}
+use Rattle.jurik.specs.Jurik.{copied, isNumber, swings, leaned, jurikAnswer}
 use Rattle.jurik.specs.inner.Passes.{tested, leanAt, Ready}
 use Rattle.jurik.proofs.Causal.{causal-averaged, causal-copied}
 use Rattle.jurik.proofs.Passes.{differing-same}
@@ -54,6 +54,26 @@ leaned-is power f i {last} {x} e p q = e ∙ go (ltb i 2) refl
     go false z =
         let h = ltb-false i 2 z in
         rw (z, from-bar 2 plusZero _ i h, p, q, earlier-is plusZero f i (omega arith))
+
+-- a copy of numbers is the line as it is
+copied-numbers : (f : Line) (i : ℕ) → f i ≡ copied isNumber nan f i
+unfolding copied isNan
+copied-numbers f i = go (f i)
+  where
+    go : (x : Float) → x ≡ cond (isNumber x) x nan
+    go nan = refl
+    go (inf s) = refl
+    go (fin s m e) = refl
+
+own-cells : (k : ℕ) (s : List Float) → s ≡ written k (line s) s
+own-cells zero s = refl
+own-cells (suc k) [] = refl
+own-cells (suc k) (x ∷ s) = ap (λ (t : List Float). x ∷ t) (own-cells k s)
+
+pub copied-stands : (k : ℕ) (s : List Float) → Writing k (copied isNumber nan (line s)) s s
+copied-stands k s =
+    let own : Writing k (line s) s s = record { is = own-cells k s; long = refl } in
+    writing-same own (λ i h. copied-numbers (line s) i)
 
 -- ---- one stage after the other
 

@@ -7,8 +7,8 @@ ghost use Prim.Native.Nat.{_<_, _≤_};
 ghost use lib.Dec.{ltb};
 ghost use lib.ListN.{length};
 ghost use lib.Ieee.{nan};
-ghost use Rattle.cells.specs.Line.{line};
-ghost use Rattle.cells.specs.Search.{firstBar};
+ghost use Rattle.cells.specs.Line.{line, plusZero};
+ghost use Rattle.cells.specs.Search.{firstBar, nonZero};
 ghost use Rattle.cells.specs.Written.{Writing};
 ghost use Rattle.cells.specs.Recur.{carried};
 ghost use Rattle.averages_exponential.specs.Blend.{blend};
@@ -25,6 +25,7 @@ ghost use Rattle.jurik.specs.Jurik.{
 };
 ghost use Rattle.jurik.specs.inner.Passes.{
   usableBy,
+  noneBy,
   differs,
   tested,
   leanAt,
@@ -108,23 +109,34 @@ fn unlike(cells: &[f64], bars: usize, not_zero: bool, first: usize) -> bool
     }
 }
 
-// x where it is usable, else `none`.
-fn kept(not_zero: bool, none: f64, x: f64) -> f64
-    ensures { λ r. ⌜ r ≡ copied (usableBy «not_zero») none (λ i. x) 0 ⌝ }
+// x where it is not 0, else 0.0.
+fn kept(x: f64) -> f64
+    ensures { λ r. ⌜ r ≡ copied nonZero plusZero (λ i. x) 0 ⌝ }
 {
-    if usable(not_zero, x) { x } else { none }
+    if usable(true, x) { x } else { 0.0 }
 }
 
-// Writes `none` over the values that are not usable.
-fn keep_usable(cells: &mut [f64], bars: usize, not_zero: bool, none: f64)
+// Writes 0.0 over every zero.
+fn keep_nonzero(cells: &mut [f64], bars: usize)
     requires { ⌜ bars ≤ length (now cells) ⌝ }
-    ensures { λ _. ⌜ Writing bars (copied (usableBy «not_zero») none (line (now (cells .entry)))) (now (cells .entry))
+    ensures { λ _. ⌜ Writing bars (copied nonZero plusZero (line (now (cells .entry)))) (now (cells .entry))
         (now (cells .exit)) ⌝ }
 {
     let mut i = 0;
     while i < bars {
-        cells[i] = kept(not_zero, none, cells[i]);
+        cells[i] = kept(cells[i]);
         i += 1;
+    }
+}
+
+// Copies the values where they stand: numbers stay as they are, and of values other than 0 a zero becomes 0.0.
+fn copy_usable(cells: &mut [f64], bars: usize, not_zero: bool)
+    requires { ⌜ bars ≤ length (now cells) ⌝ }
+    ensures { λ _. ⌜ Writing bars (copied (usableBy «not_zero») (noneBy «not_zero») (line (now (cells .entry))))
+        (now (cells .entry)) (now (cells .exit)) ⌝ }
+{
+    if not_zero {
+        keep_nonzero(cells, bars);
     }
 }
 
@@ -147,7 +159,7 @@ fn average_from(cells: &mut [f64], bars: usize, first: usize, none: f64, alpha: 
 
 // A pass over the first bars: the average, or the usable values as they are where all of them are equal.
 fn pass(cells: &mut [f64], bars: usize, not_zero: bool, none: f64, alpha: f64)
-    requires { ⌜ bars ≤ length (now cells) ⌝ }
+    requires { ⌜ (bars ≤ length (now cells)) × (none ≡ noneBy «not_zero») ⌝ }
     ensures { λ _. ⌜ Writing bars (tested (usableBy «not_zero») none alpha bars (line (now (cells .entry))))
         (now (cells .entry)) (now (cells .exit)) ⌝ }
 {
@@ -155,7 +167,7 @@ fn pass(cells: &mut [f64], bars: usize, not_zero: bool, none: f64, alpha: f64)
     if unlike(cells, bars, not_zero, first) {
         average_from(cells, bars, first, none, alpha);
     } else {
-        keep_usable(cells, bars, not_zero, none);
+        copy_usable(cells, bars, not_zero);
     }
 }
 

@@ -1,5 +1,6 @@
 -- `kept` meets its contract: by the test. Assumes nothing.
 use borrow.Author.Needs.{needs}
+use lib.Ieee.{ofBits}
 use Rattle.jurik.specs.Jurik.{copied}
 use Rattle.jurik.proofs.kept.Statement.{statement}
 use Rattle.jurik.proofs.kept.Tie as tie
@@ -9,7 +10,7 @@ unfolding copied
 returns c = rw (← c .before .usable .ensures, c .if1 .taken)
 
 returns-2 : tie.Need-returns-2
-unfolding copied
+unfolding copied ofBits
 returns-2 c = rw (← c .before .usable .ensures, c .if1 .left)
 
 pub kept-spec : {M : Type 1} → statement M

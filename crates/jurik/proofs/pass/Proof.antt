@@ -29,7 +29,8 @@ returns-2 c =
     let cells = c .before .before in
     let else = cells .before .before in
     let alike = sym (else .before .unlike .ensures) ∙ else .if1 .left in
-    writing-same (cells .keep-usable .ensures) (λ i l. tested-copies _ _ _ _ _ alike i)
+    let none = else .before .before .before .before .before .before .pre .1 in
+    writing-same (rw (← none) at (cells .copy-usable .ensures)) (λ i l. tested-copies _ _ _ _ _ alike i)
 
 pub pass-spec : {M : Type 1} → statement M
 pass-spec =
@@ -38,7 +39,7 @@ pass-spec =
     (λ c κs. search needs)  -- first-usable-requires
     (λ c κs. search needs)  -- unlike-requires
     average-from-requires
-    (λ c κs. search needs)  -- keep-usable-requires
+    (λ c κs. search needs)  -- copy-usable-requires
     (λ c. search needs)  -- same-length
     returns
     (λ c. search needs)  -- same-length-2

@@ -45,7 +45,7 @@ write-jurik-spec =
     (λ c. search needs)  -- add-third
     (λ c. count-is-float _ (omega arith))  -- int-to-float-third
     (λ c κs. search needs)  -- lean-averages-requires
-    (λ c κs. search needs)  -- pass-requires
+    (λ c κs. unfold ofBits in search needs)  -- pass-requires
     (λ c κs. search needs)  -- write-passes-requires
     (λ c. search needs)  -- same-length
     returns

@@ -52,7 +52,7 @@ write-passes-spec =
     (λ c κs. search needs)  -- pass-requires
     (λ c κs. search needs)  -- pass-requires-2
     (λ c κs. search needs)  -- lean-on-requires
-    (λ c κs. search needs)  -- pass-requires-3
+    (λ c κs. unfold ofBits in search needs)  -- pass-requires-3
     (λ c. search needs)  -- same-length
     returns
     )

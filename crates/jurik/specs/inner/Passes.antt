@@ -19,6 +19,11 @@ abbrev pub usableBy : Bool → Float → Bool
 usableBy true = nonZero
 usableBy false = isNumber
 
+-- what stands for the others
+abbrev pub noneBy : Bool → Float
+noneBy true = plusZero
+noneBy false = nan
+
 -- usable, and not equal to x
 abbrev pub differs : (Float → Bool) → Float → Float → Bool
 differs usable x y = usable y && not (eq y x)

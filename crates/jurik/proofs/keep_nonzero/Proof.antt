@@ -1,24 +1,21 @@
--- `keep_usable` meets its contract: each turn writes a cell over its own value. Assumes nothing.
-use mathlib.Core.Path.{_∙_}
+-- `keep_nonzero` meets its contract: each turn writes a cell over its own value. Assumes nothing.
 use Prim.Native.Nat.{_-_, _≤_}
 use native.Mathlib.Omega.{arith}
 use borrow.Author.Needs.{needs}
-use lib.ListN.{length}
-use Rattle.cells.specs.Line.{line}
+use Rattle.cells.specs.Line.{line, plusZero}
+use Rattle.cells.specs.Search.{nonZero}
 use Rattle.cells.specs.Written.{Writing}
 use Rattle.cells.proofs.Written.{none-written, one-more, ends}
 use Rattle.cells.proofs.Leads.{not-yet}
 use Rattle.jurik.specs.Jurik.{copied}
-use Rattle.jurik.specs.inner.Passes.{usableBy}
-use Rattle.jurik.proofs.keep_usable.Statement.{statement}
-use Rattle.jurik.proofs.keep_usable.Tie as tie
+use Rattle.jurik.proofs.keep_nonzero.Statement.{statement}
+use Rattle.jurik.proofs.keep_nonzero.Tie as tie
 
 abbrev Inv-loop : tie.InvT-loop
-Inv-loop cells₀ bars not-zero none i₀ cells i =
-    (i ≤ bars) × Writing i (copied (usableBy not-zero) none (line cells₀)) cells₀ cells
+Inv-loop cells₀ bars i₀ cells i = (i ≤ bars) × Writing i (copied nonZero plusZero (line cells₀)) cells₀ cells
 
 abbrev μ-loop : tie.MeasureT-loop
-μ-loop cells₀ bars not-zero none i₀ cells i = bars - i
+μ-loop cells₀ bars i₀ cells i = bars - i
 
 loop-again : tie.Need-loop-again Inv-loop μ-loop
 unfolding copied
@@ -27,8 +24,8 @@ loop-again c =
     let stood = not-yet (at .loop .i) (at .loop .inv .1) (omega arith) in
     (omega arith, one-more (at .loop .inv .1) (rw (← stood) (c .kept .ensures)) (omega arith))
 
-pub keep-usable-spec : {M : Type 1} → statement M
-keep-usable-spec =
+pub keep-nonzero-spec : {M : Type 1} → statement M
+keep-nonzero-spec =
     tie.close
     (tie.spec
     Inv-loop
