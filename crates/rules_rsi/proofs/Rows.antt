@@ -146,7 +146,8 @@ module _ {at bars : ℕ} {f : Line} {now : List Float} (row : RowHolds at 1 bars
         let start : at + i - 1 + 1 - k ≡ at + first = omega arith in
         let cell : (j : ℕ) → at + first + j ≡ at + (first + j) = λ j. omega arith in
         rw start
-        (sum-moved minusZero (line now) f (at + first) first k (λ j l. rw (cell j) (row .cell (first + j) (omega arith)))
+        (sum-moved minusZero (line now) f (at + first) first k
+        (λ j l. rw (cell j) (row .cell (first + j) (omega arith)))
         ∙ sums-from-either f first k a (no first))
 
     -- of all changes that count
