@@ -195,6 +195,19 @@ tegbalowu_answer tegbalowu_ultimate_channel(const double *high, size_t high_len,
                                             double *lower, size_t lower_len, double *work, size_t work_len);
 
 /*
+ * Larry Williams' ultimate oscillator: 100 (4a + 2b + c) / 7, where a, b and c are the sums of buying
+ * pressure over those of true range in the last short_period, med_period and long_period bars, and
+ * 0 where the range's sum is 0. NaN until the longest window is whole, so at every bar where one
+ * exceeds the series. Buying pressure is the close less the smaller of the low and the close
+ * before, at bar 0 its own close; the range of bar 0 is high less low. The windows need not rise.
+ * Refusals 1, 2, 3, 4, 5, 7.
+ */
+tegbalowu_answer tegbalowu_ultimate_oscillator(const double *high, size_t high_len, const double *low, size_t low_len,
+                                               const double *close, size_t close_len, size_t short_period,
+                                               size_t med_period, size_t long_period, double *out, size_t out_len,
+                                               double *work, size_t work_len);
+
+/*
  * Rank: the share of the n-1 means before the present one that lie below it, moved from 0..1 to
  * -1..1 and rounded to hundredths, half away from zero, so that -0.0 is possible; from bar 2n-2
  * on. n = 1 gives NaN at every bar. Refusals 1, 3, 4, 5, 7.

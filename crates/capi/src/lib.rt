@@ -16,6 +16,7 @@ ghost use Rattle.rsx.specs.Rsx.{RsxCall};
 ghost use Rattle.holt_winters.specs.HoltWinters.{HoltWintersCall};
 ghost use Rattle.jurik.specs.Jurik.{JurikCall};
 ghost use Rattle.channel.specs.Channel.{ChannelCall};
+ghost use Rattle.oscillator.specs.Oscillator.{OscillatorCall};
 ghost use Rattle.rules_bands.specs.Boll.{BollCall};
 ghost use Rattle.rules_bands.specs.BollReverse.{BollReverseCall};
 ghost use Rattle.rules_rsi.specs.RsiReverse.{RsiReverseCall};
@@ -263,6 +264,34 @@ pub extern "C" fn tegbalowu_ultimate_channel(
         lower,
         work,
     ))
+}
+
+#[no_mangle]
+pub extern "C" fn tegbalowu_ultimate_oscillator(
+    high: &[f64],
+    low: &[f64],
+    close: &[f64],
+    short_period: usize,
+    med_period: usize,
+    long_period: usize,
+    out: &mut [f64],
+    work: &mut [f64],
+) -> CAnswer
+    ensures { λ r. ⌜ InNumbers (λ a. OscillatorCall (now (high .entry)) (now (low .entry)) (now (close .entry))
+        «short_period» «med_period» «long_period» (now (out .entry)) (now (work .entry)) a (now (out .exit))
+        (now (work .exit))) r ⌝ }
+{
+    let answer = oscillator::ultimate_oscillator(
+        high,
+        low,
+        close,
+        short_period,
+        med_period,
+        long_period,
+        out,
+        work,
+    );
+    numbers(answer)
 }
 
 #[no_mangle]

@@ -18,6 +18,7 @@ use Rattle.calls.specs.Answer.{andThen, checked, answered}
 use Rattle.calls.specs.Call.{Call}
 use Rattle.calls.proofs.Room.{EachWindow, room, opened}
 use Rattle.calls.proofs.Cells.{cell-at, room-after, no-look-ahead}
+use Rattle.checks.proofs.Passed.{three-passed}
 use Rattle.checks.proofs.Three.{checked-three-room}
 use Rattle.averages.specs.Sma.{SmaCall}
 use Rattle.averages.proofs.Causal.{causal-sma}
@@ -32,6 +33,8 @@ use Rattle.smoother.specs.Smoother.{smootherAnswer, UltimateSmootherCall}
 use Rattle.smoother.proofs.Smoother.{causal-smooth}
 use Rattle.true_range.specs.TrueRange.{TrueRangeCall}
 use Rattle.true_range.proofs.TrueRange.{Causal₃, causal-given, causal-ranges}
+use Rattle.oscillator.specs.Oscillator.{oscillatorAnswer, OscillatorCall}
+use Rattle.oscillator.proofs.Oscillator.{causal-oscillator}
 use Rattle.rules_single.specs.Single.{SingleCall}
 use Rattle.rules_single.proofs.Single.{causal-single}
 use Rattle.rules_double.specs.Double.{doubleAnswer, DoubleCall}
@@ -268,3 +271,18 @@ module _ {high low close high′ low′ close′ : List Float} {b : ℕ} (h : Eq
         three-agree h l e (causal-channel-upper n k) (omega arith) (omega arith) (c .upper) (c′ .upper),
         three-agree h l e (causal-channel-lower n k) (omega arith) (omega arith) (c .lower) (c′ .lower),
       )
+
+-- the ultimate oscillator
+pub ultimate-oscillator-no-look-ahead : {high low close high′ low′ close′ out₀ out₁ out₀′ out₁′ work₀ work₁ work₀′
+    work₁′ : List Float} {b : ℕ}
+    → EqualBars high high′ b → EqualBars low low′ b → EqualBars close close′ b → (n m k : ℕ)
+    → OscillatorCall high low close n m k out₀ work₀ (Cells (length high)) out₁ work₁
+    → OscillatorCall high′ low′ close′ n m k out₀′ work₀′ (Cells (length high′)) out₁′ work₁′
+    → EqualCells nan out₁ out₁′ b
+unfolding oscillatorAnswer
+ultimate-oscillator-no-look-ahead h l e n m k c c′ =
+    let p = h .left in
+    let q = h .right in
+    let room = three-passed _ _ _ _ _ _ (c .call .answer) (omega arith) .0 .out-long in
+    let room′ = three-passed _ _ _ _ _ _ (c′ .call .answer) (omega arith) .0 .out-long in
+    three-agree h l e (causal-oscillator n m k) room room′ (c .call) (c′ .call)

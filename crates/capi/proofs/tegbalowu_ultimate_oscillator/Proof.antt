@@ -1,0 +1,16 @@
+-- `tegbalowu_ultimate_oscillator` meets its contract: it is the library's `ultimate_oscillator`, in numbers. Assumes nothing.
+use borrow.Author.Needs.{needs}
+use Rattle.capi.proofs.InNumbers.{told}
+use Rattle.capi.proofs.tegbalowu_ultimate_oscillator.Statement.{statement}
+use Rattle.capi.proofs.tegbalowu_ultimate_oscillator.Tie as tie
+
+pub tegbalowu-ultimate-oscillator-spec : {M : Type 1} → statement M
+tegbalowu-ultimate-oscillator-spec =
+    tie.close
+    (tie.spec
+    (λ c κs. search needs)  -- ultimate-oscillator-requires
+    (λ c κs. search needs)  -- numbers-requires
+    (λ c. search needs)  -- same-length
+    (λ c. search needs)  -- same-length-2
+    (λ c. search (needs, told))  -- returns
+    )
