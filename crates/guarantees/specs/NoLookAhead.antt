@@ -258,9 +258,10 @@ module _ {high low close high′ low′ close′ : List Float} {b : ℕ} (h : Eq
     {middle₀ upper₀ lower₀ work₀ middle₁ upper₁ lower₁ work₁ : List Float}
     {middle₀′ upper₀′ lower₀′ work₀′ middle₁′ upper₁′ lower₁′ work₁′ : List Float} where
   pub channel-no-look-ahead : (n : ℕ) (k : Float)
-      → ChannelCall high low close n k middle₀ upper₀ lower₀ work₀ (Cells (length high)) middle₁ upper₁ lower₁ work₁
-      → ChannelCall high′ low′ close′ n k middle₀′ upper₀′ lower₀′ work₀′ (Cells (length high′)) middle₁′ upper₁′ lower₁′
-      work₁′
+      → ChannelCall high low close n k middle₀ upper₀ lower₀ work₀ (Cells (length high))
+      middle₁ upper₁ lower₁ work₁
+      → ChannelCall high′ low′ close′ n k middle₀′ upper₀′ lower₀′ work₀′ (Cells (length high′))
+      middle₁′ upper₁′ lower₁′ work₁′
       → EqualCells nan middle₁ middle₁′ b × EqualCells nan upper₁ upper₁′ b × EqualCells nan lower₁ lower₁′ b
   channel-no-look-ahead n k c c′ =
       let p = h .left in

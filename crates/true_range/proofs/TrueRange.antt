@@ -33,7 +33,8 @@ abbrev pub Causal₃ : (Line → Line → Line → Line) → Type 0
 Causal₃ F = (h h′ l l′ c c′ : Line) (b : ℕ) → Same h h′ b → Same l l′ b → Same c c′ b → F h l c b ≡ F h′ l′ c′ b
 
 -- an operator on one line after one on three
-pub causal₃-then : {F : Line → Line → Line → Line} {G : Line → Line} → Causal₃ F → Causal G → Causal₃ (λ h l c. G (F h l c))
+pub causal₃-then : {F : Line → Line → Line → Line} {G : Line → Line} → Causal₃ F → Causal G
+    → Causal₃ (λ h l c. G (F h l c))
 causal₃-then {F = F} p q h h′ l l′ c c′ b x y z =
     q (F h l c) (F h′ l′ c′) b
     (λ j m. p h h′ l l′ c c′ j (λ i k. x i (omega arith)) (λ i k. y i (omega arith)) (λ i k. z i (omega arith)))

@@ -52,7 +52,8 @@ ultimate-channel-spec =
     (λ c κs. search needs)  -- answer-channel-requires
     (λ c κs. channel-clearable _ _ _ _ _ _ _ _ _ (c .before .answer-channel .ensures))  -- cells-due-requires
     (λ c κs. opened (c .before .before .before) .0)  -- write-channel-requires
-    (λ c. let o = opened (then-of (c .before .before .before .before .before .before .before)) .1 in search needs)  -- mul-clear
+    -- mul-clear
+    (λ c. let o = opened (then-of (c .before .before .before .before .before .before .before)) .1 in search needs)
     (λ c κs. opened (then-of (c .before .before .before .before .before .before .before)) .1)  -- clear-requires
     (λ c. search needs)  -- same-length
     (λ c. search needs)  -- same-length-2

@@ -51,7 +51,8 @@ write-widths-spec =
     (tie.spec
     (λ c κs. search needs)  -- write-ranges-requires
     (λ c. search needs)  -- slice-reshare-prefix-write-average
-    (λ c. sym (part-long (c .before .before .before .write-ranges .ensures) (omega arith)))  -- slice-aggregate-write-average
+    -- slice-aggregate-write-average
+    (λ c. sym (part-long (c .before .before .before .write-ranges .ensures) (omega arith)))
     write-average-requires
     (λ c. search needs)  -- slice-reshare-prefix-write-smooth
     slice-aggregate-write-smooth

@@ -12,7 +12,8 @@ use Rattle.true_range.proofs.write_true_range.Statement.{statement}
 use Rattle.true_range.proofs.write_true_range.Tie as tie
 
 abbrev Inv-loop : tie.InvT-loop
-Inv-loop high low close-prev out₀ i₀ out i = (i ≤ length high) × Writing i (trueRanges (line high) (line low) (givenBefore (line close-prev))) out₀ out
+Inv-loop high low close-prev out₀ i₀ out i =
+    (i ≤ length high) × Writing i (trueRanges (line high) (line low) (givenBefore (line close-prev))) out₀ out
 
 abbrev μ-loop : tie.MeasureT-loop
 μ-loop high low close-prev out₀ i₀ out i = length high - i
