@@ -208,6 +208,19 @@ tegbalowu_answer tegbalowu_ultimate_oscillator(const double *high, size_t high_l
                                                double *work, size_t work_len);
 
 /*
+ * Bands about the ultimate smoother, after Ehlers' ultimate bands. middle is the smoother of the
+ * close with period; upper and lower are std_multiplier widths above and below it. A width is the
+ * deviation of the last period closes over period-1, NaN before bar period-1 and 0.0 for period 1,
+ * smoothed with smooth_period. So with period 4 only bar 3 of the outer lines is a number, and from
+ * period 5 on they are NaN at every bar. Both periods go from 0 to 512; one of 0, and a period
+ * above the bars, is answered with count 0. Refusals 1, 3, 4, 5, 6, 7.
+ */
+tegbalowu_answer tegbalowu_ultimate_bands(const double *close, size_t close_len, size_t period, double std_multiplier,
+                                          size_t smooth_period, double *middle, size_t middle_len, double *upper,
+                                          size_t upper_len, double *lower, size_t lower_len, double *work,
+                                          size_t work_len);
+
+/*
  * Rank: the share of the n-1 means before the present one that lie below it, moved from 0..1 to
  * -1..1 and rounded to hundredths, half away from zero, so that -0.0 is possible; from bar 2n-2
  * on. n = 1 gives NaN at every bar. Refusals 1, 3, 4, 5, 7.

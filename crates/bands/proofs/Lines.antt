@@ -88,8 +88,8 @@ nan-width n m f h =
     (λ i l. rw (deviation-of-some n f (omega arith)) (before-bar (n - 1) nan _ i (omega arith)))
 
 -- both outer lines are NaN at every bar
-pub nan-outer : (n : ℕ) (k : Float) (m : ℕ) (f : Line) → 5 ≤ n → (i : ℕ)
+pub nan-bands : (n : ℕ) (k : Float) (m : ℕ) (f : Line) → 5 ≤ n → (i : ℕ)
     → (bandsUpper n k m f i ≡ nan) × (bandsLower n k m f i ≡ nan)
 unfolding bandsUpper bandsLower
-nan-outer n k m f h i =
+nan-bands n k m f h i =
     (nan-upper k _ _ i (nan-width n m f h i), nan-lower k _ _ i (nan-width n m f h i))

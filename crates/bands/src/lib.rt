@@ -76,7 +76,7 @@ fn write_widths(close: &[f64], n: usize, m: usize, widths: &mut [f64], spreads: 
     smoother::write_smooth(&spreads[..bars], m, widths);
 }
 
-// Writes the three lines. From period 5 on the outer lines are NaN throughout: see `outer-nan`.
+// Writes the three lines. From period 5 on the outer lines are NaN throughout: see `nan-bands`.
 fn write_bands(
     close: &[f64],
     n: usize,

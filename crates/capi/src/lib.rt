@@ -16,6 +16,7 @@ ghost use Rattle.rsx.specs.Rsx.{RsxCall};
 ghost use Rattle.holt_winters.specs.HoltWinters.{HoltWintersCall};
 ghost use Rattle.jurik.specs.Jurik.{JurikCall};
 ghost use Rattle.channel.specs.Channel.{ChannelCall};
+ghost use Rattle.bands.specs.Bands.{UltimateBandsCall};
 ghost use Rattle.oscillator.specs.Oscillator.{OscillatorCall};
 ghost use Rattle.rules_bands.specs.Boll.{BollCall};
 ghost use Rattle.rules_bands.specs.BollReverse.{BollReverseCall};
@@ -292,6 +293,33 @@ pub extern "C" fn tegbalowu_ultimate_oscillator(
         work,
     );
     numbers(answer)
+}
+
+#[no_mangle]
+pub extern "C" fn tegbalowu_ultimate_bands(
+    close: &[f64],
+    period: usize,
+    std_multiplier: f64,
+    smooth_period: usize,
+    middle: &mut [f64],
+    upper: &mut [f64],
+    lower: &mut [f64],
+    work: &mut [f64],
+) -> CAnswer
+    ensures { λ r. ⌜ InNumbers (λ a. UltimateBandsCall (now (close .entry)) period «std_multiplier» «smooth_period»
+        (now (middle .entry)) (now (upper .entry)) (now (lower .entry)) (now (work .entry)) a
+        (now (middle .exit)) (now (upper .exit)) (now (lower .exit)) (now (work .exit))) r ⌝ }
+{
+    numbers(bands::ultimate_bands(
+        close,
+        period,
+        std_multiplier,
+        smooth_period,
+        middle,
+        upper,
+        lower,
+        work,
+    ))
 }
 
 #[no_mangle]

@@ -48,6 +48,9 @@ use Rattle.holt_winters.proofs.Causal.{causal-holt-winters}
 use Rattle.holt_winters.specs.HoltWinters.{HoltWintersCall, weights, holtWintersAnswer}
 use Rattle.rsx.proofs.Causal.{causal-rsx}
 use Rattle.rsx.specs.Rsx.{RsxCall, rsxAnswer}
+use Rattle.bands.proofs.Call.{bands-ready}
+use Rattle.bands.proofs.Lines.{causal-bands-middle, causal-bands-upper, causal-bands-lower}
+use Rattle.bands.specs.Bands.{UltimateBandsCall}
 use Rattle.channel.proofs.Causal.{causal-channel-middle, causal-channel-upper, causal-channel-lower}
 use Rattle.channel.proofs.Stages.{channel-ready}
 use Rattle.channel.specs.Channel.{ChannelCall}
@@ -180,6 +183,28 @@ module _ {s t out₀ out₁ out₀′ out₁′ work₀ work₁ work₀′ work�
   unfolding holtWintersAnswer
   holt-winters-no-look-ahead m alpha beta gamma c c′ =
       table-agrees nan accepted equal _ _ _ _ (causal-holt-winters m (weights alpha beta gamma)) (c .call) (c′ .call)
+
+-- the bands, in each of their three outputs
+module _ {s t middle₀ upper₀ lower₀ work₀ middle₁ upper₁ lower₁ work₁ : List Float}
+    {middle₀′ upper₀′ lower₀′ work₀′ middle₁′ upper₁′ lower₁′ work₁′ : List Float} {b : ℕ} (equal : EqualBars s t b)
+  where
+    pub bands-no-look-ahead : (n : ℕ) (k : Float) (m : ℕ)
+        → UltimateBandsCall s n k m middle₀ upper₀ lower₀ work₀ (Cells (length s)) middle₁ upper₁ lower₁ work₁
+        → UltimateBandsCall t n k m middle₀′ upper₀′ lower₀′ work₀′ (Cells (length t)) middle₁′ upper₁′ lower₁′ work₁′
+        → EqualCells nan middle₁ middle₁′ b × EqualCells nan upper₁ upper₁′ b × EqualCells nan lower₁ lower₁′ b
+    bands-no-look-ahead n k m c c′ =
+        let p = equal .left in
+        let q = equal .right in
+        let same = equal .same in
+        let room = bands-ready s n k m _ _ _ _ (c .middle .answer) (omega arith) .0 in
+        let room′ = bands-ready t n k m _ _ _ _ (c′ .middle .answer) (omega arith) .0 in (
+          no-look-ahead nan (causal-bands-middle n) (line s) (line t) b same (c .middle) (omega arith) (c′ .middle)
+              (omega arith),
+          no-look-ahead nan (causal-bands-upper n k m) (line s) (line t) b same (c .upper) (omega arith) (c′ .upper)
+              (omega arith),
+          no-look-ahead nan (causal-bands-lower n k m) (line s) (line t) b same (c .lower) (omega arith) (c′ .lower)
+              (omega arith),
+        )
 
 -- those whose cells are whole numbers
 module _ {s t : List Float} {out₀ out₁ out₀′ out₁′ : List ℤ} {work₀ work₁ work₀′ work₁′ : List Float} {b : ℕ}
