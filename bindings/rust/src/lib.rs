@@ -176,13 +176,17 @@ functions! {
         high, low, close; period: usize, multiplier: f64; middle: f64, upper: f64, lower: f64; work
     );
 
-    /// Ehlers' ultimate bands: the smoothed close, and `std_multiplier` deviations above and below it. The count is 0
-    /// also where the series is shorter than the period. Refusals 1, 3, 4, 5, 6, 7.
+    /// Bands about the ultimate smoother. `middle` is the smoother of the close with `period`; `upper` and `lower` are
+    /// `std_multiplier` widths above and below it, a width being the deviation of the last period closes over period-1,
+    /// smoothed with `smooth_period`. From period 5 on the outer lines are NaN at every bar. The count is 0 also where
+    /// the series is shorter than the period. Refusals 1, 3, 4, 5, 6, 7.
     tegbalowu_ultimate_bands ultimate_bands(
         close; period: usize, std_multiplier: f64, smooth_period: usize; middle: f64, upper: f64, lower: f64; work
     );
 
-    /// Williams' ultimate oscillator: three windows weighed 4, 2, 1 over 7. Refusals 1, 2, 3, 4, 5, 7.
+    /// Williams' ultimate oscillator: 100 (4a + 2b + c) / 7, where a, b and c are the sums of buying pressure over those
+    /// of true range in the last `short_period`, `med_period` and `long_period` bars, and 0 where the range's sum is 0.
+    /// NaN until the longest window is whole. Refusals 1, 2, 3, 4, 5, 7.
     tegbalowu_ultimate_oscillator ultimate_oscillator(
         high, low, close; short_period: usize, med_period: usize, long_period: usize; out: f64; work
     );

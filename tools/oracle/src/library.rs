@@ -71,10 +71,6 @@ impl Lent {
         }
     }
 
-    pub fn len(&self) -> usize {
-        self.len
-    }
-
     /// All cells but the guards.
     pub fn cells<T: Lend>(&mut self) -> &mut [T] {
         &mut T::in_memory(&mut self.memory)[GUARD..GUARD + self.len]

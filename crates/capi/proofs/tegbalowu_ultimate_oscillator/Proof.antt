@@ -1,4 +1,4 @@
--- `tegbalowu_ultimate_oscillator` meets its contract: it is the library's `ultimate_oscillator`, in numbers. Assumes nothing.
+-- `tegbalowu_ultimate_oscillator` meets its contract: it is the library's own function, in numbers. Assumes nothing.
 use borrow.Author.Needs.{needs}
 use Rattle.capi.proofs.InNumbers.{told}
 use Rattle.capi.proofs.tegbalowu_ultimate_oscillator.Statement.{statement}
