@@ -79,11 +79,50 @@ tegbalowu_answer tegbalowu_exponential_smoothing(const double *series, size_t se
 tegbalowu_answer tegbalowu_tick_mean(const double *series, size_t series_len, size_t n, int64_t *out, size_t out_len);
 
 /*
- * Ehlers' ultimate smoother, from bar 4 on; bars 0 to 3 copy the input. With period 0 every cell
- * from bar 4 on is NaN. Refusals 1, 3, 5, 6, 7.
+ * Additive Holt-Winters smoothing: level plus trend plus seasonal part of each bar, from bar
+ * season_length on; the cells before copy the series. The level starts as the mean of the first
+ * season_length values and the trend as 0; alpha, beta and gamma, of any finite size, weigh a new
+ * value in level, trend and seasonal part. A season longer than the series is answered with
+ * count 0. Refusals 1, 3, 4, 5, 6, 7.
  */
-tegbalowu_answer tegbalowu_ultimate_smoother(const double *price, size_t price_len, double period, double *out,
-                                             size_t out_len);
+tegbalowu_answer tegbalowu_holt_winters(const double *series, size_t series_len, size_t season_length, double alpha,
+                                        double beta, double gamma, double *out, size_t out_len, double *work,
+                                        size_t work_len);
+
+/*
+ * Wilder's relative strength index, from bar n on; NaN before. 100 where the average loss is 0.
+ * Refusals 1, 3, 4, 5, 7.
+ */
+tegbalowu_answer tegbalowu_wilder_rsi(const double *series, size_t series_len, size_t n, double *out, size_t out_len,
+                                      double *work, size_t work_len);
+
+/*
+ * The relative strength index of exponential averages with factor 1 / period, NaN at bar 0,
+ * smoothed with smooth_period, from 0 to 512: the first four cells copy the index. A
+ * smooth_period of 0 is answered with count 0. Refusals 1, 3, 4, 5, 7.
+ */
+tegbalowu_answer tegbalowu_rsx_ss2(const double *close, size_t close_len, size_t period, size_t smooth_period,
+                                   double *out, size_t out_len, double *work, size_t work_len);
+
+/*
+ * A volatility: the sizes of the changes averaged exponentially twice with factor
+ * 2 / (period / 2 + 1), a step beyond each average by half its last change, times power, and that
+ * averaged with factor 2 / (period / 3 + 1) from the first value that is not 0 on; 0 at bars 0
+ * and 1. Both divisions are of whole numbers, so that a factor can be 2 and the cells can grow. An
+ * average is left out where all the values that it takes are equal, to the end of the series: a
+ * cell may depend on later bars. Any finite power is taken; with a large one cells may be infinite
+ * or NaN. Refusals 1, 3, 4, 5, 6, 7.
+ */
+tegbalowu_answer tegbalowu_jurik_volty(const double *close, size_t close_len, size_t period, double power,
+                                       double *out, size_t out_len, double *work, size_t work_len);
+
+/*
+ * Rolling rank: the place, from 1, in the sorted window of the first value less than 1e-8 away
+ * from the present one, from bar window-1 on; 0 before. A window of 0 is no empty answer here: it
+ * gives 0 at every bar. Refusals 1, 3, 4, 5, 7.
+ */
+tegbalowu_answer tegbalowu_rolling_rank(const double *series, size_t series_len, size_t window, uint64_t *out,
+                                        size_t out_len, double *work, size_t work_len);
 
 /*
  * Wilder's true range, from bar 1 on; bar 0 is high less low. close_prev[i] is the close before bar
@@ -91,6 +130,51 @@ tegbalowu_answer tegbalowu_ultimate_smoother(const double *price, size_t price_l
  */
 tegbalowu_answer tegbalowu_true_range(const double *high, size_t high_len, const double *low, size_t low_len,
                                       const double *close_prev, size_t close_prev_len, double *out, size_t out_len);
+
+/*
+ * Ehlers' ultimate smoother, from bar 4 on; bars 0 to 3 copy the input. With period 0 every cell
+ * from bar 4 on is NaN. Refusals 1, 3, 5, 6, 7.
+ */
+tegbalowu_answer tegbalowu_ultimate_smoother(const double *price, size_t price_len, double period, double *out,
+                                             size_t out_len);
+
+/*
+ * Ehlers' ultimate channel. middle is the ultimate smoother of the close with period, from 0 to
+ * 512; upper and lower are multiplier widths above and below it. A width is Wilder's average of
+ * true range from bar period-1 on, NaN earlier, smoothed with period / 2. So with period 4 only
+ * bar 3 of the outer lines is a number, and from period 5 on they are NaN at every bar; with
+ * period 1 they are NaN from bar 4 on. Refusals 1 to 8.
+ */
+tegbalowu_answer tegbalowu_ultimate_channel(const double *high, size_t high_len, const double *low, size_t low_len,
+                                            const double *close, size_t close_len, size_t period, double multiplier,
+                                            double *middle, size_t middle_len, double *upper, size_t upper_len,
+                                            double *lower, size_t lower_len, double *work, size_t work_len);
+
+/*
+ * Bands about the ultimate smoother, after Ehlers' ultimate bands. middle is the smoother of the
+ * close with period; upper and lower are std_multiplier widths above and below it. A width is the
+ * deviation of the last period closes over period-1, NaN before bar period-1 and 0.0 for period 1,
+ * smoothed with smooth_period. So with period 4 only bar 3 of the outer lines is a number, and from
+ * period 5 on they are NaN at every bar. Both periods go from 0 to 512; one of 0, and a period
+ * above the bars, is answered with count 0. Refusals 1, 3, 4, 5, 6, 7.
+ */
+tegbalowu_answer tegbalowu_ultimate_bands(const double *close, size_t close_len, size_t period, double std_multiplier,
+                                          size_t smooth_period, double *middle, size_t middle_len, double *upper,
+                                          size_t upper_len, double *lower, size_t lower_len, double *work,
+                                          size_t work_len);
+
+/*
+ * Larry Williams' ultimate oscillator: 100 (4a + 2b + c) / 7, where a, b and c are the sums of buying
+ * pressure over those of true range in the last short_period, med_period and long_period bars, and
+ * 0 where the range's sum is 0. NaN until the longest window is whole, so at every bar where one
+ * exceeds the series. Buying pressure is the close less the smaller of the low and the close
+ * before, at bar 0 its own close; the range of bar 0 is high less low. The windows need not rise.
+ * Refusals 1, 2, 3, 4, 5, 7.
+ */
+tegbalowu_answer tegbalowu_ultimate_oscillator(const double *high, size_t high_len, const double *low, size_t low_len,
+                                               const double *close, size_t close_len, size_t short_period,
+                                               size_t med_period, size_t long_period, double *out, size_t out_len,
+                                               double *work, size_t work_len);
 
 /*
  * Positions: +1 long, -1 short, 0 flat. A sign is +1 for +0.0 and above, so a tie is +1. Before the
@@ -112,21 +196,6 @@ tegbalowu_answer tegbalowu_double_sma_positions(const double *series, size_t ser
                                                 double *out, size_t out_len);
 
 /*
- * Middle: the sign of the mean of the last n values less half of the highest plus the lowest of the
- * last n such means, from bar 2n-2 on; 0 where either is 0. Refusals 1, 3, 4, 5, 7.
- */
-tegbalowu_answer tegbalowu_mid_positions(const double *series, size_t series_len, size_t n, double *out,
-                                         size_t out_len, double *work, size_t work_len);
-
-/*
- * Min-max scaling: where the mean of timeperiod values stands between the lowest and the highest
- * of the last window means, from -1 to 1, from bar timeperiod+window-2 on; 0 where these are at
- * most 1e-10 apart. Refusals 1, 3, 4, 5, 7.
- */
-tegbalowu_answer tegbalowu_mms_positions(const double *series, size_t series_len, size_t timeperiod, size_t window,
-                                         double *out, size_t out_len, double *work, size_t work_len);
-
-/*
  * Triple: +1 where the mean of m1 values is above its own mean over m3 and its mean over m1 above
  * that over m2, -1 where both are below, else 0; from bar m1+m3-2 on. Refusals 1, 3, 4, 5, 7; 8
  * where m3 is above series_len; 9 unless m1 < m2 < m3.
@@ -145,80 +214,19 @@ tegbalowu_answer tegbalowu_single_ema_positions(const double *series, size_t ser
                                                 size_t out_len, double *work, size_t work_len);
 
 /*
- * Wilder's relative strength index, from bar n on; NaN before. 100 where the average loss is 0.
- * Refusals 1, 3, 4, 5, 7.
+ * Middle: the sign of the mean of the last n values less half of the highest plus the lowest of the
+ * last n such means, from bar 2n-2 on; 0 where either is 0. Refusals 1, 3, 4, 5, 7.
  */
-tegbalowu_answer tegbalowu_wilder_rsi(const double *series, size_t series_len, size_t n, double *out, size_t out_len,
-                                      double *work, size_t work_len);
+tegbalowu_answer tegbalowu_mid_positions(const double *series, size_t series_len, size_t n, double *out,
+                                         size_t out_len, double *work, size_t work_len);
 
 /*
- * The relative strength index of exponential averages with factor 1 / period, NaN at bar 0,
- * smoothed with smooth_period, from 0 to 512: the first four cells copy the index. A
- * smooth_period of 0 is answered with count 0. Refusals 1, 3, 4, 5, 7.
+ * Min-max scaling: where the mean of timeperiod values stands between the lowest and the highest
+ * of the last window means, from -1 to 1, from bar timeperiod+window-2 on; 0 where these are at
+ * most 1e-10 apart. Refusals 1, 3, 4, 5, 7.
  */
-tegbalowu_answer tegbalowu_rsx_ss2(const double *close, size_t close_len, size_t period, size_t smooth_period,
-                                   double *out, size_t out_len, double *work, size_t work_len);
-
-/*
- * Additive Holt-Winters smoothing: level plus trend plus seasonal part of each bar, from bar
- * season_length on; the cells before copy the series. The level starts as the mean of the first
- * season_length values and the trend as 0; alpha, beta and gamma, of any finite size, weigh a new
- * value in level, trend and seasonal part. A season longer than the series is answered with
- * count 0. Refusals 1, 3, 4, 5, 6, 7.
- */
-tegbalowu_answer tegbalowu_holt_winters(const double *series, size_t series_len, size_t season_length, double alpha,
-                                        double beta, double gamma, double *out, size_t out_len, double *work,
-                                        size_t work_len);
-
-/*
- * A volatility: the sizes of the changes averaged exponentially twice with factor
- * 2 / (period / 2 + 1), a step beyond each average by half its last change, times power, and that
- * averaged with factor 2 / (period / 3 + 1) from the first value that is not 0 on; 0 at bars 0
- * and 1. Both divisions are of whole numbers, so that a factor can be 2 and the cells can grow. An
- * average is left out where all the values that it takes are equal, to the end of the series: a
- * cell may depend on later bars. Any finite power is taken; with a large one cells may be infinite
- * or NaN. Refusals 1, 3, 4, 5, 6, 7.
- */
-tegbalowu_answer tegbalowu_jurik_volty(const double *close, size_t close_len, size_t period, double power,
-                                       double *out, size_t out_len, double *work, size_t work_len);
-
-/*
- * Ehlers' ultimate channel. middle is the ultimate smoother of the close with period, from 0 to
- * 512; upper and lower are multiplier widths above and below it. A width is Wilder's average of
- * true range from bar period-1 on, NaN earlier, smoothed with period / 2. So with period 4 only
- * bar 3 of the outer lines is a number, and from period 5 on they are NaN at every bar; with
- * period 1 they are NaN from bar 4 on. Refusals 1 to 8.
- */
-tegbalowu_answer tegbalowu_ultimate_channel(const double *high, size_t high_len, const double *low, size_t low_len,
-                                            const double *close, size_t close_len, size_t period, double multiplier,
-                                            double *middle, size_t middle_len, double *upper, size_t upper_len,
-                                            double *lower, size_t lower_len, double *work, size_t work_len);
-
-/*
- * Larry Williams' ultimate oscillator: 100 (4a + 2b + c) / 7, where a, b and c are the sums of buying
- * pressure over those of true range in the last short_period, med_period and long_period bars, and
- * 0 where the range's sum is 0. NaN until the longest window is whole, so at every bar where one
- * exceeds the series. Buying pressure is the close less the smaller of the low and the close
- * before, at bar 0 its own close; the range of bar 0 is high less low. The windows need not rise.
- * Refusals 1, 2, 3, 4, 5, 7.
- */
-tegbalowu_answer tegbalowu_ultimate_oscillator(const double *high, size_t high_len, const double *low, size_t low_len,
-                                               const double *close, size_t close_len, size_t short_period,
-                                               size_t med_period, size_t long_period, double *out, size_t out_len,
-                                               double *work, size_t work_len);
-
-/*
- * Bands about the ultimate smoother, after Ehlers' ultimate bands. middle is the smoother of the
- * close with period; upper and lower are std_multiplier widths above and below it. A width is the
- * deviation of the last period closes over period-1, NaN before bar period-1 and 0.0 for period 1,
- * smoothed with smooth_period. So with period 4 only bar 3 of the outer lines is a number, and from
- * period 5 on they are NaN at every bar. Both periods go from 0 to 512; one of 0, and a period
- * above the bars, is answered with count 0. Refusals 1, 3, 4, 5, 6, 7.
- */
-tegbalowu_answer tegbalowu_ultimate_bands(const double *close, size_t close_len, size_t period, double std_multiplier,
-                                          size_t smooth_period, double *middle, size_t middle_len, double *upper,
-                                          size_t upper_len, double *lower, size_t lower_len, double *work,
-                                          size_t work_len);
+tegbalowu_answer tegbalowu_mms_positions(const double *series, size_t series_len, size_t timeperiod, size_t window,
+                                         double *out, size_t out_len, double *work, size_t work_len);
 
 /*
  * Rank: the share of the n-1 means before the present one that lie below it, moved from 0..1 to
@@ -227,14 +235,6 @@ tegbalowu_answer tegbalowu_ultimate_bands(const double *close, size_t close_len,
  */
 tegbalowu_answer tegbalowu_rank_positions(const double *series, size_t series_len, size_t n, double *out,
                                           size_t out_len, double *work, size_t work_len);
-
-/*
- * Rolling rank: the place, from 1, in the sorted window of the first value less than 1e-8 away
- * from the present one, from bar window-1 on. A window of 0 is no empty answer here: it gives 0 at
- * every bar. Refusals 1, 3, 4, 5, 7.
- */
-tegbalowu_answer tegbalowu_rolling_rank(const double *series, size_t series_len, size_t window, uint64_t *out,
-                                        size_t out_len, double *work, size_t work_len);
 
 /*
  * Bollinger's bands of the means of n prices, from bar 2n-2 on: +1 where the mean is above the
