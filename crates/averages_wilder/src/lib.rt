@@ -2,14 +2,14 @@
 use calls::Answer;
 use changes::Averages;
 ghost use mathlib.Core.Path.{_≡_};
-ghost use Prim.Native.Nat.{_-_, _*_, _<_, _≤_};
+ghost use Prim.Native.Nat.{_-_, _<_, _≤_};
 ghost use lib.ListN.{length};
 ghost use Rattle.limits.specs.Limits.{Window};
 ghost use Rattle.cells.specs.Line.{line};
 ghost use Rattle.cells.specs.Written.{Writing};
 ghost use Rattle.averages_wilder.specs.Wilder.{wilderStep, wilder};
-ghost use Rattle.averages_wilder.specs.WilderRsi.{wilderCell, wilderRsiLine, WilderRsiCall};
-ghost use Rattle.averages_wilder.specs.inner.Averaged.{Averaged};
+ghost use Rattle.averages_wilder.specs.WilderRsi.{wilderCell, WilderRsiCall};
+ghost use Rattle.averages_wilder.specs.inner.Averaged.{Averaged, Room, Indexed};
 
 // Wilder's next average: n - 1 parts of the last one and one part of x.
 pub fn step(last: f64, n: usize, x: f64) -> f64
@@ -106,32 +106,38 @@ fn next(series: &[f64], n: usize, i: usize, last: Averages) -> Averages
     }
 }
 
-// Writes the cells from bar n on, where those before it stand.
-fn write_from_seed(series: &[f64], n: usize, out: &mut [f64])
-    requires { ⌜ Window n × (n < length (now series)) × (length (now series) ≤ length (now out)) ⌝ }
-    requires { ⌜ Writing n (wilderRsiLine n (line (now series))) (now out) (now out) ⌝ }
-    ensures { λ _. ⌜ Writing (length (now (series .entry))) (wilderRsiLine n (line (now (series .entry))))
-        (now (out .entry)) (now (out .exit)) ⌝ }
+// Writes the cells from bar n on, where those before it stand, and clears each bar's work cells while an average waits
+// for the one before it.
+fn write_from_seed(series: &[f64], n: usize, out: &mut [f64], work: &mut [f64])
+    requires { ⌜ Room n (length (now series)) (length (now out)) (length (now work)) × (n < length (now series)) ⌝ }
+    requires { ⌜ Indexed n (now series) n (now out) (now out) (now work) (now work) ⌝ }
+    ensures { λ _. ⌜ Indexed n (now (series .entry)) (length (now (series .entry))) (now (out .entry))
+        (now (out .exit)) (now (work .entry)) (now (work .exit)) ⌝ }
 {
+    let bars = series.len();
     let mut averages = seed(series, n);
     let mut i = n;
-    while i + 1 < series.len() {
+    while i + 1 < bars {
         out[i] = cell(averages);
+        work_rows::put(work, bars, i, 0.0);
         i += 1;
         averages = next(series, n, i, averages);
     }
     out[i] = cell(averages);
+    work_rows::put(work, bars, i, 0.0);
 }
 
-// Writes the index of every bar, NaN before bar n.
-fn write_wilder_rsi(series: &[f64], n: usize, out: &mut [f64])
-    requires { ⌜ Window n × (length (now series) ≤ length (now out)) ⌝ }
-    ensures { λ _. ⌜ Writing (length (now (series .entry))) (wilderRsiLine n (line (now (series .entry))))
-        (now (out .entry)) (now (out .exit)) ⌝ }
+// Writes the index of every bar, NaN before bar n, and clears the work slice.
+fn write_wilder_rsi(series: &[f64], n: usize, out: &mut [f64], work: &mut [f64])
+    requires { ⌜ Room n (length (now series)) (length (now out)) (length (now work)) ⌝ }
+    ensures { λ _. ⌜ Indexed n (now (series .entry)) (length (now (series .entry))) (now (out .entry))
+        (now (out .exit)) (now (work .entry)) (now (work .exit)) ⌝ }
 {
-    let first = averages::fill_nan(out, n, series.len());
-    if first < series.len() {
-        write_from_seed(series, n, out);
+    let bars = series.len();
+    let first = averages::fill_nan(out, n, bars);
+    work_rows::clear_bars(work, bars, first);
+    if first < bars {
+        write_from_seed(series, n, out, work);
     }
 }
 
@@ -142,8 +148,7 @@ pub fn wilder_rsi(series: &[f64], n: usize, out: &mut [f64], work: &mut [f64]) -
 {
     let due = checks::answer_window_with_work(series, n, out.len(), work.len());
     if checks::cells_due(due, series.len(), work) {
-        write_wilder_rsi(series, n, out);
-        cells::clear(work, 8 * series.len());
+        write_wilder_rsi(series, n, out, work);
     }
     due
 }

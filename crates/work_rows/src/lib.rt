@@ -5,7 +5,7 @@ ghost use Prim.Native.Nat.{_*_, _<_, _≤_};
 ghost use lib.ListN.{length};
 ghost use Rattle.cells.specs.Line.{plusZero};
 ghost use Rattle.cells.specs.Written.{Writing};
-ghost use Rattle.work_rows.specs.inner.Scratch.{putAt};
+ghost use Rattle.work_rows.specs.inner.Scratch.{putAt, Scratch};
 
 // Writes x to the last row's cell of bar i, and +0.0 to the bar's seven cells before that row.
 pub fn put(work: &mut [f64], bars: usize, i: usize, x: f64)
@@ -21,6 +21,16 @@ pub fn put(work: &mut [f64], bars: usize, i: usize, x: f64)
     work[at + 4] = 0.0;
     work[at + 5] = 0.0;
     work[at + 6] = 0.0;
+}
+
+// Clears the cells of the first k bars.
+pub fn clear_bars(work: &mut [f64], bars: usize, k: usize)
+    requires { ⌜ (k ≤ bars) × (8 * bars ≤ length (now work)) ⌝ }
+    ensures { λ _. ⌜ Scratch bars k (λ i. plusZero) (now (work .entry)) (now (work .exit)) ⌝ }
+{
+    let last = 7 * bars;
+    cells::clear(work, 7 * k);
+    cells::clear(&mut work[last..], k);
 }
 
 // Clears the last row, where the others are cleared.
