@@ -121,5 +121,5 @@ module _ {n : ℕ} {s now : List Float} (r : TickRows n s now) (floats : (i : �
   pub by-total : tie (mul binary64 (line s i) (ofInt binary64 (pos (n * n)))) (line now (length s + i)) ≡ false
       → singleLine n (line s) i ≡ cond (lt (mul binary64 (line s i) (ofInt binary64 (pos (n * n))))
       (line now (length s + i))) minusOne plusOne
-  by-total e = rw total-cell (no-tie (tick-line s (λ j l. floats j) (r .ticks)) n (r .some) (r .narrow) i p h
+  by-total e = rw total-cell (no-tie (tick-line s (λ j l. floats j) (r .ticks)) n (r .window .some) (r .narrow) i p h
       (rw (← total-cell) e))

@@ -4,27 +4,18 @@ use mathlib.Core.Bool.{cond, _&&_}
 use mathlib.Core.List.{List, [], _∷_}
 use Prim.Native.Nat.{ℕ, _+_, _-_}
 use lib.Dec.{leb, ltb}
-use lib.IntN.{ℤ, pos, negsuc}
+use lib.IntN.{ℤ}
 use lib.ListN.{length}
 use lib.Ieee.{Float, lt}
 use Rattle.calls.specs.declared.Refusal.the-variants.{SeriesTooShort, WindowsOutOfOrder}
 use Rattle.calls.specs.declared.Answer.{Answer}
 use Rattle.calls.specs.declared.Answer.the-variants.{Cells}
 use Rattle.calls.specs.Answer.{checked, andThen, unless, windowed}
+use Rattle.rules_held.specs.Held.{flat, long, short}
 use Rattle.calls.specs.Call.{WorkCall}
 use Rattle.values.specs.Accepted.{accepted}
 use Rattle.cells.specs.Line.{Line, line, fromBar}
 use Rattle.windows.specs.Window.{mean}
-
--- the positions, as whole numbers
-abbrev pub flat : ℤ
-flat = pos 0
-
-abbrev pub long : ℤ
-long = pos 1
-
-abbrev pub short : ℤ
-short = negsuc 0
 
 -- long if the mean is above ma3 and ma1 above ma2, short if both are below, else flat
 abbrev pub trendOf : Float → Float → Float → Float → ℤ

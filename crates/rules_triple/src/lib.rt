@@ -6,10 +6,9 @@ ghost use Prim.Native.Nat.{_*_, _≤_};
 ghost use lib.ListN.{length};
 ghost use Rattle.cells.specs.Line.{line};
 ghost use Rattle.cells.specs.Written.{Writing};
-ghost use Rattle.cells.specs.inner.Leads.{Led};
 ghost use Rattle.cells.specs.inner.Touched.{Touched};
 ghost use Rattle.checks.specs.inner.Due.{Priced};
-ghost use Rattle.rules_triple.specs.Triple.{flat, trendOf, tripleLine, tripleAnswer};
+ghost use Rattle.rules_triple.specs.Triple.{trendOf, tripleLine, tripleAnswer};
 ghost use Rattle.rules_triple.specs.inner.Stages.{Rising, Averages};
 
 // 1 if the mean is above ma3 and ma1 above ma2, -1 if both are below, else 0.
@@ -41,20 +40,6 @@ fn write_averages(series: &[f64], m1: usize, m2: usize, m3: usize, work: &mut [f
     window_means::write_means_of_row(work, 0, 3 * bars, bars, m3, first);
 }
 
-// Writes 0 to the bars before bar b, and gives the bar after them: b, or the end where the bars end before it.
-fn write_flat(out: &mut [i32], b: usize, bars: usize) -> usize
-    requires { ⌜ bars ≤ length (now out) ⌝ }
-    ensures { λ r. ⌜ Led b bars flat r (now (out .entry)) (now (out .exit)) ⌝ }
-{
-    let first = cells::smaller(b, bars);
-    let mut i = 0;
-    while i < first {
-        out[i] = 0;
-        i += 1;
-    }
-    first
-}
-
 // Writes each bar's position from the four rows.
 fn write_trends(series: &[f64], m1: usize, m2: usize, m3: usize, out: &mut [i32], work: &[f64])
     requires { ⌜ Rising m1 m2 m3 × (length (now series) ≤ length (now out)) ⌝ }
@@ -63,7 +48,7 @@ fn write_trends(series: &[f64], m1: usize, m2: usize, m3: usize, out: &mut [i32]
         (now (out .entry)) (now (out .exit)) ⌝ }
 {
     let bars = series.len();
-    let mut i = write_flat(out, m1 + m3 - 2, bars);
+    let mut i = rules_held::fill_flat(out, m1 + m3 - 2, bars);
     while i < bars {
         out[i] = trend(
             work[i],

@@ -35,7 +35,7 @@ write-tick-positions-requires c κs =
     (totals .write-sums2 .ensures) in
     let rows = lent-on (means .write-means-of-ticks .ensures) second (omega arith) in (
       record {
-        some = pre .0 .window .some;
+        window = pre .0 .window;
         narrow = pre .1 .0;
         ticks = pre .1 .1;
         room = omega (arith, rows .long);

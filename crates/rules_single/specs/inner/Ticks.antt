@@ -2,9 +2,10 @@
 use mathlib.Core.Path.{_≡_}
 use mathlib.Core.Bool.{Bool, true, _||_}
 use mathlib.Core.List.{List}
-use Prim.Native.Nat.{ℕ, _+_, _*_, _<_, _≤_}
+use Prim.Native.Nat.{ℕ, _+_, _*_, _≤_}
 use lib.ListN.{length}
 use lib.Ieee.{Float, eq}
+use Rattle.limits.specs.Limits.{Window}
 use Rattle.values.specs.Accepted.{tick, all}
 use Rattle.cells.specs.Line.{line, plusZero}
 use Rattle.cells.specs.inner.Rows.{beside}
@@ -25,9 +26,9 @@ abbrev pub Totals : ℕ → List Float → List Float → List Float → Type 0
 Totals n s old now = Writing (length s + length s) (beside (length s) (mean n (line s)) (runs n (runs n (line s))))
     old now
 
--- whole ticks and a window, and those rows in `now`
+-- whole ticks, a window for which the sums decide, and those rows in `now`
 pub record TickRows (n : ℕ) (s now : List Float) : Type 0 where
-  pub some : 0 < n
+  pub window : Window n
   pub narrow : n ≤ 1022
   pub ticks : all tick s ≡ true
   pub room : 2 * length s ≤ length now
