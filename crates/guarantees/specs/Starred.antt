@@ -32,6 +32,7 @@ use Rattle.ranks.specs.Counted.{countFrom}
 use Rattle.rounding.specs.Literals.{tenToMinus}
 use Rattle.rounding_root.specs.Root.{nearestRoot, root, rootBelow, sqrtOf}
 use Rattle.rules_held.specs.Held.{hold, moved}
+use Rattle.holt_winters.specs.HoltWinters.{weights, fitLine, fitsAfter, withNext, nextFit, holtWintersLine, holtWintersAnswer}
 
 -- a cell of an output: an f64 or a whole number
 pub data Cell : Type 0 where
@@ -43,6 +44,7 @@ pub data Function : Type 0 where
   sma ema tickMean oneAverage rank rollingRank : ℕ → Function
   double mms : ℕ → ℕ → Function
   bollReverse : ℕ → Float → Function
+  holtWinters : ℕ → Float → Float → Float → Function
 
 pub record Case : Type 0 where
   pub function : Function
@@ -79,6 +81,7 @@ table =
     ∷ star (mms 1 2) (1 ∷ 3 ∷ 2 ∷ []) (float 0 ∷ float 1 ∷ number minusOne ∷ [])
     ∷ star (bollReverse 2 oneHalf) (4 ∷ 4 ∷ 8 ∷ []) (ticks (pos 0) ∷ ticks (pos 0) ∷ ticks (negsuc 0) ∷ [])
     ∷ star (ema 3) (2 ∷ 4 ∷ 6 ∷ 10 ∷ []) (number nan ∷ number nan ∷ float 4 ∷ float 7 ∷ [])
+    ∷ star (holtWinters 1 oneHalf (num 0) (num 0)) (4 ∷ 6 ∷ []) (float 4 ∷ float 5 ∷ [])
     ∷ star (tickMean 2) (2 ∷ 3 ∷ []) (ticks (pos 0) ∷ ticks (pos 3) ∷ [])
     ∷ []
 
@@ -93,6 +96,7 @@ answerOf (rank n) s = answered accepted s (n ∷ []) (length s) (8 * length s �
 answerOf (rollingRank w) s = rollingRankAnswer s w (length s) (8 * length s)
 answerOf (mms n w) s = mmsAnswer s n w (length s) (8 * length s)
 answerOf (bollReverse n k) s = bandAnswer s n k (length s) (8 * length s)
+answerOf (holtWinters m a b c) s = holtWintersAnswer s m (weights a b c) (length s) (8 * length s)
 
 abbrev pub cellsOf : Function → List Float → ℕ → List Cell
 cellsOf (sma n) s k = map number (firstCells k (smaLine n (line s)))
@@ -104,6 +108,7 @@ cellsOf (rank n) s k = map number (firstCells k (rankLine n (line s)))
 cellsOf (rollingRank w) s k = map (λ c. ticks (pos c)) (firstCells k (rollingRankLine w (line s)))
 cellsOf (mms n w) s k = map number (firstCells k (mmsLine n w (line s)))
 cellsOf (bollReverse n x) s k = map ticks (firstCells k (bollReverseLine n x (line s)))
+cellsOf (holtWinters m a b c) s k = map number (firstCells k (holtWintersLine m (weights a b c) (line s)))
 
 abbrev pub found : Case → Case
 found c =
@@ -116,5 +121,6 @@ unfolding smaLine carried total toTick tickMeanLine singleLine runningMean doubl
     sumFrom runningSum recur fromBar slices checked windowed answered accepted tick signOf add sub mul div ofInt
     toSigned whole lt eq le toBits rankLine wholeRank belowNow countFrom roundToWhole round rollingRankLine
     rollingRankAnswer tenToMinus magnitudeOf neg mmsLine extreme pickFrom turnedBands bandSignals bandAnswer hold moved
-    deviation sqrtOf nearestRoot root rootBelow finite
+    deviation sqrtOf nearestRoot root rootBelow finite holtWintersLine holtWintersAnswer fitLine fitsAfter withNext
+    nextFit
 starred = refl
