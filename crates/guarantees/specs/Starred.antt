@@ -32,7 +32,8 @@ use Rattle.ranks.specs.Counted.{countFrom}
 use Rattle.rounding.specs.Literals.{tenToMinus}
 use Rattle.rounding_root.specs.Root.{nearestRoot, root, rootBelow, sqrtOf}
 use Rattle.rules_held.specs.Held.{hold, moved}
-use Rattle.holt_winters.specs.HoltWinters.{weights, fitLine, fitsAfter, withNext, nextFit, holtWintersLine, holtWintersAnswer}
+use Rattle.holt_winters.specs.HoltWinters.{weights, fitLine, fitsAfter, withNext, nextFit}
+use Rattle.holt_winters.specs.HoltWinters.{holtWintersLine, holtWintersAnswer}
 
 -- a cell of an output: an f64 or a whole number
 pub data Cell : Type 0 where
