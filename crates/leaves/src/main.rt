@@ -89,9 +89,9 @@ fn main() {
     let mut block = [0u8; 17408];
     let mut words = [0u64; 6];
     let tally = compare_all(&mut block, &mut words);
-    replay_words::print_line(b"is_nan ", tally.compared, tally.is_nan);
-    replay_words::print_line(b"magnitude ", tally.compared, tally.magnitude);
-    replay_words::print_line(b"sign ", tally.compared, tally.sign);
-    replay_words::print_line(b"round_to_whole ", tally.compared, tally.whole);
-    replay_words::print_line(b"square_root ", tally.compared, tally.root);
+    replay_lines::print_line(b"is_nan ", tally.compared, tally.is_nan);
+    replay_lines::print_line(b"magnitude ", tally.compared, tally.magnitude);
+    replay_lines::print_line(b"sign ", tally.compared, tally.sign);
+    replay_lines::print_line(b"round_to_whole ", tally.compared, tally.whole);
+    replay_lines::print_line(b"square_root ", tally.compared, tally.root);
 }

@@ -14,7 +14,7 @@ use Rattle.cells.specs.Written.{Writing}
 use Rattle.cells.proofs.Written.{read-back}
 use Rattle.replay_compare.specs.Head.{firstOf, secondOf, thirdOf, workOf, barsOf}
 use Rattle.replay_compare.specs.Left.{floats, untouched}
-use Rattle.replay_calls.specs.Compared.{Compared}
+use Rattle.replay_calls.specs.Called.{Called}
 use Rattle.replay.specs.Records.{WrittenOut}
 use Rattle.replay.specs.inner.Reading.{InParts}
 
@@ -48,7 +48,7 @@ module _ {n : ℕ} {f : Line} {old now : List Float} (w : Writing n f old now) (
   pub cut : {h : List ℕ} (second third : ℕ) {recorded : List ℕ} {same : Bool} → firstOf h ≤ n
       → second + secondOf h ≤ n → third + thirdOf h ≤ n
       → InParts h now second third recorded same
-      → Compared h (firstCells (firstOf h) g) (firstCells (secondOf h) (λ i. g (second + i)))
+      → Called h (firstCells (firstOf h) g) (firstCells (secondOf h) (λ i. g (second + i)))
       (firstCells (thirdOf h) (λ i. g (third + i)))
       (replicate (workOf h) untouched) recorded same
   cut {h} second third a b c p =
@@ -56,7 +56,7 @@ module _ {n : ℕ} {f : Line} {old now : List Float} (w : Writing n f old now) (
 
 -- the parts as the code cuts them
 pub in-parts : (h : List ℕ) (series : List Float) (second third : ℕ) {recorded : List ℕ} {same : Bool}
-    → Compared h (take (firstOf h) series) (take (second + secondOf h - second) (drop second series))
+    → Called h (take (firstOf h) series) (take (second + secondOf h - second) (drop second series))
     (take (third + thirdOf h - third) (drop third series)) (replicate (workOf h) untouched) recorded same
     → InParts h series second third recorded same
 in-parts h series second third c =

@@ -14,12 +14,12 @@ use Rattle.replay_words.specs.inner.Blocks.{Taken}
 use Rattle.replay_compare.specs.Head.{formOf, firstOf, secondOf, thirdOf, workOf, barsOf, cellsOf}
 use Rattle.replay_compare.specs.Left.{floats, untouched}
 use Rattle.replay_compare.specs.Rule.{ruled}
-use Rattle.replay_calls.specs.Compared.{Compared}
+use Rattle.replay_calls.specs.Called.{Called}
 
 -- the series are the first cells of these lines, and every work cell is as before a call
 abbrev pub CallOf : List ℕ → Line → Line → Line → List ℕ → Bool → Type 0
 CallOf h f g k recorded same =
-    Compared h (firstCells (firstOf h) f) (firstCells (secondOf h) g) (firstCells (thirdOf h) k)
+    Called h (firstCells (firstOf h) f) (firstCells (secondOf h) g) (firstCells (thirdOf h) k)
     (replicate (workOf h) untouched) recorded same
 
 -- written out, the series stand one after the other, and then the cells

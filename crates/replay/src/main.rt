@@ -219,36 +219,36 @@ fn print_totals(records: u64, differ: u64, left: u64) {
 
 // The lines of the functions, in the order of their numbers.
 fn print_first(calls: &[u64; 25], differ: &[u64; 25]) {
-    replay_words::print_line(b"sma ", calls[1], differ[1]);
-    replay_words::print_line(b"ema ", calls[2], differ[2]);
-    replay_words::print_line(b"exponential_smoothing ", calls[3], differ[3]);
-    replay_words::print_line(b"tick_mean ", calls[4], differ[4]);
-    replay_words::print_line(b"single_sma_positions ", calls[5], differ[5]);
-    replay_words::print_line(b"double_sma_positions ", calls[6], differ[6]);
-    replay_words::print_line(b"mid_positions ", calls[7], differ[7]);
-    replay_words::print_line(b"ultimate_smoother ", calls[8], differ[8]);
+    replay_lines::print_line(b"sma ", calls[1], differ[1]);
+    replay_lines::print_line(b"ema ", calls[2], differ[2]);
+    replay_lines::print_line(b"exponential_smoothing ", calls[3], differ[3]);
+    replay_lines::print_line(b"double_sma_positions ", calls[4], differ[4]);
+    replay_lines::print_line(b"ultimate_smoother ", calls[5], differ[5]);
+    replay_lines::print_line(b"true_range ", calls[6], differ[6]);
+    replay_lines::print_line(b"single_sma_positions ", calls[7], differ[7]);
+    replay_lines::print_line(b"single_ema_positions ", calls[8], differ[8]);
 }
 
 fn print_second(calls: &[u64; 25], differ: &[u64; 25]) {
-    replay_words::print_line(b"true_range ", calls[9], differ[9]);
-    replay_words::print_line(b"single_ema_positions ", calls[10], differ[10]);
-    replay_words::print_line(b"triple_sma_positions ", calls[11], differ[11]);
-    replay_words::print_line(b"mms_positions ", calls[12], differ[12]);
-    replay_words::print_line(b"rank_positions ", calls[13], differ[13]);
-    replay_words::print_line(b"rolling_rank ", calls[14], differ[14]);
-    replay_words::print_line(b"boll_positions ", calls[15], differ[15]);
-    replay_words::print_line(b"boll_reverse_positions ", calls[16], differ[16]);
+    replay_lines::print_line(b"mid_positions ", calls[9], differ[9]);
+    replay_lines::print_line(b"mms_positions ", calls[10], differ[10]);
+    replay_lines::print_line(b"rank_positions ", calls[11], differ[11]);
+    replay_lines::print_line(b"wilder_rsi ", calls[12], differ[12]);
+    replay_lines::print_line(b"rsx_ss2 ", calls[13], differ[13]);
+    replay_lines::print_line(b"jurik_volty ", calls[14], differ[14]);
+    replay_lines::print_line(b"ultimate_oscillator ", calls[15], differ[15]);
+    replay_lines::print_line(b"holt_winters ", calls[16], differ[16]);
 }
 
 fn print_third(calls: &[u64; 25], differ: &[u64; 25]) {
-    replay_words::print_line(b"rsi_reverse_positions ", calls[17], differ[17]);
-    replay_words::print_line(b"ultimate_bands ", calls[18], differ[18]);
-    replay_words::print_line(b"wilder_rsi ", calls[19], differ[19]);
-    replay_words::print_line(b"rsx_ss2 ", calls[20], differ[20]);
-    replay_words::print_line(b"jurik_volty ", calls[21], differ[21]);
-    replay_words::print_line(b"ultimate_channel ", calls[22], differ[22]);
-    replay_words::print_line(b"ultimate_oscillator ", calls[23], differ[23]);
-    replay_words::print_line(b"holt_winters ", calls[24], differ[24]);
+    replay_lines::print_line(b"triple_sma_positions ", calls[17], differ[17]);
+    replay_lines::print_line(b"boll_positions ", calls[18], differ[18]);
+    replay_lines::print_line(b"boll_reverse_positions ", calls[19], differ[19]);
+    replay_lines::print_line(b"rsi_reverse_positions ", calls[20], differ[20]);
+    replay_lines::print_line(b"rolling_rank ", calls[21], differ[21]);
+    replay_lines::print_line(b"tick_mean ", calls[22], differ[22]);
+    replay_lines::print_line(b"ultimate_bands ", calls[23], differ[23]);
+    replay_lines::print_line(b"ultimate_channel ", calls[24], differ[24]);
 }
 
 fn main() {

@@ -1,4 +1,2 @@
--- What a recorded call calls, and what it comes to.
+-- What comparing the call of a record comes to.
 pub mod Called
-pub mod Compared
-pub mod inner

@@ -50,8 +50,9 @@ barsOf h = firstOf h + secondOf h + thirdOf h
 abbrev pub cellsOf : List ℕ → ℕ
 cellsOf h = outOf h + upperOf h + lowerOf h
 
--- no output and no work slice is longer than the longest
+-- the function has a number of the table, and no output and no work slice is longer than the longest
 pub record Rooms (h : List ℕ) : Type 0 where
+  pub function : (0 < functionOf h) × (functionOf h < 25)
   pub out : outOf h ≤ 65537
   pub upper : upperOf h ≤ 65537
   pub lower : lowerOf h ≤ 65537

@@ -36,10 +36,14 @@ floats words i = ofBits binary64 (getD words i 0)
 abbrev pub Same : {A : Type 0} → ℕ → (ℕ → A) → (ℕ → A) → Type 0
 Same n f g = (i : ℕ) → i < n → f i ≡ g i
 
--- A call that answered r, and left outputs whose cells have the words `told`, and this work slice, left what was
--- recorded: the refusal and the count, every cell, and every work cell.
-pub record Left (h recorded : List ℕ) (r : Answer) (told : List ℕ) (work : List Float) : Type 0 where
+-- the refusal and the count are those that were recorded, and so is every work cell
+pub record Ended (h : List ℕ) (r : Answer) (work : List Float) : Type 0 where
   pub refusal : answers.refusalOf r ≡ refusalOf h
   pub count : answers.countOf r ≡ countOf h
-  pub cells : Told (formOf h) told recorded
   pub cleared : Same (length work) (line work) (worked (clearedOf h))
+
+-- A call that answered r, and left outputs whose cells have the words `told`, and this work slice, left what was
+-- recorded.
+pub record Left (h recorded : List ℕ) (r : Answer) (told : List ℕ) (work : List Float) : Type 0 where
+  pub ended : Ended h r work
+  pub cells : Told (formOf h) told recorded

@@ -1,4 +1,6 @@
 // What is recorded of a call, and whether a call left that.
+pub mod asked;
+
 use calls::Answer;
 ghost use mathlib.Core.Path.{_≡_};
 ghost use mathlib.Core.Bool.{cond};
@@ -12,7 +14,7 @@ ghost use Rattle.cells.specs.Written.{Writing};
 ghost use Rattle.replay_words.specs.Decides.{Decides};
 ghost use Rattle.replay_words.specs.FloatWords.{floatWord};
 ghost use Rattle.replay_compare.specs.Head.{Within, refusalOf, countOf};
-ghost use Rattle.replay_compare.specs.Left.{Told, Same, workWord, worked, floats};
+ghost use Rattle.replay_compare.specs.Left.{Told, Same, Ended, workWord, worked, floats};
 ghost use Rattle.replay_compare.specs.Rule.{ruled, digestStep};
 ghost use Rattle.replay_compare.specs.Wholes.{wholeWord};
 ghost use Rattle.replay_compare.specs.inner.CellByCell.{Sees, Shown};
@@ -52,7 +54,7 @@ pub fn is_within(head: &[u64; 18], bars: u64, cells: u64, room: u64) -> bool
 }
 
 // Whether a call answered what was recorded.
-pub fn same_answer(head: &[u64; 18], answer: Answer) -> bool
+fn same_answer(head: &[u64; 18], answer: Answer) -> bool
     ensures { λ r. ⌜ Decides ((answers.refusalOf answer ≡ refusalOf (now (head .entry)))
         × (answers.countOf answer ≡ countOf (now (head .entry)))) r ⌝ }
 {
@@ -259,7 +261,7 @@ fn work_word(cleared: u64, i: usize) -> u64
 }
 
 // Whether the first cells of a work slice hold +0.0 and the others what they held before.
-pub fn same_work(work: &[f64], cleared: u64) -> bool
+fn same_work(work: &[f64], cleared: u64) -> bool
     ensures { λ r. ⌜ Decides (Same (length (now (work .entry))) (line (now (work .entry))) (worked cleared)) r ⌝ }
 {
     let mut i = 0;
@@ -271,6 +273,13 @@ pub fn same_work(work: &[f64], cleared: u64) -> bool
         }
     }
     true
+}
+
+// Whether a call answered what was recorded, and left such a work slice.
+pub fn same_end(head: &[u64; 18], answer: Answer, work: &[f64]) -> bool
+    ensures { λ r. ⌜ Decides (Ended (now (head .entry)) answer (now (work .entry))) r ⌝ }
+{
+    same_answer(head, answer) & same_work(work, head[17])
 }
 
 // Writes the numbers that the words stand for.

@@ -1,4 +1,4 @@
-// Reads recorded words: 16 hexadecimal digits each, with a blank or a line feed after them. Prints what was compared.
+// Reads recorded words: 16 hexadecimal digits each, with a blank or a line feed after them.
 pub mod floats;
 pub mod stream;
 
@@ -94,15 +94,4 @@ pub fn words_in(text: &[u8], cells: &mut [u64]) -> usize
         count += 1;
     }
     count
-}
-
-// Prints how many calls of a function were compared and how many of them differ; nothing where there was none.
-pub fn print_line(name: &[u8], calls: u64, differ: u64) {
-    if calls > 0 {
-        io::write_all(1, name);
-        io::print_decimal(1, calls);
-        io::write_all(1, b" calls, ");
-        io::print_decimal(1, differ);
-        io::write_all(1, b" differ\n");
-    }
 }

@@ -82,6 +82,10 @@ impl Function {
 /// A function of the library, by its Rust bindings, called on the memory lent for its outputs and its work slice.
 pub type Exported = fn(&Call, &mut [Lent], &mut Lent) -> Answer;
 
+pub fn all() -> impl Iterator<Item = &'static Function> {
+    FUNCTIONS.iter()
+}
+
 pub fn exported() -> impl Iterator<Item = &'static Function> {
     FUNCTIONS.iter().filter(|f| f.library.is_some())
 }
@@ -193,23 +197,10 @@ functions! {
         series: [series], parameters: [alpha: Weight], outputs: [out], cells: f64, work: [],
         source: pure::exponential_smoothing(series, alpha),
     }
-    tick_mean "tick_mean" {
-        series: [series], parameters: [n: Window], outputs: [out], cells: i64, work: [],
-        source: tick_mean::line(series, n),
-        domain: Domain::WholeTicks,
-    }
-    single_sma_positions "single_sma_positions" {
-        series: [series], parameters: [n: Window], outputs: [out], cells: f64, work: [work],
-        source: pure::single_sma_positions(series, n),
-    }
     double_sma_positions "double_sma_positions" {
         series: [series], parameters: [n: Window, m: Window], outputs: [out], cells: f64, work: [],
         source: pure::double_sma_positions(series, n, m),
         rising: true,
-    }
-    mid_positions "mid_positions" {
-        series: [series], parameters: [n: Window], outputs: [out], cells: f64, work: [work],
-        source: pure::mid_positions(series, n),
     }
     ultimate_smoother "ultimate_smoother" {
         series: [price], parameters: [period: Period], outputs: [out], cells: f64, work: [],
@@ -219,15 +210,17 @@ functions! {
         series: [high, low, close_prev], parameters: [], outputs: [out], cells: f64, work: [],
         source: pure::true_range(high, low, close_prev),
     }
+    single_sma_positions "single_sma_positions" {
+        series: [series], parameters: [n: Window], outputs: [out], cells: f64, work: [work],
+        source: pure::single_sma_positions(series, n),
+    }
     single_ema_positions "single_ema_positions" {
         series: [series], parameters: [n: Window], outputs: [out], cells: f64, work: [work],
         source: pure::single_ema_positions(series, n),
     }
-    triple_sma_positions "triple_sma_positions" {
-        series: [series], parameters: [m1: Window, m2: Window, m3: Window],
-        outputs: [out], cells: i32, work: [work],
-        source: pure::triple_sma_positions(series, m1, m2, m3),
-        rising: true,
+    mid_positions "mid_positions" {
+        series: [series], parameters: [n: Window], outputs: [out], cells: f64, work: [work],
+        source: pure::mid_positions(series, n),
     }
     mms_positions "mms_positions" {
         series: [series], parameters: [timeperiod: Window, window: Window], outputs: [out], cells: f64, work: [work],
@@ -236,29 +229,6 @@ functions! {
     rank_positions "rank_positions" {
         series: [series], parameters: [n: Window], outputs: [out], cells: f64, work: [work],
         source: pure::rank_positions(series, n),
-    }
-    rolling_rank "rolling_rank" {
-        series: [series], parameters: [window: Window], outputs: [out], cells: u64, work: [work],
-        source: pure::rolling_rank(series, window),
-    }
-    boll_positions "boll_positions" {
-        series: [series], parameters: [n: Window, k: Multiple], outputs: [out], cells: i32, work: [work],
-        source: pure::boll_positions(series, n, k),
-    }
-    boll_reverse_positions "boll_reverse_positions" {
-        series: [series], parameters: [n: Window, k: Multiple], outputs: [out], cells: i32, work: [work],
-        source: pure::boll_reverse_positions(series, n, k),
-    }
-    rsi_reverse_positions "rsi_reverse_positions" {
-        series: [series], parameters: [n: Window, rsi_upper: Level, rsi_lower: Level, rsi_exit: Level],
-        outputs: [out], cells: i32, work: [work],
-        source: pure::rsi_reverse_positions(series, n, rsi_upper, rsi_lower, rsi_exit),
-    }
-    ultimate_bands "ultimate_bands" {
-        series: [close], parameters: [period: WholePeriod, std_multiplier: Multiple, smooth_period: WholePeriod],
-        outputs: [middle, upper, lower], cells: f64, work: [work],
-        source: restated::ultimate_bands(close, period, std_multiplier, smooth_period);
-        timed: pure::ultimate_bands(close, period, std_multiplier, smooth_period),
     }
     wilder_rsi "wilder_rsi" {
         series: [series], parameters: [n: Window], outputs: [out], cells: f64, work: [work],
@@ -274,12 +244,6 @@ functions! {
         series: [close], parameters: [period: Window, power: Multiple], outputs: [out], cells: f64, work: [work],
         source: pure::jurik_volty(close, period, power),
     }
-    ultimate_channel "ultimate_channel" {
-        series: [high, low, close], parameters: [period: WholePeriod, multiplier: Multiple],
-        outputs: [middle, upper, lower], cells: f64, work: [work],
-        source: restated::ultimate_channel(high, low, close, period, multiplier);
-        timed: pure::ultimate_channel(high, low, close, period, multiplier),
-    }
     ultimate_oscillator "ultimate_oscillator" {
         series: [high, low, close], parameters: [short_period: Window, med_period: Window, long_period: Window],
         outputs: [out], cells: f64, work: [work],
@@ -289,5 +253,45 @@ functions! {
         series: [series], parameters: [season_length: Window, alpha: Weight, beta: Weight, gamma: Weight],
         outputs: [out], cells: f64, work: [work],
         source: pure::holt_winters(series, season_length, alpha, beta, gamma),
+    }
+    triple_sma_positions "triple_sma_positions" {
+        series: [series], parameters: [m1: Window, m2: Window, m3: Window],
+        outputs: [out], cells: i32, work: [work],
+        source: pure::triple_sma_positions(series, m1, m2, m3),
+        rising: true,
+    }
+    boll_positions "boll_positions" {
+        series: [series], parameters: [n: Window, k: Multiple], outputs: [out], cells: i32, work: [work],
+        source: pure::boll_positions(series, n, k),
+    }
+    boll_reverse_positions "boll_reverse_positions" {
+        series: [series], parameters: [n: Window, k: Multiple], outputs: [out], cells: i32, work: [work],
+        source: pure::boll_reverse_positions(series, n, k),
+    }
+    rsi_reverse_positions "rsi_reverse_positions" {
+        series: [series], parameters: [n: Window, rsi_upper: Level, rsi_lower: Level, rsi_exit: Level],
+        outputs: [out], cells: i32, work: [work],
+        source: pure::rsi_reverse_positions(series, n, rsi_upper, rsi_lower, rsi_exit),
+    }
+    rolling_rank "rolling_rank" {
+        series: [series], parameters: [window: Window], outputs: [out], cells: u64, work: [work],
+        source: pure::rolling_rank(series, window),
+    }
+    tick_mean "tick_mean" {
+        series: [series], parameters: [n: Window], outputs: [out], cells: i64, work: [],
+        source: tick_mean::line(series, n),
+        domain: Domain::WholeTicks,
+    }
+    ultimate_bands "ultimate_bands" {
+        series: [close], parameters: [period: WholePeriod, std_multiplier: Multiple, smooth_period: WholePeriod],
+        outputs: [middle, upper, lower], cells: f64, work: [work],
+        source: restated::ultimate_bands(close, period, std_multiplier, smooth_period);
+        timed: pure::ultimate_bands(close, period, std_multiplier, smooth_period),
+    }
+    ultimate_channel "ultimate_channel" {
+        series: [high, low, close], parameters: [period: WholePeriod, multiplier: Multiple],
+        outputs: [middle, upper, lower], cells: f64, work: [work],
+        source: restated::ultimate_channel(high, low, close, period, multiplier);
+        timed: pure::ultimate_channel(high, low, close, period, multiplier),
     }
 }

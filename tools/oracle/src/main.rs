@@ -9,6 +9,7 @@ mod edges;
 mod exact;
 mod generate;
 mod library;
+mod published;
 mod record;
 mod restated;
 mod rng;

@@ -4,6 +4,7 @@ use crate::call::{Call, Kind, Value};
 use crate::catalogue::{self, Function, Role};
 use crate::edges::{edge_values, modest, with_windows};
 use crate::generate::{self, PERIOD_LIMIT, WINDOW_LIMIT, plain};
+use crate::published;
 use crate::rng::Rng;
 use crate::series::{DAMAGED, SERIES_LIMIT};
 use crate::source;
@@ -12,7 +13,7 @@ use crate::source;
 const LONGEST: usize = 60;
 const WORK_LIMIT: usize = 512;
 /// How many calls of a function are chosen for no edge.
-const RANDOM: usize = 12;
+const RANDOM: usize = 8;
 const SERIES: usize = 3;
 const PARAMETERS: usize = 6;
 const OUTPUTS: usize = 3;
@@ -26,13 +27,9 @@ enum Form {
     ByRule = 1,
 }
 
-/// The functions up to this number are recorded: those that the program `replay` runs.
-const REPLAYED: u64 = 9;
-
 /// Prints the number of records, then each record, a line for each of its parts.
 pub fn print() {
-    let replayed = catalogue::exported().filter(|function| catalogue::number(function) <= REPLAYED);
-    let records: Vec<Vec<Vec<u64>>> = replayed.flat_map(records).collect();
+    let records: Vec<Vec<Vec<u64>>> = catalogue::all().flat_map(records).collect();
     print_words(&[records.len() as u64]);
     records.iter().flatten().for_each(|part| print_words(part));
 }
@@ -45,10 +42,11 @@ fn print_words(words: &[u64]) {
     }
 }
 
-/// The starred cases and each edge, a few calls of any kind, and calls of long series by rule.
+/// The starred cases, a published table and each edge, a few calls of any kind, and calls of long series by rule.
 fn records(function: &'static Function) -> Vec<Vec<Vec<u64>>> {
     let mut rng = Rng::new(catalogue::number(function));
     let mut calls = starred(function);
+    calls.extend(published::call(function));
     calls.extend(short_edges(&mut rng, function));
     let random = std::iter::repeat_with(|| generate::random(&mut rng, function));
     calls.extend(random.filter(|call| call.series.iter().all(|s| s.len() <= LONGEST)).take(RANDOM));

@@ -21,7 +21,7 @@ use Rattle.replay_compare.specs.Head.{
   Rooms,
 }
 use Rattle.replay_compare.specs.Left.{untouched}
-use Rattle.replay_calls.specs.Compared.{Compared}
+use Rattle.replay_calls.specs.Called.{Called}
 use Rattle.replay.specs.Records.{Ran, Stood}
 
 -- all series lie in one slice of n cells, the second and the third from an index on
@@ -35,7 +35,7 @@ pub record Parts (h : List ℕ) (n second third : ℕ) : Type 0 where
 -- a call of these parts
 abbrev pub InParts : List ℕ → List Float → ℕ → ℕ → List ℕ → Bool → Type 0
 InParts h series second third recorded same =
-    Compared h (take (firstOf h) series) (take (secondOf h) (drop second series)) (take (thirdOf h) (drop third series))
+    Called h (take (firstOf h) series) (take (secondOf h) (drop second series)) (take (thirdOf h) (drop third series))
     (replicate (workOf h) untouched) recorded same
 
 -- a record whose form is known, with as many words as it has

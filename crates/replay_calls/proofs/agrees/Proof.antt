@@ -1,7 +1,8 @@
 -- `agrees` meets its contract: the work slice that it lends is as long as the record says. Assumes nothing.
 use mathlib.Core.Path.{sym}
 use borrow.Author.Needs.{needs}
-use Rattle.replay_calls.proofs.Comparing.{part-long, as-long}
+use Rattle.replay_compare.proofs.Comparing.{part-long}
+use Rattle.replay_calls.proofs.Work.{as-long}
 use Rattle.replay_calls.proofs.agrees.Statement.{statement}
 use Rattle.replay_calls.proofs.agrees.Tie as tie
 

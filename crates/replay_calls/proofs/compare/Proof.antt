@@ -1,5 +1,7 @@
 -- `compare` meets its contract: each kind of cells has its own function. Assumes nothing.
+use native.Mathlib.Omega.{arith}
 use borrow.Author.Needs.{needs}
+use Rattle.replay_calls.specs.Called.{floats, shorts, places, wholes, three}
 use Rattle.replay_calls.proofs.compare.Statement.{statement}
 use Rattle.replay_calls.proofs.compare.Tie as tie
 
@@ -8,18 +10,19 @@ compare-spec =
     tie.close
     (tie.spec
     (λ c. search needs)  -- element-copy-out-function
-    (λ c κs. search needs)  -- wholes-agree-requires
-    (λ c κs. search needs)  -- places-agree-requires
-    (λ c κs. search needs)  -- bands-agree-requires
     (λ c κs. search needs)  -- floats-agree-requires
     (λ c κs. search needs)  -- shorts-agree-requires
-    (λ c. c .wholes-agree .ensures _ _ _)  -- returns
+    (λ c κs. search needs)  -- places-agree-requires
+    (λ c κs. search needs)  -- wholes-agree-requires
+    (λ c κs. search needs)  -- three-agree-requires
     (λ c. search needs)  -- same-length
-    (λ c. c .before .before .places-agree .ensures _ _)  -- returns-2
-    (λ c. search needs)  -- same-length-2
-    (λ c. search needs)  -- returns-3
-    (λ c. search needs)  -- same-length-3
-    (λ c. search needs)  -- returns-4
-    (λ c. search needs)  -- same-length-4
-    (λ c. c .before .before .shorts-agree .ensures _ _)  -- returns-5
+    (λ c. floats (omega arith) (c .before .before .floats-agree .ensures (omega arith)))  -- returns
+    (λ c. search needs)  -- same-length
+    (λ c. shorts (omega arith) (c .before .before .shorts-agree .ensures (omega arith)))  -- returns
+    (λ c. search needs)  -- same-length
+    (λ c. places (omega arith) (c .before .before .places-agree .ensures (omega arith)))  -- returns
+    (λ c. search needs)  -- same-length
+    (λ c. wholes (omega arith) (c .before .before .wholes-agree .ensures (omega arith)))  -- returns
+    (λ c. search needs)  -- same-length
+    (λ c. three (omega arith) (c .before .before .three-agree .ensures (omega arith)))  -- returns
     )

@@ -1,6 +1,6 @@
 -- `with_work` meets its contract: all work cells were filled. Assumes nothing.
 use borrow.Author.Needs.{needs}
-use Rattle.replay_calls.proofs.Comparing.{filled}
+use Rattle.replay_calls.proofs.Work.{filled}
 use Rattle.replay_calls.proofs.with_work.Statement.{statement}
 use Rattle.replay_calls.proofs.with_work.Tie as tie
 

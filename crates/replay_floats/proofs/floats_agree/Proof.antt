@@ -1,0 +1,28 @@
+-- `floats_agree` meets its contract: the cells that it lends hold what they must before a call. Assumes nothing.
+use borrow.Author.Needs.{needs}
+use Rattle.replay_compare.proofs.Comparing.{part-long, take-replicate}
+use Rattle.replay_floats.proofs.floats_agree.Statement.{statement}
+use Rattle.replay_floats.proofs.floats_agree.Tie as tie
+
+returns : tie.Need-returns
+returns c =
+    let left = c .before .before .before in
+    let p = left .before .before .before in
+    let x = p .before in
+    let room = x .before .before .before .before .before .before .before .pre in
+    rw (take-replicate 65537 _ _ room, x .float-of .ensures, p .parameters-of .ensures) at (left .floats-left .ensures)
+
+pub floats-agree-spec : {M : Type 1} → statement M
+floats-agree-spec =
+    tie.close
+    (tie.spec
+    (λ c. search needs)  -- element-copy-out-cells
+    (λ c κs. search needs)  -- float-of-requires
+    (λ c κs. search needs)  -- parameters-of-requires
+    (λ c. search needs)  -- array-borrow-prefix-out
+    -- slice-aggregate-floats-left
+    (λ c. part-long 65537 _ _ (c .before .before .before .before .before .before .before .before .before .pre))
+    (λ c κs. search needs)  -- floats-left-requires
+    (λ c. search needs)  -- same-length
+    returns
+    )

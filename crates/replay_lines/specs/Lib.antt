@@ -1,0 +1,3 @@
+-- The lines that are printed.
+pub mod Lines
+pub mod inner

@@ -1,0 +1,50 @@
+-- `three_agree` meets its contract: the cells that it lends hold what they must before a call. Assumes nothing.
+use borrow.Author.Needs.{needs}
+use Rattle.replay_compare.proofs.Comparing.{part-long}
+use Rattle.replay_three.proofs.Lent.{three-lent}
+use Rattle.replay_three.proofs.three_agree.Statement.{statement}
+use Rattle.replay_three.proofs.three_agree.Tie as tie
+
+returns : tie.Need-returns
+returns c =
+    let left = c .before .before .before .before .before in
+    let p = left .before .before .before .before .before in
+    let x = p .before in
+    let rooms = x .before .before .before .before .before .before .before .before .before .pre in
+    three-lent 65537 (p .parameters-of .ensures) (x .float-of .ensures) (rooms .out) (rooms .upper) (rooms .lower)
+    (left .three-left .ensures)
+
+slice-middle : tie.Need-slice-aggregate-three-left
+slice-middle c = part-long 65537 _ _ (c .before .before .before .before .before .before .before .before
+    .before .before .before .pre .out)
+
+slice-upper : tie.Need-slice-aggregate-three-left-2
+slice-upper c = part-long 65537 _ _ (c .before .before .before .before .before .before .before .before
+    .before .before .before .before .pre .upper)
+
+slice-lower : tie.Need-slice-aggregate-three-left-3
+slice-lower c = part-long 65537 _ _ (c .before .before .before .before .before .before .before .before
+    .before .before .before .before .before .pre .lower)
+
+pub three-agree-spec : {M : Type 1} → statement M
+three-agree-spec =
+    tie.close
+    (tie.spec
+    (λ c. search needs)  -- element-copy-out-one
+    (λ c. search needs)  -- element-copy-out-two
+    (λ c. search needs)  -- element-copy-out-three
+    (λ c κs. search needs)  -- float-of-requires
+    (λ c κs. search needs)  -- parameters-of-requires
+    -- array-borrow-prefix-middle
+    (λ c. c .before .before .before .before .before .before .before .before .before .before .pre .out)
+    slice-middle
+    -- array-borrow-prefix-upper
+    (λ c. c .before .before .before .before .before .before .before .before .before .before .before .pre .upper)
+    slice-upper
+    -- array-borrow-prefix-lower
+    (λ c. c .before .before .before .before .before .before .before .before .before .before .before .before .pre .lower)
+    slice-lower
+    (λ c κs. tt)  -- three-left-requires
+    (λ c. search needs)  -- same-length
+    returns
+    )

@@ -1,0 +1,2 @@
+-- What a recorded call with three outputs calls.
+pub mod Three
