@@ -9,7 +9,7 @@ use crate::rng::Rng;
 
 const LENGTHS: &[usize] = &[512, 65_536];
 const WINDOWS: &[usize] = &[2, 5, 20, 60, 250, 1_000, 4_096];
-const PERIODS: &[usize] = &[3, 5, 20, 60, 250];
+const PERIODS: &[usize] = &[2, 3, 4, 5, 20, 60, 250];
 
 /// What the series of a table are made of, each from the same walk of whole numbers.
 #[derive(Clone, Copy, PartialEq, Eq)]
