@@ -1,11 +1,13 @@
 // The exponential rule: how its cells are written.
 ghost use mathlib.Core.Path.{_≡_};
+ghost use mathlib.Core.Bool.{true};
 ghost use lib.ListN.{length};
 ghost use Rattle.cells.specs.Line.{line};
 ghost use Rattle.cells.specs.Written.{Writing};
 ghost use Rattle.windows.specs.inner.Eight.{WindowRoom};
+ghost use Rattle.window_means.specs.inner.Ticks.{longTicks};
 ghost use Rattle.rules_ema.specs.SingleEma.{firstUsable, singleEmaFrom, singleEmaLine};
-ghost use Rattle.rules_ema.specs.inner.Stages.{Started};
+ghost use Rattle.rules_ema.specs.inner.Stages.{Started, TicksStarted};
 
 // The bar of the first mean that is not 0, or bar 0 where every mean is.
 fn first_usable(means: &[f64]) -> usize
@@ -41,6 +43,69 @@ fn write_from(series: &[f64], n: usize, start: usize, seed: f64, out: &mut [f64]
     out[i] = rounding::sign(series[i] - average);
 }
 
+// The same where the prices are whole ticks, with the means after bar `start` by a running sum, which is exact.
+fn write_from_ticks(series: &[f64], n: usize, start: usize, seed: f64, out: &mut [f64])
+    requires { ⌜ TicksStarted n (now series) start seed (length (now out)) ⌝ }
+    ensures { λ _. ⌜ Writing (length (now (series .entry))) (singleEmaFrom start n (line (now (series .entry))))
+        (now (out .entry)) (now (out .exit)) ⌝ }
+{
+    let alpha = 2.0 / ((n + 1) as f64);
+    let count = n as f64;
+    let mut sum = windows::sum_at(series, n, start);
+    let mut average = seed;
+    let mut i = start;
+    cells::clear(out, start);
+    while i + 1 < series.len() {
+        out[i] = rounding::sign(series[i] - average);
+        i += 1;
+        sum = sum + (series[i] - series[i - n]);
+        average = averages_exponential::blended(alpha, average, sum / count);
+    }
+    out[i] = rounding::sign(series[i] - average);
+}
+
+// Writes each bar's position over the means of all bars.
+fn write_over_means(series: &[f64], n: usize, ticks: bool, out: &mut [f64])
+    requires { ⌜ WindowRoom n (length (now series)) (length (now out)) ⌝ }
+    requires { ⌜ ticks ≡ longTicks n (now series) ⌝ }
+    ensures { λ _. ⌜ Writing (length (now (series .entry)))
+        (singleEmaLine (length (now (series .entry))) n (line (now (series .entry)))) (now (out .entry))
+        (now (out .exit)) ⌝ }
+{
+    let bars = series.len();
+    window_means::write_means_by(series, n, ticks, out);
+    let start = first_usable(&out[..bars]) + (n - 1);
+    if start < bars {
+        let seed = windows::mean_at(&out[..bars], n, start);
+        write_from(series, n, start, seed, out);
+    } else {
+        cells::clear(out, bars);
+    }
+}
+
+// Writes each bar's position where the prices are whole ticks. Mostly the first mean is not 0: then the means up to bar
+// 2n - 2 are enough to start.
+fn write_of_ticks(series: &[f64], n: usize, out: &mut [f64])
+    requires { ⌜ WindowRoom n (length (now series)) (length (now out)) ⌝ }
+    requires { ⌜ true ≡ longTicks n (now series) ⌝ }
+    ensures { λ _. ⌜ Writing (length (now (series .entry)))
+        (singleEmaLine (length (now (series .entry))) n (line (now (series .entry)))) (now (out .entry))
+        (now (out .exit)) ⌝ }
+{
+    let head = 2 * n - 1;
+    if head <= series.len() {
+        window_means::write_means_of_prices(&series[..head], n, out);
+        if out[n - 1] != 0.0 {
+            let seed = windows::mean_at(&out[..head], n, head - 1);
+            write_from_ticks(series, n, head - 1, seed, out);
+        } else {
+            write_over_means(series, n, true, out);
+        }
+    } else {
+        write_over_means(series, n, true, out);
+    }
+}
+
 // Writes each bar's position.
 pub fn write_ema(series: &[f64], n: usize, out: &mut [f64])
     requires { ⌜ WindowRoom n (length (now series)) (length (now out)) ⌝ }
@@ -48,13 +113,9 @@ pub fn write_ema(series: &[f64], n: usize, out: &mut [f64])
         (singleEmaLine (length (now (series .entry))) n (line (now (series .entry)))) (now (out .entry))
         (now (out .exit)) ⌝ }
 {
-    let bars = series.len();
-    window_means::write_means_of_prices(series, n, out);
-    let start = first_usable(&out[..bars]) + (n - 1);
-    if start < bars {
-        let seed = windows::mean_at(&out[..bars], n, start);
-        write_from(series, n, start, seed, out);
+    if window_means::are_long_ticks(series, n) {
+        write_of_ticks(series, n, out);
     } else {
-        cells::clear(out, bars);
+        write_over_means(series, n, false, out);
     }
 }

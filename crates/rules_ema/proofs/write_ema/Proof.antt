@@ -1,90 +1,20 @@
--- `write_ema` meets its contract: the means, the search among them, and the positions from the start that was found.
--- Assumes nothing.
-use mathlib.Core.Path.{sym}
-use native.Mathlib.Omega.{arith}
-use lib.ListN.{length}
+-- `write_ema` meets its contract: each way of writing the positions does. Assumes nothing.
+use mathlib.Core.Path.{sym, _∙_}
 use borrow.Author.Needs.{needs}
-use denote.Ref.{now}
-use Rattle.cells.specs.Line.{line}
-use Rattle.cells.proofs.Parts.{part-long}
-use Rattle.cells.proofs.Written.{stands}
-use Rattle.windows.specs.Window.{mean}
-use Rattle.rules_ema.proofs.SingleEma.{usable-inside, start-found, seed-found, found-written, lead-written}
 use Rattle.rules_ema.proofs.write_ema.Statement.{statement}
 use Rattle.rules_ema.proofs.write_ema.Tie as tie
-
-add-start : tie.Need-add-start
-add-start c =
-    let means = c .before .before .before .before in
-    let a = means .before .before .before .before .args in
-    let found = start-found (a .n) (line (now (a .series))) (means .write-means-of-prices .ensures) (omega arith)
-    (c .first-usable .ensures) in
-    let inside = usable-inside (length (now (a .series))) (mean (a .n) (line (now (a .series)))) in
-    search needs
-
-slice-aggregate-mean-at : tie.Need-slice-aggregate-mean-at
-slice-aggregate-mean-at c =
-    let means = c .before .before .before .before .before .before in
-    sym (part-long (means .write-means-of-prices .ensures) (omega arith))
-
-mean-at-requires : tie.Need-mean-at-requires
-mean-at-requires c κs =
-    let means = c .before .before .before .before .before .before in
-    let long = part-long (means .write-means-of-prices .ensures) (omega arith) in
-    record { window = means .before .before .before .before .pre .window; full = omega arith; inside = omega arith }
-
-write-from-requires : tie.Need-write-from-requires
-write-from-requires c κs =
-    let at-seed = c .before in
-    let means = at-seed .before .before .before .before .before .before .before in
-    let start = means .before .before .before .before in
-    let a = start .args in
-    let stood = means .write-means-of-prices .ensures in
-    record {
-      means = record { window = start .pre .window; room = search needs; means = stands stood };
-      inside = omega arith;
-      first = seed-found (a .n) (line (now (a .series))) stood (omega arith) _ (at-seed .mean-at .ensures)
-          (omega arith);
-    }
-
-returns : tie.Need-returns
-returns c =
-    let cells = c .before .before in
-    let found = cells .before .before .before .before .before in
-    let means = found .before .before .before .before in
-    let a = means .before .before .before .before .args in
-    let stood = means .write-means-of-prices .ensures in
-    found-written (a .n) (line (now (a .series))) stood (omega arith) (found .first-usable .ensures)
-    (cells .write-from .ensures)
-
-returns-2 : tie.Need-returns-2
-returns-2 c =
-    let cells = c .before .before in
-    let found = cells .before .before .before in
-    let means = found .before .before .before .before in
-    let a = means .before .before .before .before .args in
-    let stood = means .write-means-of-prices .ensures in
-    found-written (a .n) (line (now (a .series))) stood (omega arith) (found .first-usable .ensures)
-    (lead-written _ (a .n) (line (now (a .series))) (cells .clear .ensures) (omega arith))
 
 pub write-ema-spec : {M : Type 1} → statement M
 write-ema-spec =
     tie.close
     (tie.spec
-    (λ c κs. search needs)  -- write-means-of-prices-requires
-    (λ c. search needs)  -- slice-reshare-prefix-first-usable
-    (λ c. let means = c .before .before .before in
-    sym (part-long (means .write-means-of-prices .ensures) (omega arith)))  -- slice-aggregate-first-usable
-    (λ c κs. search needs)  -- first-usable-requires
-    (λ c. search needs)  -- sub-start
-    add-start
-    (λ c. search needs)  -- slice-reshare-prefix-mean-at
-    slice-aggregate-mean-at
-    mean-at-requires
-    write-from-requires
-    (λ c κs. search needs)  -- clear-requires
+    (λ c κs. search needs)  -- are-long-ticks-requires
+    -- write-of-ticks-requires
+    (λ c κs. (search needs, sym (c .before .if1 .taken) ∙ c .before .before .are-long-ticks .ensures))
+    -- write-over-means-requires
+    (λ c κs. (search needs, sym (c .before .if1 .left) ∙ c .before .before .are-long-ticks .ensures))
     (λ c. search needs)  -- same-length
-    returns
+    (λ c. search needs)  -- returns
     (λ c. search needs)  -- same-length-2
-    returns-2
+    (λ c. search needs)  -- returns-2
     )
