@@ -1,10 +1,10 @@
 -- What is known of a call of `ultimate_bands` where its cells are due. Assumes nothing.
 use mathlib.Core.Path.{_≡_, sym}
-use mathlib.Core.Bool.{Bool, true}
+use mathlib.Core.Bool.{true}
 use mathlib.Core.List.{List, [], _∷_}
-use Prim.Native.Nat.{ℕ, _*_, _≤_}
+use Prim.Native.Nat.{ℕ, _*_, _<_, _≤_}
 use native.Mathlib.Omega.{arith}
-use borrow.Author.Tests.{leb-true, ltb-false}
+use borrow.Author.Tests.{leb-true}
 use lib.Dec.{leb, ltb}
 use lib.ListN.{length}
 use lib.Ieee.{Float}
@@ -16,8 +16,6 @@ use Rattle.calls.specs.declared.Answer.the-variants.{Cells}
 use Rattle.calls.specs.Answer.{countOf, clearedOf, emptyIf, checked, limited, unlessEmpty}
 use Rattle.calls.proofs.Call.{AllBars}
 use Rattle.calls.proofs.Room.{asked, andThen-cells, emptyIf-cells, same-count}
-use Rattle.checks.specs.inner.Due.{CellsDue}
-use Rattle.checks.proofs.Due.{some-due}
 use Rattle.outer_lines.proofs.Calls.{one-band-passed, one-band-clearable}
 use Rattle.bands.specs.Bands.{bandsAnswer}
 use Rattle.bands.specs.inner.Stages.{Ready}
@@ -42,28 +40,22 @@ module _ (s : List Float) (n : ℕ) (k : Float) (m middle upper lower work : ℕ
       let a = asked (length s) (k ∷ []) [] (n ∷ m ∷ []) whole j (andThen-cells check rest j e .1) h in
       sym (same-count _ _ (emptyIf-cells (ltb (length s) n) (Cells (length s)) j (a .rest) h .1))
 
--- and where they are due, all is in order
-pub bands-ready : (s : List Float) (n : ℕ) (k : Float) (m middle upper lower : ℕ) {r : Answer} {t : Bool}
-    {work₀ work₁ : List Float} → r ≡ bandsAnswer s n k m middle upper lower (length work₀)
-    → CellsDue r (length s) t work₀ work₁ → t ≡ true
-    → Ready n m s middle upper lower (length work₁) × (n ≤ length s)
-unfolding bandsAnswer
-bands-ready s n k m middle upper lower {r} {work₀ = work₀} e d y =
-    let h = some-due (rw y at d) in
-    let last = whole s n k m middle upper lower (length work₀) in
-    let p = one-band-passed middle upper lower (length work₀) (rest s n k m middle upper lower (length work₀)) s e h in
-    let a = asked (length s) (k ∷ []) [] (n ∷ m ∷ []) last (countOf r) (p .1) h in
-    let short = and-parts (leb n longestPeriod) _ (a .short-periods) in
-    let full = emptyIf-cells (ltb (length s) n) (Cells (length s)) (countOf r) (a .rest) h .0 in
-    let room = p .0 .out-long in (
-      record {
-        period = leb-true _ _ (short .0);
-        smooth-period = leb-true _ _ (and-parts (leb m longestPeriod) true (short .1) .0);
-        values = p .0 .values;
-        middle-long = omega arith;
-        upper-long = omega arith;
-        lower-long = omega arith;
-        work-long = rw (d .long) (p .0 .work-long .0);
-      },
-      ltb-false _ _ full,
-    )
+  -- and where they are due, all is in order
+  pub bands-ready : {r : Answer} → r ≡ bandsAnswer s n k m middle upper lower work → 0 < countOf r
+      → Ready n m s middle upper lower × (8 * length s ≤ work)
+  unfolding bandsAnswer
+  bands-ready {r} e h =
+      let p = one-band-passed middle upper lower work rest s e h in
+      let a = asked (length s) (k ∷ []) [] (n ∷ m ∷ []) whole (countOf r) (p .1) h in
+      let short = and-parts (leb n longestPeriod) _ (a .short-periods) in
+      let room = p .0 .out-long in (
+        record {
+          period = leb-true _ _ (short .0);
+          smooth-period = leb-true _ _ (and-parts (leb m longestPeriod) true (short .1) .0);
+          values = p .0 .values;
+          middle-long = omega arith;
+          upper-long = omega arith;
+          lower-long = omega arith;
+        },
+        p .0 .work-long .0,
+      )

@@ -1,3 +1,2 @@
 pub mod Call
 pub mod Lines
-pub mod Stages

@@ -2,20 +2,25 @@
 use calls::Answer;
 use calls::Refusal;
 use limits::LONGEST_PERIOD;
-use smoother_table::Coefficients;
 ghost use mathlib.Core.Path.{_≡_};
 ghost use Prim.Native.Nat.{_-_, _<_, _≤_};
 ghost use lib.ListN.{length};
 ghost use Rattle.limits.specs.Limits.{longestPeriod};
 ghost use Rattle.cells.specs.Line.{line, plusZero};
 ghost use Rattle.cells.specs.Written.{Writing};
+ghost use Rattle.cells.specs.inner.Touched.{Touched};
 ghost use Rattle.deviations.specs.Deviation.{deviation};
+ghost use Rattle.outer_lines.specs.inner.Lined.{Lined};
 ghost use Rattle.bands.specs.Bands.{
   bandsDeviation,
+  bandsMiddle,
+  bandsWidth,
+  bandsUpper,
+  bandsLower,
   bandsAnswer,
   UltimateBandsCall,
 };
-ghost use Rattle.bands.specs.inner.Stages.{Spreading, Begun, Further, Rows, Smoothing, Both, Ready, Banded};
+ghost use Rattle.bands.specs.inner.Stages.{Spreading, Begun, Further, Ready};
 
 // Writes the deviations of a few bars from bar i on, and gives how many they are.
 fn write_some_deviations(close: &[f64], n: usize, i: usize, out: &mut [f64]) -> usize
@@ -58,105 +63,20 @@ fn write_spread(close: &[f64], n: usize, out: &mut [f64])
     }
 }
 
-// Writes both smoothed lines from bar 4 on, where the first four cells stand, and clears each bar's work cells while the
-// next cells wait for the last ones.
-fn write_steps(
-    close: &[f64],
-    c: Coefficients,
-    spreads: &[f64],
-    d: Coefficients,
-    middle: &mut [f64],
-    widths: &mut [f64],
-    work: &mut [f64],
-)
-    requires { ⌜ Rows (length (now close)) (length (now spreads)) (length (now middle)) (length (now widths))
-        (length (now work)) × (4 ≤ length (now close)) ⌝ }
-    requires { ⌜ Smoothing c d (now close) (now spreads) 4 (now middle) (now widths) (now work)
-        (now middle) (now widths) (now work) ⌝ }
-    ensures { λ _. ⌜ Smoothing c d (now (close .entry)) (now (spreads .entry)) (length (now (close .entry)))
-        (now (middle .entry)) (now (widths .entry)) (now (work .entry))
-        (now (middle .exit)) (now (widths .exit)) (now (work .exit)) ⌝ }
+// Writes the width of the bands at every bar to `widths`. The deviations are left in `spreads`.
+fn write_widths(close: &[f64], n: usize, m: usize, widths: &mut [f64], spreads: &mut [f64])
+    requires { ⌜ Spreading n (now close) (length (now spreads)) ⌝ }
+    requires { ⌜ (m ≤ longestPeriod) × (length (now close) ≤ length (now widths)) ⌝ }
+    ensures { λ _. ⌜ Writing (length (now (close .entry))) (bandsWidth n m (line (now (close .entry))))
+        (now (widths .entry)) (now (widths .exit))
+        × Touched (length (now (close .entry))) (now (spreads .entry)) (now (spreads .exit)) ⌝ }
 {
     let bars = close.len();
-    let mut i = 4;
-    while i < bars {
-        middle[i] = smoother::step(
-            c,
-            close[i],
-            close[i - 1],
-            close[i - 2],
-            middle[i - 1],
-            middle[i - 2],
-        );
-        widths[i] = smoother::step(
-            d,
-            spreads[i],
-            spreads[i - 1],
-            spreads[i - 2],
-            widths[i - 1],
-            widths[i - 2],
-        );
-        work_rows::put(work, bars, i, 0.0);
-        i += 1;
-    }
+    write_spread(close, n, spreads);
+    smoother::write_smooth(&spreads[..bars], m, widths);
 }
 
-// Writes the smoothed closes, the smoothed deviations beside them, and clears the work slice.
-fn write_both(
-    close: &[f64],
-    n: usize,
-    spreads: &[f64],
-    m: usize,
-    middle: &mut [f64],
-    widths: &mut [f64],
-    work: &mut [f64],
-)
-    requires { ⌜ (n ≤ longestPeriod) × (m ≤ longestPeriod) ⌝ }
-    requires { ⌜ Rows (length (now close)) (length (now spreads)) (length (now middle)) (length (now widths))
-        (length (now work)) ⌝ }
-    ensures { λ _. ⌜ Both n m (now (close .entry)) (now (spreads .entry))
-        (now (middle .entry)) (now (widths .entry)) (now (work .entry))
-        (now (middle .exit)) (now (widths .exit)) (now (work .exit)) ⌝ }
-{
-    let bars = close.len();
-    if bars <= 4 {
-        smoother::write_smooth(close, n, middle);
-        smoother::write_smooth(&spreads[..bars], m, widths);
-        cells::clear(work, 8 * bars);
-    } else {
-        smoother::write_smooth(&close[..4], n, middle);
-        smoother::write_smooth(&spreads[..4], m, widths);
-        work_rows::clear_bars(work, bars, 4);
-        let c = Coefficients::of_period(n);
-        let d = Coefficients::of_period(m);
-        write_steps(close, c, spreads, d, middle, widths, work);
-    }
-}
-
-// Writes the three lines of any period, and clears the work slice.
-fn write_lines(
-    close: &[f64],
-    n: usize,
-    k: f64,
-    m: usize,
-    middle: &mut [f64],
-    upper: &mut [f64],
-    lower: &mut [f64],
-    work: &mut [f64],
-)
-    requires { ⌜ Ready n m (now close) (length (now middle)) (length (now upper)) (length (now lower))
-        (length (now work)) ⌝ }
-    ensures { λ _. ⌜ Banded n k m (now (close .entry))
-        (now (middle .entry)) (now (upper .entry)) (now (lower .entry)) (now (work .entry))
-        (now (middle .exit)) (now (upper .exit)) (now (lower .exit)) (now (work .exit)) ⌝ }
-{
-    let bars = close.len();
-    write_spread(close, n, lower);
-    write_both(close, n, lower, m, middle, upper, work);
-    outer_lines::write_outer_lines(middle, k, bars, upper, lower);
-}
-
-// The same, where from period 4 on the outer lines are NaN from bar 4 on: see `nan-from-bar-4`.
+// Writes the three lines. From period 5 on the outer lines are NaN throughout: see `nan-bands`.
 fn write_bands(
     close: &[f64],
     n: usize,
@@ -165,22 +85,20 @@ fn write_bands(
     middle: &mut [f64],
     upper: &mut [f64],
     lower: &mut [f64],
-    work: &mut [f64],
 )
-    requires { ⌜ Ready n m (now close) (length (now middle)) (length (now upper)) (length (now lower))
-        (length (now work)) × (n ≤ length (now close)) ⌝ }
-    ensures { λ _. ⌜ Banded n k m (now (close .entry))
-        (now (middle .entry)) (now (upper .entry)) (now (lower .entry)) (now (work .entry))
-        (now (middle .exit)) (now (upper .exit)) (now (lower .exit)) (now (work .exit)) ⌝ }
+    requires { ⌜ Ready n m (now close) (length (now middle)) (length (now upper)) (length (now lower)) ⌝ }
+    ensures { λ _. ⌜ Lined (length (now (close .entry))) (bandsMiddle n (line (now (close .entry))))
+        (bandsUpper n k m (line (now (close .entry)))) (bandsLower n k m (line (now (close .entry))))
+        (now (middle .entry)) (now (upper .entry)) (now (lower .entry))
+        (now (middle .exit)) (now (upper .exit)) (now (lower .exit)) ⌝ }
 {
-    if n < 4 {
-        write_lines(close, n, k, m, middle, upper, lower, work);
+    let bars = close.len();
+    smoother::write_smooth(close, n, middle);
+    if n < 5 {
+        write_widths(close, n, m, upper, lower);
+        outer_lines::write_outer_lines(middle, k, bars, upper, lower);
     } else {
-        let bars = close.len();
-        write_lines(&close[..4], n, k, m, middle, upper, lower, work);
-        smoother::write_smooth(close, n, middle);
-        outer_lines::fill_outer_lines(bars - 4, &mut upper[4..], &mut lower[4..]);
-        cells::clear(work, 8 * bars);
+        outer_lines::fill_outer_lines(bars, upper, lower);
     }
 }
 
@@ -244,8 +162,8 @@ pub fn ultimate_bands(
             middle,
             upper,
             lower,
-            work,
         );
+        cells::clear(work, 8 * bars);
     }
     due
 }
