@@ -1,3 +1,4 @@
 pub mod Blending
 pub mod Causal
 pub mod Halves
+pub mod Tested

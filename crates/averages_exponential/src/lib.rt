@@ -2,8 +2,11 @@
 use averages::Pass;
 use calls::Answer;
 use calls::Refusal;
+use limits::LARGEST_VALUE;
+use limits::LARGEST_VALUE_BITS;
 ghost use mathlib.Core.Path.{_≡_};
-ghost use Prim.Native.Nat.{_+_, _≤_};
+ghost use Prim.Native.Nat.{_+_, _<_, _≤_};
+ghost use lib.Dec.{eqb};
 ghost use lib.ListN.{length};
 ghost use Rattle.values.specs.Accepted.{accepted, all};
 ghost use Rattle.calls.specs.declared.Refusal.the-variants.{ValueNotAccepted};
@@ -15,6 +18,7 @@ ghost use Rattle.averages_exponential.specs.Blend.{blend, smoothLine};
 ghost use Rattle.averages_exponential.specs.Ema.{EmaCall};
 ghost use Rattle.averages_exponential.specs.ExponentialSmoothing.{ExponentialSmoothingCall};
 ghost use Rattle.averages_exponential.specs.inner.Blending.{Seeded, HalfWay, Middle, Smoothing, Smooth};
+ghost use Rattle.averages_exponential.specs.inner.Tested.{Fair, Clean, TestedHalf};
 
 // alpha of x and the rest of `last`.
 pub fn blended(alpha: f64, last: f64, x: f64) -> f64
@@ -38,6 +42,52 @@ fn blend_half(series: &[f64], alpha: f64, first: usize, seed: Pass) -> Pass
     while i < half {
         bits = bits | f64::to_bits(values::cap(series[low + i]));
         bits = bits | f64::to_bits(values::cap(series[high + i]));
+        last = blended(alpha, last, series[low + i]);
+        i += 1;
+    }
+    Pass { bits, value: last }
+}
+
+// 0, unless a series must not hold x.
+fn refused_bits(x: f64) -> u64
+    ensures { λ r. ⌜ eqb r 0 ≡ accepted x ⌝ }
+{
+    if (x >= -LARGEST_VALUE) & (x <= LARGEST_VALUE) {
+        if x == 0.0 { f64::to_bits(x) } else { 0 }
+    } else {
+        1
+    }
+}
+
+// 0, unless a series must not hold one of the first `end` prices.
+fn refused_first(series: &[f64], end: usize) -> u64
+    requires { ⌜ end ≤ length (now series) ⌝ }
+    ensures { λ r. ⌜ Fair (now (series .entry)) r × Clean (now (series .entry)) r 0 end ⌝ }
+{
+    let mut bits = 0;
+    let mut i = 0;
+    while i < end {
+        bits = bits | refused_bits(series[i]);
+        i += 1;
+    }
+    bits
+}
+
+// The cell half way through the bars after the seed, and 0 if a series may hold all prices. Each price is tested by
+// itself, on both sides of 0, while a cell waits for the one before it.
+fn blend_tested(series: &[f64], alpha: f64, first: usize, seed: f64) -> Pass
+    requires { ⌜ first < length (now series) ⌝ }
+    ensures { λ r. ⌜ TestedHalf (now (series .entry)) alpha first seed r ⌝ }
+{
+    let half = (series.len() - first - 1) / 2;
+    let low = first + 1;
+    let high = low + half;
+    let mut bits = refused_first(series, low) | refused_bits(series[series.len() - 1]);
+    let mut last = seed;
+    let mut i = 0;
+    while i < half {
+        bits = bits | refused_bits(series[low + i]);
+        bits = bits | refused_bits(series[high + i]);
         last = blended(alpha, last, series[low + i]);
         i += 1;
     }
@@ -79,20 +129,53 @@ fn write_smooth(series: &[f64], alpha: f64, first: usize, seed: f64, middle: f64
     blend_halves(series, alpha, first, seed, middle, out);
 }
 
-// The answer of a smoothed line whose lengths are in order: it writes nothing before the bits of all prices are at
-// hand.
+// The answer of a smoothed line whose prices are tested and whose cell half way is at hand.
+fn answer_tested(
+    series: &[f64],
+    alpha: f64,
+    first: usize,
+    seed: f64,
+    middle: f64,
+    accept: bool,
+    out: &mut [f64],
+) -> Answer
+    requires { ⌜ Smoothing (now series) alpha first seed 0 (now out) × Middle (now series) alpha first seed middle
+        × (accept ≡ all accepted (now series)) ⌝ }
+    ensures { λ r. ⌜ Call (unless (all accepted (now (series .entry))) ValueNotAccepted
+        (Cells (length (now (series .entry)))))
+        (smoothLine alpha first seed (line (now (series .entry)))) (now (out .entry)) r (now (out .exit)) ⌝ }
+{
+    if accept {
+        write_smooth(series, alpha, first, seed, middle, out);
+        Answer::Cells(series.len())
+    } else {
+        Answer::Refused(Refusal::ValueNotAccepted)
+    }
+}
+
+// The answer of a smoothed line whose lengths are in order: it writes nothing before all prices are tested. The first
+// 16 tell how: by the bits of all together, or each by itself, as on both sides of 0.
 fn answer_smooth(series: &[f64], alpha: f64, first: usize, seed: Pass, out: &mut [f64]) -> Answer
     requires { ⌜ Seeded (now series) first (seed .bits) × (length (now series) ≤ length (now out)) ⌝ }
     ensures { λ r. ⌜ Call (unless (all accepted (now (series .entry))) ValueNotAccepted
         (Cells (length (now (series .entry)))))
         (smoothLine alpha first (seed .value) (line (now (series .entry)))) (now (out .entry)) r (now (out .exit)) ⌝ }
 {
-    let half = blend_half(series, alpha, first, seed);
-    if values::accepted_by(half.bits, series) {
-        write_smooth(series, alpha, first, seed.value, half.value, out);
-        Answer::Cells(series.len())
+    if values::bits_together(series, 0, cells::smaller(series.len(), 16)) <= LARGEST_VALUE_BITS {
+        let half = blend_half(series, alpha, first, seed);
+        let accept = values::accepted_by(half.bits, series);
+        answer_tested(series, alpha, first, seed.value, half.value, accept, out)
     } else {
-        Answer::Refused(Refusal::ValueNotAccepted)
+        let half = blend_tested(series, alpha, first, seed.value);
+        answer_tested(
+            series,
+            alpha,
+            first,
+            seed.value,
+            half.value,
+            half.bits == 0,
+            out,
+        )
     }
 }
 

@@ -1,0 +1,72 @@
+-- Prices tested one by one, gathered in bits that are 0 while all are accepted. Assumes nothing.
+use mathlib.Core.Path.{_≡_, refl, sym, _∙_}
+use mathlib.Core.Bool.{Bool, true, false, true≢false}
+use mathlib.Core.List.{List, [], _∷_}
+use Prim.Native.Nat.{ℕ, zero, suc, _+_, _<_, _≤_, zero-le, suc-le-suc}
+use native.Mathlib.Nat.{zero-lt-suc, le-trans}
+use native.Mathlib.Omega.{arith}
+use borrow.Author.Tests.{ltb-true, ltb-false, eqb-true, ne-eqb}
+use lib.Bits.{bitOr}
+use lib.Dec.{eqb, ltb}
+use lib.ListN.{length, getD}
+use lib.Ieee.{Float, nan}
+use Rattle.values.specs.Accepted.{accepted, all}
+use Rattle.values.proofs.All.{all-at}
+use Rattle.values.proofs.Quick.{or-first, or-second}
+use Rattle.averages_exponential.specs.inner.Tested.{Fair, Clean}
+
+all-of : (p : Float → Bool) (s : List Float) → ((i : ℕ) → i < length s → p (getD s i nan) ≡ true) → all p s ≡ true
+all-of p [] h = refl
+all-of p (x ∷ s) h = rw (h 0 (zero-lt-suc _), all-of p s (λ i l. h (suc i) (suc-le-suc l)))
+
+or-none : (a b : ℕ) → a ≡ 0 → b ≡ 0 → bitOr a b ≡ 0
+or-none a b p q = rw (p, q)
+
+module _ {s : List Float} where
+  pub fair-none : Fair s 0
+  fair-none = record { none = λ h. refl }
+
+  -- one more price
+  pub fair-with : {b : ℕ} (c k : ℕ) → Fair s b → eqb c 0 ≡ accepted (getD s k nan) → k < length s → Fair s (bitOr b c)
+  fair-with {b} c k f e l =
+      record { none = λ h. or-none b c (f .none h) (eqb-true _ _ (e ∙ all-at accepted s k h l)) }
+
+  pub clean-none : {b a k : ℕ} → k ≤ a → Clean s b a k
+  clean-none h = record { each = λ z i p q. absurd (omega arith) }
+
+  -- bits are added
+  pub clean-first : {b a k : ℕ} (c : ℕ) → Clean s b a k → Clean s (bitOr b c) a k
+  clean-first {b} c n = record { each = λ z. n .each (omega (arith, or-first b c)) }
+
+  -- the price k alone
+  pub clean-one : (b c k : ℕ) → eqb c 0 ≡ accepted (getD s k nan) → Clean s (bitOr b c) k (k + 1)
+  clean-one b c k e = record { each = λ z i p q. go z i (omega arith) }
+    where
+      go : bitOr b c ≡ 0 → (i : ℕ) → i ≡ k → accepted (getD s i nan) ≡ true
+      go z i h =
+          let none : c ≡ 0 = omega (arith, or-second b c) in
+          rw h (sym e ∙ rw none refl)
+
+  -- a part
+  pub clean-within : {b a k : ℕ} (m l : ℕ) → Clean s b a k → (a ≤ m) × (l ≤ k) → Clean s b m l
+  clean-within m l n (p, q) = record { each = λ z i g h. n .each z i (omega arith) (omega arith) }
+
+  -- two parts that leave nothing out between them
+  pub clean-joined : {b a k m l : ℕ} → Clean s b a k → Clean s b m l → m ≤ k → Clean s b a l
+  clean-joined {b} {a} {k} {m} {l} u v h = record { each = λ z i p q. go z i p q (ltb i k) refl }
+    where
+      go : b ≡ 0 → (i : ℕ) → a ≤ i → i < l → (t : Bool) → ltb i k ≡ t → accepted (getD s i nan) ≡ true
+      go z i p q true e = u .each z i p (ltb-true _ _ e)
+      go z i p q false e = let g : k ≤ i = ltb-false _ _ e in v .each z i (le-trans h g) q
+
+  -- the next price
+  pub clean-with : {b a k : ℕ} (c : ℕ) → Clean s b a k → eqb c 0 ≡ accepted (getD s k nan) → Clean s (bitOr b c) a (k + 1)
+  clean-with {b} {a} {k} c n e = clean-joined (clean-first c n) (clean-one b c k e) (omega arith)
+
+  pub all-clean : {b : ℕ} → Fair s b → Clean s b 0 (length s) → eqb b 0 ≡ all accepted s
+  all-clean {b} f n = go (all accepted s) (eqb b 0) refl refl
+    where
+      go : (t u : Bool) → all accepted s ≡ t → eqb b 0 ≡ u → eqb b 0 ≡ all accepted s
+      go true u p q = rw (f .none p) (sym p)
+      go false false p q = q ∙ sym p
+      go false true p q = absurd (true≢false (sym (all-of accepted s (λ i l. n .each (eqb-true _ _ q) i zero-le l)) ∙ p))
