@@ -5,10 +5,13 @@ use calls::Refusal;
 use limits::LARGEST_VALUE;
 use limits::LARGEST_VALUE_BITS;
 ghost use mathlib.Core.Path.{_≡_};
-ghost use Prim.Native.Nat.{_+_, _<_, _≤_};
+ghost use mathlib.Core.Bool.{not};
+ghost use Prim.Native.Nat.{_+_, _^_, _<_, _≤_};
 ghost use lib.Dec.{eqb};
 ghost use lib.ListN.{length};
-ghost use Rattle.values.specs.Accepted.{accepted, all};
+ghost use lib.Ieee.{binary64, toBits};
+ghost use Rattle.limits.specs.Limits.{valuePower};
+ghost use Rattle.values.specs.Accepted.{within, accepted, all};
 ghost use Rattle.calls.specs.declared.Refusal.the-variants.{ValueNotAccepted};
 ghost use Rattle.calls.specs.declared.Answer.the-variants.{Cells};
 ghost use Rattle.calls.specs.Answer.{unless};
@@ -48,7 +51,32 @@ fn blend_half(series: &[f64], alpha: f64, first: usize, seed: Pass) -> Pass
     Pass { bits, value: last }
 }
 
-// 0, unless a series must not hold x.
+// 0, unless x lies beyond 2^30, or is a NaN.
+fn far_bit(x: f64) -> u64
+    ensures { λ r. ⌜ eqb r 0 ≡ within valuePower x ⌝ }
+{
+    if (x >= -LARGEST_VALUE) & (x <= LARGEST_VALUE) {
+        0
+    } else {
+        1
+    }
+}
+
+// 0, unless x is -0.0.
+fn minus_zero_bits(x: f64) -> u64
+    ensures { λ r. ⌜ eqb r 0 ≡ not (eqb (toBits binary64 x) (2 ^ 63)) ⌝ }
+{
+    if x == 0.0 { f64::to_bits(x) } else { 0 }
+}
+
+// 0, unless a series must not hold x. A loop that waits for nothing takes several of these at a time.
+fn both_bits(x: f64) -> u64
+    ensures { λ r. ⌜ eqb r 0 ≡ accepted x ⌝ }
+{
+    far_bit(x) | minus_zero_bits(x)
+}
+
+// The same, for a loop that waits.
 fn refused_bits(x: f64) -> u64
     ensures { λ r. ⌜ eqb r 0 ≡ accepted x ⌝ }
 {
@@ -67,7 +95,7 @@ fn refused_first(series: &[f64], end: usize) -> u64
     let mut bits = 0;
     let mut i = 0;
     while i < end {
-        bits = bits | refused_bits(series[i]);
+        bits = bits | both_bits(series[i]);
         i += 1;
     }
     bits

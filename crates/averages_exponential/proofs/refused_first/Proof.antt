@@ -16,10 +16,10 @@ abbrev μ-loop : tie.MeasureT-loop
 loop-again : tie.Need-loop-again Inv-loop μ-loop
 loop-again c =
     let inv = c .before .before .before .loop .inv in
-    let b = c .refused-bits .result in (
+    let b = c .both-bits .result in (
       omega arith,
-      fair-with b _ (inv .1) (c .refused-bits .ensures) (omega arith),
-      clean-with b (inv .2) (c .refused-bits .ensures),
+      fair-with b _ (inv .1) (c .both-bits .ensures) (omega arith),
+      clean-with b (inv .2) (c .both-bits .ensures),
     )
 
 returns : tie.Need-returns Inv-loop μ-loop
@@ -32,9 +32,9 @@ refused-first-spec =
     Inv-loop
     μ-loop
     (λ c. (omega arith, fair-none, clean-none (omega arith)))  -- loop-holds
-    (λ c. search needs)  -- mul-refused-bits
-    (λ c. search needs)  -- shared-slice-read-refused-bits
-    (λ c κs. search needs)  -- refused-bits-requires
+    (λ c. search needs)  -- mul-both-bits
+    (λ c. search needs)  -- shared-slice-read-both-bits
+    (λ c κs. search needs)  -- both-bits-requires
     (λ c. search needs)  -- add-i
     (λ c. search needs)  -- loop-less
     loop-again
