@@ -60,7 +60,8 @@ module _ {s : List Float} where
       go z i p q false e = let g : k ≤ i = ltb-false _ _ e in v .each z i (le-trans h g) q
 
   -- the next price
-  pub clean-with : {b a k : ℕ} (c : ℕ) → Clean s b a k → eqb c 0 ≡ accepted (getD s k nan) → Clean s (bitOr b c) a (k + 1)
+  pub clean-with : {b a k : ℕ} (c : ℕ) → Clean s b a k → eqb c 0 ≡ accepted (getD s k nan)
+      → Clean s (bitOr b c) a (k + 1)
   clean-with {b} {a} {k} c n e = clean-joined (clean-first c n) (clean-one b c k e) (omega arith)
 
   pub all-clean : {b : ℕ} → Fair s b → Clean s b 0 (length s) → eqb b 0 ≡ all accepted s
@@ -69,4 +70,6 @@ module _ {s : List Float} where
       go : (t u : Bool) → all accepted s ≡ t → eqb b 0 ≡ u → eqb b 0 ≡ all accepted s
       go true u p q = rw (f .none p) (sym p)
       go false false p q = q ∙ sym p
-      go false true p q = absurd (true≢false (sym (all-of accepted s (λ i l. n .each (eqb-true _ _ q) i zero-le l)) ∙ p))
+      go false true p q =
+          let each = all-of accepted s (λ i l. n .each (eqb-true _ _ q) i zero-le l) in
+          absurd (true≢false (sym each ∙ p))

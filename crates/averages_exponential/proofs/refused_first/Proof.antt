@@ -1,4 +1,4 @@
--- `refused_first` meets its contract: a bit is set at the first price that is refused, and none before. Assumes nothing.
+-- `refused_first` meets its contract: a bit is set at the first price that is refused. Assumes nothing.
 use Prim.Native.Nat.{_-_, _≤_}
 use native.Mathlib.Omega.{arith}
 use borrow.Author.Needs.{needs}
