@@ -1,3 +1,4 @@
 pub mod Calls
 pub mod Oscillator
+pub mod Sliding
 pub mod Zeros

@@ -4,8 +4,10 @@ use true_range::CloseBefore;
 use windows::Lanes;
 use windows::Sixteen;
 ghost use mathlib.Core.Path.{_≡_};
-ghost use Prim.Native.Nat.{_+_, _*_, _<_, _≤_, max};
+ghost use Prim.Native.Nat.{_+_, _-_, _*_, _<_, _≤_, max};
+ghost use mathlib.Core.Bool.{true};
 ghost use lib.ListN.{length};
+ghost use Rattle.values.specs.Accepted.{tick, all};
 ghost use Rattle.cells.specs.Line.{line, minusZero};
 ghost use Rattle.cells.specs.Written.{Writing};
 ghost use Rattle.cells.specs.inner.Touched.{Touched};
@@ -33,6 +35,7 @@ ghost use Rattle.oscillator.specs.inner.Rows.{
   eachRatio,
   eachWeighed,
 };
+ghost use Rattle.oscillator.specs.inner.Sliding.{SumsOf, TickRows};
 ghost use Rattle.window_means.specs.inner.Row.{rowAt};
 
 // The close before a bar, and the bar's own where that is unknown.
@@ -206,6 +209,93 @@ fn cells_by_one(f: &[f64], g: &[f64], n: usize, m: usize, k: usize, from: usize,
     }
 }
 
+// The sums of one window over both rows.
+struct Sums {
+    over: f64,
+    under: f64,
+}
+
+// The sums of the n cells up to bar i.
+fn sums_at(f: &[f64], g: &[f64], n: usize, i: usize) -> Sums
+    requires { ⌜ Windows n i 1 (length (now f)) × (length (now g) ≡ length (now f)) ⌝ }
+    ensures { λ r. ⌜ SumsOf n (line (now (f .entry))) (line (now (g .entry))) i r ⌝ }
+{
+    Sums {
+        over: windows::sum_at(f, n, i),
+        under: windows::sum_at(g, n, i),
+    }
+}
+
+// The sums up to bar i of whole ticks, from those up to the bar before: exact, so that they are those summed afresh.
+fn slid(f: &[f64], g: &[f64], n: usize, i: usize, last: Sums) -> Sums
+    requires { ⌜ TickRows n (now f) (now g) i ⌝ }
+    requires { ⌜ SumsOf n (line (now f)) (line (now g)) (i - 1) last ⌝ }
+    ensures { λ r. ⌜ SumsOf n (line (now (f .entry))) (line (now (g .entry))) i r ⌝ }
+{
+    Sums {
+        over: last.over + (f[i] - f[i - n]),
+        under: last.under + (g[i] - g[i - n]),
+    }
+}
+
+// The cell of three windows' sums.
+fn cell_of(short: Sums, medium: Sums, long: Sums) -> f64
+    ensures { λ r. ⌜ r ≡ weighed (ratio (short .over) (short .under)) (ratio (medium .over) (medium .under))
+        (ratio (long .over) (long .under)) ⌝ }
+{
+    let a = ratio_of(short.over, short.under);
+    let b = ratio_of(medium.over, medium.under);
+    weigh(a, b, ratio_of(long.over, long.under))
+}
+
+// Writes the cells of whole ticks from bar `from` to the last, by running sums.
+fn cells_of_ticks(f: &[f64], g: &[f64], n: usize, m: usize, k: usize, from: usize, out: &mut [f64])
+    requires { ⌜ Begun n m k (now f) (now g) from (now out) × (from < length (now f)) ⌝ }
+    requires { ⌜ (all tick (now f) ≡ true) × (all tick (now g) ≡ true) ⌝ }
+    ensures { λ _. ⌜ Writing (length (now (f .entry))) (afresh n m k (now (f .entry)) (now (g .entry)))
+        (now (out .entry)) (now (out .exit)) ⌝ }
+{
+    let mut i = from;
+    let mut short = sums_at(f, g, n, i);
+    let mut medium = sums_at(f, g, m, i);
+    let mut long = sums_at(f, g, k, i);
+    while i + 1 < f.len() {
+        out[i] = cell_of(short, medium, long);
+        i += 1;
+        short = slid(f, g, n, i, short);
+        medium = slid(f, g, m, i, medium);
+        long = slid(f, g, k, i, long);
+    }
+    out[i] = cell_of(short, medium, long);
+}
+
+// Writes the cells from bar `from` to the last, each window summed afresh.
+fn cells_afresh(f: &[f64], g: &[f64], n: usize, m: usize, k: usize, from: usize, out: &mut [f64])
+    requires { ⌜ Begun n m k (now f) (now g) from (now out) ⌝ }
+    ensures { λ _. ⌜ Writing (length (now (f .entry))) (afresh n m k (now (f .entry)) (now (g .entry)))
+        (now (out .entry)) (now (out .exit)) ⌝ }
+{
+    let few = cells_by_sixteen(f, g, n, m, k, from, out);
+    cells_by_one(f, g, n, m, k, few, out);
+}
+
+// Writes the cells from bar `from` to the last: by running sums where both rows are whole ticks and a window is long.
+fn cells_from(f: &[f64], g: &[f64], n: usize, m: usize, k: usize, from: usize, out: &mut [f64])
+    requires { ⌜ Begun n m k (now f) (now g) from (now out) ⌝ }
+    ensures { λ _. ⌜ Writing (length (now (f .entry))) (afresh n m k (now (f .entry)) (now (g .entry)))
+        (now (out .entry)) (now (out .exit)) ⌝ }
+{
+    if from < f.len() {
+        if window_means::are_long_ticks(f, from) {
+            if window_means::are_long_ticks(g, from) {
+                cells_of_ticks(f, g, n, m, k, from, out);
+                return;
+            }
+        }
+    }
+    cells_afresh(f, g, n, m, k, from, out);
+}
+
 // Writes the cells of every bar from a row of pressures and one of ranges.
 fn write_shares(f: &[f64], g: &[f64], n: usize, m: usize, k: usize, out: &mut [f64])
     requires { ⌜ Windows₃ n m k (now f) (now g) × (length (now f) ≤ length (now out)) ⌝ }
@@ -213,8 +303,7 @@ fn write_shares(f: &[f64], g: &[f64], n: usize, m: usize, k: usize, out: &mut [f
         (now (out .entry)) (now (out .exit)) ⌝ }
 {
     let first = averages::fill_nan(out, longest(n, m, k) - 1, f.len());
-    let few = cells_by_sixteen(f, g, n, m, k, first, out);
-    cells_by_one(f, g, n, m, k, few, out);
+    cells_from(f, g, n, m, k, first, out);
 }
 
 // The same where the two rows of `bars` cells stand one after the other.
