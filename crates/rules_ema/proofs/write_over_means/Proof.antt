@@ -1,6 +1,5 @@
 -- `write_over_means` meets its contract: the means, the search among them, and the positions from the start that was
--- found.
--- Assumes nothing.
+-- found. Assumes nothing.
 use mathlib.Core.Path.{sym}
 use native.Mathlib.Omega.{arith}
 use lib.ListN.{length}
