@@ -1,2 +1,1 @@
 pub mod Causal
-pub mod Stages

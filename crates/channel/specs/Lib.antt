@@ -1,4 +1,2 @@
 -- The ultimate channel.
 pub mod Cases
-pub mod Channel
-pub mod inner

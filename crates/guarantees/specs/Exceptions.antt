@@ -15,7 +15,7 @@ use Rattle.cells.specs.Search.{firstBar}
 use Rattle.cells.specs.Shown.{prices, num}
 use Rattle.windows.specs.Window.{sumFrom, windowSum, mean}
 use Rattle.changes.specs.Changes.{change}
-use Rattle.jurik.specs.Jurik.{
+use Rattle.jurik_bar.specs.Jurik.{
   averaged,
   copied,
   firstDiffering,

@@ -21,8 +21,8 @@ use Rattle.averages_ticks.specs.TickMean.{toTick, tickMeanLine}
 use Rattle.rules_single.specs.Single.{singleLine}
 use Rattle.rules_double.specs.Double.{runningMean, doubleLine, doubleAnswer}
 use Rattle.cells.specs.Shown.{firstCells, num}
-use Rattle.rules_bands.specs.Answer.{bandAnswer}
-use Rattle.rules_bands.specs.BollReverse.{bollReverseLine, bandSignals, turnedBands}
+use Rattle.rules_bands_bar.specs.Answer.{bandAnswer}
+use Rattle.rules_bands_bar.specs.BollReverse.{bollReverseLine, bandSignals, turnedBands}
 use Rattle.rules_mms.specs.Mms.{mmsAnswer, mmsLine}
 use Rattle.rules_rank.specs.Rank.{rankLine, belowNow, wholeRank}
 use Rattle.rules_rank.specs.RollingRank.{rollingRankAnswer, rollingRankLine}

@@ -13,7 +13,7 @@ use Rattle.cells.proofs.Search.{firstBar-same}
 use Rattle.changes.proofs.Causal.{causal-change}
 use Rattle.averages_exponential.specs.Blend.{blend}
 use Rattle.averages_exponential.specs.Ema.{emaAlpha}
-use Rattle.jurik.specs.Jurik.{averaged, copied, passed, isNumber, swings, once, twice, leaned, jurikWith}
+use Rattle.jurik_bar.specs.Jurik.{averaged, copied, passed, isNumber, swings, once, twice, leaned, jurikWith}
 
 module _ (usable : Float → Bool) (none : Float) where
   pub causal-averaged : (alpha : Float) → Causal (averaged usable none alpha)

@@ -18,8 +18,8 @@ use Rattle.cells.proofs.Touched.{touched, untouched}
 use Rattle.cells.proofs.Written.{writing-same}
 use Rattle.averages_exponential.specs.Blend.{blend}
 use Rattle.averages_exponential.specs.Ema.{emaAlpha}
-use Rattle.jurik.specs.Jurik.{averaged, alike, isNumber, swings, once, twice, lean, leaned, jurikWith, jurikLine}
-use Rattle.jurik.specs.inner.Passes.{
+use Rattle.jurik_bar.specs.Jurik.{averaged, alike, isNumber, swings, once, twice, lean, leaned, jurikWith, jurikLine}
+use Rattle.jurik_bar.specs.inner.Passes.{
   differs,
   tested,
   blendedOnce,
@@ -30,7 +30,7 @@ use Rattle.jurik.specs.inner.Passes.{
   BothAverage,
 }
 use Rattle.jurik.proofs.Causal.{causal-averaged, causal-leaned}
-use Rattle.jurik.proofs.Passes.{differing-is, differing-same, averaged-is}
+use Rattle.jurik_bar.proofs.Passes.{differing-is, differing-same, averaged-is}
 use Rattle.jurik.proofs.Stages.{local-causal}
 
 -- ---- what the loops find

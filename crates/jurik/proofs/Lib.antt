@@ -1,4 +1,3 @@
 pub mod Causal
 pub mod Fused
-pub mod Passes
 pub mod Stages

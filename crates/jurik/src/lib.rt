@@ -4,18 +4,15 @@ use calls::Refusal;
 ghost use mathlib.Core.Path.{_≡_};
 ghost use mathlib.Core.Bool.{true};
 ghost use Prim.Native.Nat.{_<_, _≤_};
-ghost use lib.Dec.{ltb};
 ghost use lib.ListN.{length};
-ghost use lib.Ieee.{nan};
 ghost use Rattle.cells.specs.Line.{line, plusZero};
-ghost use Rattle.cells.specs.Search.{firstBar, nonZero};
+ghost use Rattle.cells.specs.Search.{nonZero};
 ghost use Rattle.cells.specs.Written.{Writing};
 ghost use Rattle.cells.specs.Recur.{carried};
 ghost use Rattle.averages_exponential.specs.Blend.{blend};
-ghost use Rattle.jurik.specs.Jurik.{
+ghost use Rattle.jurik_bar.specs.Jurik.{
   isNumber,
   copied,
-  firstDiffering,
   swings,
   lean,
   leaned,
@@ -23,7 +20,7 @@ ghost use Rattle.jurik.specs.Jurik.{
   jurikAnswer,
   JurikCall,
 };
-ghost use Rattle.jurik.specs.inner.Passes.{
+ghost use Rattle.jurik_bar.specs.inner.Passes.{
   usableBy,
   noneBy,
   differs,
@@ -56,66 +53,6 @@ fn write_swings(close: &[f64], out: &mut [f64])
     }
 }
 
-// Whether a pass takes x: a value other than 0, or a number.
-fn usable(not_zero: bool, x: f64) -> bool
-    ensures { λ r. ⌜ r ≡ usableBy «not_zero» x ⌝ }
-{
-    if not_zero {
-        return x != 0.0;
-    }
-    x == x
-}
-
-// The first bar with a usable value that is not equal to x, or the end.
-fn first_differing(cells: &[f64], bars: usize, not_zero: bool, x: f64) -> usize
-    requires { ⌜ bars ≤ length (now cells) ⌝ }
-    ensures { λ r. ⌜ r ≡ firstBar (λ j. differs (usableBy «not_zero») x (line (now (cells .entry)) j)) bars ⌝ }
-{
-    let mut i = 0;
-    while i < bars {
-        if usable(not_zero, cells[i]) & (cells[i] != x) {
-            return i;
-        }
-        i += 1;
-    }
-    i
-}
-
-// No number.
-fn no_number() -> f64
-    ensures { λ r. ⌜ r ≡ nan ⌝ }
-{
-    0.0 / 0.0
-}
-
-// The first bar with a usable value, or the end: nothing is equal to a NaN.
-fn first_usable(cells: &[f64], bars: usize, not_zero: bool) -> usize
-    requires { ⌜ bars ≤ length (now cells) ⌝ }
-    ensures { λ r. ⌜ r ≡ firstBar (λ j. usableBy «not_zero» (line (now (cells .entry)) j)) bars ⌝ }
-{
-    first_differing(cells, bars, not_zero, no_number())
-}
-
-// Whether usable values differ: `first` is the bar of the first one, or the end.
-fn unlike(cells: &[f64], bars: usize, not_zero: bool, first: usize) -> bool
-    requires { ⌜ (bars ≤ length (now cells))
-        × (first ≡ firstBar (λ j. usableBy «not_zero» (line (now cells) j)) bars) ⌝ }
-    ensures { λ r. ⌜ r ≡ ltb (firstDiffering (usableBy «not_zero») bars (line (now (cells .entry)))) bars ⌝ }
-{
-    if first < bars {
-        first_differing(cells, bars, not_zero, cells[first]) < bars
-    } else {
-        false
-    }
-}
-
-// x where it is not 0, else 0.0.
-fn kept(x: f64) -> f64
-    ensures { λ r. ⌜ r ≡ copied nonZero plusZero (λ i. x) 0 ⌝ }
-{
-    if usable(true, x) { x } else { 0.0 }
-}
-
 // Writes 0.0 over every zero.
 fn keep_nonzero(cells: &mut [f64], bars: usize)
     requires { ⌜ bars ≤ length (now cells) ⌝ }
@@ -124,7 +61,7 @@ fn keep_nonzero(cells: &mut [f64], bars: usize)
 {
     let mut i = 0;
     while i < bars {
-        cells[i] = kept(cells[i]);
+        cells[i] = jurik_bar::kept(cells[i]);
         i += 1;
     }
 }
@@ -163,8 +100,8 @@ fn pass(cells: &mut [f64], bars: usize, not_zero: bool, none: f64, alpha: f64)
     ensures { λ _. ⌜ Writing bars (tested (usableBy «not_zero») none alpha bars (line (now (cells .entry))))
         (now (cells .entry)) (now (cells .exit)) ⌝ }
 {
-    let first = first_usable(cells, bars, not_zero);
-    if unlike(cells, bars, not_zero, first) {
+    let first = jurik_bar::first_usable(cells, bars, not_zero);
+    if jurik_bar::unlike(cells, bars, not_zero, first) {
         average_from(cells, bars, first, none, alpha);
     } else {
         copy_usable(cells, bars, not_zero);
@@ -217,7 +154,7 @@ fn write_passes(close: &[f64], n: usize, power: f64, out: &mut [f64])
         (now (out .exit)) ⌝ }
 {
     let bars = close.len();
-    let none = no_number();
+    let none = jurik_bar::no_number();
     let half = 2.0 / ((n / 2 + 1) as f64);
     let third = 2.0 / ((n / 3 + 1) as f64);
     write_swings(close, out);
@@ -231,7 +168,7 @@ fn write_passes(close: &[f64], n: usize, power: f64, out: &mut [f64])
 fn differing(first: f64, x: f64) -> bool
     ensures { λ r. ⌜ r ≡ differs isNumber first x ⌝ }
 {
-    usable(false, x) & (x != first)
+    jurik_bar::usable(false, x) & (x != first)
 }
 
 // Whether the first pass averages: some change is of another size than the first.
@@ -245,7 +182,7 @@ fn uneven(close: &[f64]) -> bool
     let first = swing_at(close, 1);
     let mut i = 2;
     while i < bars {
-        if usable(false, first) & differing(first, swing_at(close, i)) {
+        if jurik_bar::usable(false, first) & differing(first, swing_at(close, i)) {
             return true;
         }
         i += 1;

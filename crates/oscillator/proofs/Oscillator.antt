@@ -22,7 +22,7 @@ use Rattle.window_laws.proofs.Zeros.{EitherZero, sums-from-either}
 use Rattle.true_range.specs.declared.CloseBefore.{CloseBefore}
 use Rattle.true_range.specs.TrueRange.{trueRanges, closeBefore}
 use Rattle.true_range.proofs.TrueRange.{Causal₃, causal-close, causal-ranges}
-use Rattle.oscillator.specs.Oscillator.{pressure, pressures, share, weighed, weighedShares, oscillatorLine}
+use Rattle.oscillator_bar.specs.Oscillator.{pressure, pressures, share, weighed, weighedShares, oscillatorLine}
 use Rattle.oscillator.specs.inner.Rows.{afresh, eachRatio, eachWeighed}
 
 -- ---- lines that agree

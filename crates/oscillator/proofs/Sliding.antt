@@ -17,7 +17,7 @@ use Rattle.windows.specs.Window.{windowSum}
 use Rattle.exact_ticks.proofs.Exact.{TickLine, window-size, sum-whole, difference-slides}
 use Rattle.exact_ticks.proofs.TickMeans.{tick-line}
 use Rattle.oscillator.specs.declared.Sums.{Sums}
-use Rattle.oscillator.specs.Oscillator.{ratio, weighed, share, weighedShares}
+use Rattle.oscillator_bar.specs.Oscillator.{ratio, weighed, share, weighedShares}
 use Rattle.oscillator.specs.inner.Sliding.{SumsOf, TickRows}
 use Rattle.oscillator.proofs.Oscillator.{cell-is}
 

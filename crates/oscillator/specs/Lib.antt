@@ -1,4 +1,3 @@
 -- The ultimate oscillator.
 pub mod Cases
-pub mod Oscillator
 pub mod inner

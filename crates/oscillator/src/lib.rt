@@ -1,6 +1,5 @@
 // The ultimate oscillator: buying pressure over true range in three windows.
 use calls::Answer;
-use true_range::CloseBefore;
 use windows::Lanes;
 use windows::Sixteen;
 ghost use mathlib.Core.Path.{_≡_};
@@ -12,8 +11,7 @@ ghost use Rattle.cells.specs.Line.{line, minusZero};
 ghost use Rattle.cells.specs.Written.{Writing};
 ghost use Rattle.cells.specs.inner.Touched.{Touched};
 ghost use Rattle.windows.specs.inner.Eight.{Windows, SixteenOf};
-ghost use Rattle.oscillator.specs.Oscillator.{
-  lastClose,
+ghost use Rattle.oscillator_bar.specs.Oscillator.{
   pressure,
   pressures,
   ratio,
@@ -38,28 +36,6 @@ ghost use Rattle.oscillator.specs.inner.Rows.{
 ghost use Rattle.oscillator.specs.inner.Sliding.{SumsOf, TickRows};
 ghost use Rattle.window_means.specs.inner.Row.{rowAt};
 
-// The close before a bar, and the bar's own where that is unknown.
-fn last_close(close: f64, before: CloseBefore) -> f64
-    ensures { λ r. ⌜ r ≡ lastClose close before ⌝ }
-{
-    let CloseBefore::Known(last) = before else {
-        return close;
-    };
-    last
-}
-
-// The buying pressure of a bar.
-fn pressure_of(low: f64, close: f64, before: CloseBefore) -> f64
-    ensures { λ r. ⌜ r ≡ pressure low close before ⌝ }
-{
-    let last = last_close(close, before);
-    if last < low {
-        close - last
-    } else {
-        close - low
-    }
-}
-
 // Writes the buying pressure of every bar.
 fn write_pressures(low: &[f64], close: &[f64], out: &mut [f64])
     requires { ⌜ (length (now low) ≡ length (now close)) × (length (now close) ≤ length (now out)) ⌝ }
@@ -68,23 +44,9 @@ fn write_pressures(low: &[f64], close: &[f64], out: &mut [f64])
 {
     let mut i = 0;
     while i < close.len() {
-        out[i] = pressure_of(low[i], close[i], true_range::close_before(close, i));
+        out[i] = oscillator_bar::pressure_of(low[i], close[i], true_range::close_before(close, i));
         i += 1;
     }
-}
-
-// x over y, and 0 where y is 0.
-fn ratio_of(x: f64, y: f64) -> f64
-    ensures { λ r. ⌜ r ≡ ratio x y ⌝ }
-{
-    if y == 0.0 { 0.0 } else { x / y }
-}
-
-// Three shares, weighed.
-fn weigh(short: f64, medium: f64, long: f64) -> f64
-    ensures { λ r. ⌜ r ≡ weighed short medium long ⌝ }
-{
-    100.0 * (4.0 * short + 2.0 * medium + long) / 7.0
 }
 
 // The longest of three windows.
@@ -100,7 +62,7 @@ fn share_at(f: &[f64], g: &[f64], n: usize, i: usize) -> f64
     requires { ⌜ Windows n i 1 (length (now f)) × (length (now g) ≡ length (now f)) ⌝ }
     ensures { λ r. ⌜ r ≡ share minusZero n (line (now (f .entry))) (line (now (g .entry))) i ⌝ }
 {
-    ratio_of(windows::sum_at(f, n, i), windows::sum_at(g, n, i))
+    oscillator_bar::ratio_of(windows::sum_at(f, n, i), windows::sum_at(g, n, i))
 }
 
 // Each lane of x over that of y.
@@ -108,14 +70,14 @@ fn ratios(x: Lanes, y: Lanes) -> Lanes
     ensures { λ r. ⌜ r ≡ eachRatio x y ⌝ }
 {
     Lanes {
-        lane0: ratio_of(x.lane0, y.lane0),
-        lane1: ratio_of(x.lane1, y.lane1),
-        lane2: ratio_of(x.lane2, y.lane2),
-        lane3: ratio_of(x.lane3, y.lane3),
-        lane4: ratio_of(x.lane4, y.lane4),
-        lane5: ratio_of(x.lane5, y.lane5),
-        lane6: ratio_of(x.lane6, y.lane6),
-        lane7: ratio_of(x.lane7, y.lane7),
+        lane0: oscillator_bar::ratio_of(x.lane0, y.lane0),
+        lane1: oscillator_bar::ratio_of(x.lane1, y.lane1),
+        lane2: oscillator_bar::ratio_of(x.lane2, y.lane2),
+        lane3: oscillator_bar::ratio_of(x.lane3, y.lane3),
+        lane4: oscillator_bar::ratio_of(x.lane4, y.lane4),
+        lane5: oscillator_bar::ratio_of(x.lane5, y.lane5),
+        lane6: oscillator_bar::ratio_of(x.lane6, y.lane6),
+        lane7: oscillator_bar::ratio_of(x.lane7, y.lane7),
     }
 }
 
@@ -124,14 +86,14 @@ fn weigh_lanes(x: Lanes, y: Lanes, z: Lanes) -> Lanes
     ensures { λ r. ⌜ r ≡ eachWeighed x y z ⌝ }
 {
     Lanes {
-        lane0: weigh(x.lane0, y.lane0, z.lane0),
-        lane1: weigh(x.lane1, y.lane1, z.lane1),
-        lane2: weigh(x.lane2, y.lane2, z.lane2),
-        lane3: weigh(x.lane3, y.lane3, z.lane3),
-        lane4: weigh(x.lane4, y.lane4, z.lane4),
-        lane5: weigh(x.lane5, y.lane5, z.lane5),
-        lane6: weigh(x.lane6, y.lane6, z.lane6),
-        lane7: weigh(x.lane7, y.lane7, z.lane7),
+        lane0: oscillator_bar::weigh(x.lane0, y.lane0, z.lane0),
+        lane1: oscillator_bar::weigh(x.lane1, y.lane1, z.lane1),
+        lane2: oscillator_bar::weigh(x.lane2, y.lane2, z.lane2),
+        lane3: oscillator_bar::weigh(x.lane3, y.lane3, z.lane3),
+        lane4: oscillator_bar::weigh(x.lane4, y.lane4, z.lane4),
+        lane5: oscillator_bar::weigh(x.lane5, y.lane5, z.lane5),
+        lane6: oscillator_bar::weigh(x.lane6, y.lane6, z.lane6),
+        lane7: oscillator_bar::weigh(x.lane7, y.lane7, z.lane7),
     }
 }
 
@@ -156,7 +118,7 @@ fn cell_at(f: &[f64], g: &[f64], n: usize, m: usize, k: usize, i: usize) -> f64
     let short = share_at(f, g, n, i);
     let medium = share_at(f, g, m, i);
     let long = share_at(f, g, k, i);
-    weigh(short, medium, long)
+    oscillator_bar::weigh(short, medium, long)
 }
 
 // The cells of the sixteen bars from i on.
@@ -243,9 +205,9 @@ fn cell_of(short: Sums, medium: Sums, long: Sums) -> f64
     ensures { λ r. ⌜ r ≡ weighed (ratio (short .over) (short .under)) (ratio (medium .over) (medium .under))
         (ratio (long .over) (long .under)) ⌝ }
 {
-    let a = ratio_of(short.over, short.under);
-    let b = ratio_of(medium.over, medium.under);
-    weigh(a, b, ratio_of(long.over, long.under))
+    let a = oscillator_bar::ratio_of(short.over, short.under);
+    let b = oscillator_bar::ratio_of(medium.over, medium.under);
+    oscillator_bar::weigh(a, b, oscillator_bar::ratio_of(long.over, long.under))
 }
 
 // Writes the cells of whole ticks from bar `from` to the last, by running sums.

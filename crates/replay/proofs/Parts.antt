@@ -12,8 +12,8 @@ use Rattle.cells.specs.Line.{Line}
 use Rattle.cells.specs.Shown.{firstCells}
 use Rattle.cells.specs.Written.{Writing}
 use Rattle.cells.proofs.Written.{read-back}
-use Rattle.replay_compare.specs.Head.{firstOf, secondOf, thirdOf, workOf, barsOf}
-use Rattle.replay_compare.specs.Left.{floats, untouched}
+use Rattle.replay_record.specs.Head.{firstOf, secondOf, thirdOf, workOf, barsOf}
+use Rattle.replay_record.specs.Left.{floats, untouched}
 use Rattle.replay_calls.specs.Called.{Called}
 use Rattle.replay.specs.Records.{WrittenOut}
 use Rattle.replay.specs.inner.Reading.{InParts}

@@ -7,7 +7,7 @@ use lib.ListN.{length}
 use lib.Seq.{slice}
 use Rattle.replay_words.specs.declared.stream.Place.{Place}
 use Rattle.replay_words.specs.inner.Blocks.{Taken}
-use Rattle.replay_compare.specs.Head.{functionOf, formOf}
+use Rattle.replay_record.specs.Head.{functionOf, formOf}
 use Rattle.replay.specs.declared.Step.{Step}
 use Rattle.replay.specs.declared.Step.the-variants.{Run, Stop}
 use Rattle.replay.specs.Records.{Stood}

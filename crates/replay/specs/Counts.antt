@@ -8,7 +8,7 @@ use lib.Seq.{slice}
 use Rattle.replay_words.specs.declared.stream.Place.{Place}
 use Rattle.replay.specs.declared.Step.{Step}
 use Rattle.replay.specs.declared.Step.the-variants.{Run, Stop}
-use Rattle.replay_compare.specs.Head.{functionOf}
+use Rattle.replay_record.specs.Head.{functionOf}
 use Rattle.replay.specs.Records.{Ran, Read}
 
 -- the next record was read and run: its function, and 1 if its call did not leave what was recorded, else 0

@@ -11,9 +11,9 @@ use Rattle.cells.specs.Line.{Line}
 use Rattle.cells.specs.Shown.{firstCells}
 use Rattle.replay_words.specs.declared.stream.Place.{Place}
 use Rattle.replay_words.specs.inner.Blocks.{Taken}
-use Rattle.replay_compare.specs.Head.{formOf, firstOf, secondOf, thirdOf, workOf, barsOf, cellsOf}
-use Rattle.replay_compare.specs.Left.{floats, untouched}
-use Rattle.replay_compare.specs.Rule.{ruled}
+use Rattle.replay_record.specs.Head.{formOf, firstOf, secondOf, thirdOf, workOf, barsOf, cellsOf}
+use Rattle.replay_record.specs.Left.{floats, untouched}
+use Rattle.replay_record.specs.Rule.{ruled}
 use Rattle.replay_calls.specs.Called.{Called}
 
 -- the series are the first cells of these lines, and every work cell is as before a call

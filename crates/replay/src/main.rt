@@ -7,7 +7,7 @@ ghost use mathlib.Core.Path.{_≡_};
 ghost use Prim.Native.Nat.{_+_, _<_};
 ghost use lib.ListN.{length};
 ghost use lib.Seq.{slice};
-ghost use Rattle.replay_compare.specs.Head.{Within, barsOf, cellsOf};
+ghost use Rattle.replay_record.specs.Head.{Within, barsOf, cellsOf};
 ghost use Rattle.replay.specs.Records.{WrittenOut, ByRule, Ran};
 ghost use Rattle.replay.specs.Counts.{Next, Counts, counted, tallied};
 ghost use Rattle.replay.specs.inner.Reading.{Parts, InParts, Short, Long, Given, Rest};
@@ -98,7 +98,7 @@ fn run_with(head: &[u64; 18], words: &mut [u64], block: &mut [u8], start: Place)
         return Step::Stop;
     }
     let place = read.place;
-    let differs = replay_compare::misses(record_agrees(head, words));
+    let differs = replay_record::misses(record_agrees(head, words));
     Step::Run {
         function: head[0],
         differs,

@@ -6,8 +6,8 @@ use Prim.Native.Nat.{ℕ}
 use lib.ListN.{length, replicate}
 use lib.Ieee.{Float}
 use Rattle.cells.specs.Written.{written, Writing}
-use Rattle.replay_compare.specs.Head.{workOf}
-use Rattle.replay_compare.specs.Left.{untouched}
+use Rattle.replay_record.specs.Head.{workOf}
+use Rattle.replay_record.specs.Left.{untouched}
 use Rattle.replay_calls.specs.Called.{Called}
 
 all-written : {A : Type 0} (x : A) (l : List A) → written (length l) (λ i. x) l ≡ replicate (length l) x

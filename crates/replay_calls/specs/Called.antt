@@ -4,7 +4,7 @@ use mathlib.Core.List.{List}
 use Prim.Native.Nat.{ℕ}
 use lib.Ieee.{Float}
 use Rattle.replay_compare.specs.Compared.{Compared}
-use Rattle.replay_compare.specs.Head.{functionOf}
+use Rattle.replay_record.specs.Head.{functionOf}
 use Rattle.replay_floats.specs.Floats.{IsFloats, FloatsCalled}
 use Rattle.replay_three.specs.Three.{IsThree, ThreeCalled}
 use Rattle.replay_wholes.specs.Wholes.{IsShorts, IsPlaces, IsWholes, ShortsCalled, PlacesCalled, WholesCalled}

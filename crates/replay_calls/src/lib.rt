@@ -1,8 +1,28 @@
 // Makes the call of a record, and says whether it left what was recorded.
+ghost use mathlib.Core.List.{List};
+ghost use Prim.Native.Nat.{_≤_};
 ghost use lib.ListN.{length, replicate};
-ghost use Rattle.replay_compare.specs.Head.{Rooms, workOf};
-ghost use Rattle.replay_compare.specs.Left.{untouched};
+ghost use lib.Ieee.{Float};
+ghost use Rattle.replay_record.specs.Head.{Rooms, functionOf, workOf};
+ghost use Rattle.replay_record.specs.Left.{untouched};
 ghost use Rattle.replay_calls.specs.Called.{Called};
+
+// The call of a function whose cells are whole numbers, by their kind.
+fn compare_wholes(head: &[u64; 18], first: &[f64], recorded: &[u64], work: &mut [f64]) -> bool
+    requires { ⌜ Rooms (now head) ⌝ }
+    ensures { λ r. ⌜ ((17 ≤ functionOf (now (head .entry))) → (functionOf (now (head .entry)) ≤ 22)
+        → (g k : List Float) → Called (now (head .entry)) (now (first .entry)) g k (now (work .entry))
+        (now (recorded .entry)) r) ⌝ }
+{
+    let function = head[0];
+    if function < 21 {
+        replay_wholes::shorts_agree(head, first, recorded, work)
+    } else if function < 22 {
+        replay_wholes::places_agree(head, first, recorded, work)
+    } else {
+        replay_wholes::wholes_agree(head, first, recorded, work)
+    }
+}
 
 // The call, by the kind of its cells.
 fn compare(
@@ -20,12 +40,8 @@ fn compare(
     let function = head[0];
     if function < 17 {
         replay_floats::floats_agree(head, first, second, third, recorded, work)
-    } else if function < 21 {
-        replay_wholes::shorts_agree(head, first, recorded, work)
-    } else if function < 22 {
-        replay_wholes::places_agree(head, first, recorded, work)
     } else if function < 23 {
-        replay_wholes::wholes_agree(head, first, recorded, work)
+        compare_wholes(head, first, recorded, work)
     } else {
         replay_three::three_agree(head, first, second, third, recorded, work)
     }
@@ -48,7 +64,7 @@ fn with_work(
     cells::fill(
         work,
         room,
-        replay_words::floats::float_of(replay_compare::UNTOUCHED),
+        replay_words::floats::float_of(replay_record::UNTOUCHED),
     );
     compare(head, first, second, third, recorded, work)
 }

@@ -10,8 +10,8 @@ use lib.ListN.{length, take, getD, length-append, length-take}
 use lib.Seq.{take-suc, take-all, take-length, take-take, take-append-seam, getD-take, getD-append-seam}
 use Rattle.replay_words.specs.Decides.{Decides}
 use Rattle.replay_compare.specs.declared.Seen.{Seen}
-use Rattle.replay_compare.specs.Left.{Told}
-use Rattle.replay_compare.specs.Rule.{digest, digestFrom, digestStep}
+use Rattle.replay_record.specs.Left.{Told}
+use Rattle.replay_record.specs.Rule.{digest, digestFrom, digestStep}
 use Rattle.replay_compare.specs.inner.CellByCell.{Sees, Shown}
 use Rattle.replay_compare.proofs.Deciding.{holds, fails}
 

@@ -13,8 +13,8 @@ use Rattle.calls.specs.Answer as answers
 use Rattle.replay_words.specs.Decides.{Decides}
 use Rattle.replay_words.specs.FloatWords.{floatWord}
 use Rattle.replay_compare.specs.Compared.{OneOutput, ThreeOutputs, Compared}
-use Rattle.replay_compare.specs.Head.{formOf, refusalOf, countOf, clearedOf}
-use Rattle.replay_compare.specs.Left.{Told, Same, worked, Ended, Left}
+use Rattle.replay_record.specs.Head.{formOf, refusalOf, countOf, clearedOf}
+use Rattle.replay_record.specs.Left.{Told, Same, worked, Ended, Left}
 
 both : {P Q : Type 0} {a b : Bool} → Decides P a → Decides Q b → Decides (P × Q) (a && b)
 both {a = true} p q = record { yes = λ e. (p .yes refl, q .yes e); no = λ t. q .no (t .1) }

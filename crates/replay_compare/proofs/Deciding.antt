@@ -8,7 +8,7 @@ use borrow.Author.Count.{below-none, below-more}
 use borrow.Author.Tests.{eq-eqb, eqb-true}
 use lib.Dec.{eqb}
 use Rattle.replay_words.specs.Decides.{Decides}
-use Rattle.replay_compare.specs.Left.{Same}
+use Rattle.replay_record.specs.Left.{Same}
 
 module _ {P : Type 0} where
   pub holds : P → Decides P true

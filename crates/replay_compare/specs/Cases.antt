@@ -2,7 +2,7 @@
 use mathlib.Core.List.{List, [], _∷_}
 use mathlib.Core.Path.{_≡_, refl}
 use Rattle.cells.specs.Shown.{firstCells, num}
-use Rattle.replay_compare.specs.Rule.{ruled, digest, digestFrom}
+use Rattle.replay_record.specs.Rule.{ruled, digest, digestFrom}
 
 rule-case : firstCells 6 ruled ≡ num 1 ∷ num 7920 ∷ num 5832 ∷ num 3744 ∷ num 1656 ∷ num 9575 ∷ []
 rule-case = refl

@@ -7,7 +7,7 @@ use lib.Ieee.{Float}
 use Rattle.calls.specs.declared.Answer.{Answer}
 use Rattle.replay_words.specs.Decides.{Decides}
 use Rattle.replay_words.specs.FloatWords.{floatWord}
-use Rattle.replay_compare.specs.Left.{Left}
+use Rattle.replay_record.specs.Left.{Left}
 
 -- a call with one output, whose cells have the words `told` after it
 pub record OneOutput {A : Type 0} (word : A → ℕ) (P : Answer → List A → List Float → Type 0) (r : Answer)

@@ -2,8 +2,5 @@
 pub mod Asked
 pub mod Cases
 pub mod Compared
-pub mod Head
-pub mod Left
-pub mod Rule
 pub mod Wholes
 pub mod inner

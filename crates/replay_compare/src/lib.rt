@@ -1,9 +1,9 @@
 // What is recorded of a call, and whether a call left that.
+
 pub mod asked;
 
 use calls::Answer;
 ghost use mathlib.Core.Path.{_≡_};
-ghost use mathlib.Core.Bool.{cond};
 ghost use mathlib.Core.List.{List, [], _∷_, _++_, map};
 ghost use Prim.Native.Nat.{ℕ, _≤_};
 ghost use lib.ListN.{length, getD};
@@ -13,9 +13,9 @@ ghost use Rattle.cells.specs.Line.{line};
 ghost use Rattle.cells.specs.Written.{Writing};
 ghost use Rattle.replay_words.specs.Decides.{Decides};
 ghost use Rattle.replay_words.specs.FloatWords.{floatWord};
-ghost use Rattle.replay_compare.specs.Head.{Within, refusalOf, countOf};
-ghost use Rattle.replay_compare.specs.Left.{Told, Same, Ended, workWord, worked, floats};
-ghost use Rattle.replay_compare.specs.Rule.{ruled, digestStep};
+ghost use Rattle.replay_record.specs.Head.{Within, refusalOf, countOf};
+ghost use Rattle.replay_record.specs.Left.{Told, Same, Ended, worked, floats};
+ghost use Rattle.replay_record.specs.Rule.{ruled, digestStep};
 ghost use Rattle.replay_compare.specs.Wholes.{wholeWord};
 ghost use Rattle.replay_compare.specs.inner.CellByCell.{Sees, Shown};
 
@@ -66,23 +66,6 @@ fn same_answer(head: &[u64; 18], answer: Answer) -> bool
     }
     true
 }
-
-// How often a call differs.
-pub fn misses(same: bool) -> u64
-    ensures { λ r. ⌜ r ≡ cond same 0 1 ⌝ }
-{
-    if same { 0 } else { 1 }
-}
-
-// What every output and work cell holds before a call: the pattern of -987654321.125, and a whole number where cells
-// are.
-pub const UNTOUCHED: u64 = 0xc1cd_6f34_5890_0000;
-
-pub const UNTOUCHED_WHOLE: i64 = -987654321;
-
-pub const UNTOUCHED_SHORT: i32 = -987654321;
-
-pub const UNTOUCHED_PLACE: u64 = 0xffff_ffff_c521_974f;
 
 // What is known of the cells that were compared: whether their words are the first of the recorded ones, and then where
 // the next word stands; and their digest.
@@ -253,20 +236,13 @@ pub fn same_bands(form: u64, middle: &[f64], upper: &[f64], lower: &[f64], recor
     all_same(form, see_floats(two, lower, recorded), recorded)
 }
 
-// What work cell i holds after a call that cleared the first cells.
-fn work_word(cleared: u64, i: usize) -> u64
-    ensures { λ r. ⌜ r ≡ workWord cleared i ⌝ }
-{
-    if (i as u64) < cleared { 0 } else { UNTOUCHED }
-}
-
 // Whether the first cells of a work slice hold +0.0 and the others what they held before.
 fn same_work(work: &[f64], cleared: u64) -> bool
     ensures { λ r. ⌜ Decides (Same (length (now (work .entry))) (line (now (work .entry))) (worked cleared)) r ⌝ }
 {
     let mut i = 0;
     while i < work.len() {
-        if replay_words::floats::is_float_of(work[i], work_word(cleared, i)) {
+        if replay_words::floats::is_float_of(work[i], replay_record::work_word(cleared, i)) {
             i += 1;
         } else {
             return false;

@@ -13,8 +13,8 @@ use Rattle.averages_wilder.specs.WilderRsi.{WilderRsiCall}
 use Rattle.true_range.specs.TrueRange.{TrueRangeCall}
 use Rattle.smoother.specs.Smoother.{UltimateSmootherCall}
 use Rattle.rsx.specs.Rsx.{RsxCall}
-use Rattle.jurik.specs.Jurik.{JurikCall}
-use Rattle.oscillator.specs.Oscillator.{OscillatorCall}
+use Rattle.jurik_bar.specs.Jurik.{JurikCall}
+use Rattle.oscillator_bar.specs.Oscillator.{OscillatorCall}
 use Rattle.holt_winters.specs.HoltWinters.{HoltWintersCall}
 use Rattle.rules_single.specs.Single.{SingleCall}
 use Rattle.rules_double.specs.Double.{DoubleCall}
@@ -26,8 +26,8 @@ use Rattle.replay_words.specs.FloatWords.{floatWord}
 use Rattle.replay_compare.specs.declared.asked.Parameters.{Parameters}
 use Rattle.replay_compare.specs.Asked.{asked}
 use Rattle.replay_compare.specs.Compared.{OneOutput}
-use Rattle.replay_compare.specs.Head.{outOf}
-use Rattle.replay_compare.specs.Left.{untouched}
+use Rattle.replay_record.specs.Head.{outOf}
+use Rattle.replay_record.specs.Left.{untouched}
 
 -- the numbers of the functions with no work slice, of the rules, of the indicators, and of all of them
 abbrev pub Plain : ℕ → Type 0

@@ -6,7 +6,7 @@ ghost use mathlib.Core.Path.{_≡_};
 ghost use Prim.Native.Nat.{_≤_};
 ghost use Rattle.replay_words.specs.FloatWords.{floatWord};
 ghost use Rattle.replay_compare.specs.Compared.{OneOutput, Compared};
-ghost use Rattle.replay_compare.specs.Head.{functionOf, outOf};
+ghost use Rattle.replay_record.specs.Head.{functionOf, outOf};
 ghost use Rattle.replay_floats.specs.Floats.{
   Plain,
   Rule,
@@ -135,7 +135,7 @@ pub fn floats_agree(
         (now (recorded .entry)) r) ⌝ }
 {
     let cells = head[11] as usize;
-    let mut out = [replay_words::floats::float_of(replay_compare::UNTOUCHED); 65537];
+    let mut out = [replay_words::floats::float_of(replay_record::UNTOUCHED); 65537];
     floats_left(
         head,
         replay_compare::asked::parameters_of(head),

@@ -8,8 +8,8 @@ use lib.Ieee.{Float}
 use Rattle.replay_compare.specs.declared.asked.Parameters.{Parameters}
 use Rattle.replay_compare.specs.Asked.{asked}
 use Rattle.replay_compare.specs.Compared.{ThreeOutputs, Compared}
-use Rattle.replay_compare.specs.Head.{functionOf, outOf, upperOf, lowerOf}
-use Rattle.replay_compare.specs.Left.{untouched}
+use Rattle.replay_record.specs.Head.{functionOf, outOf, upperOf, lowerOf}
+use Rattle.replay_record.specs.Left.{untouched}
 use Rattle.replay_compare.proofs.Comparing.{take-replicate}
 use Rattle.replay_three.specs.Three.{IsThree, ThreeCall, ThreeCalled}
 

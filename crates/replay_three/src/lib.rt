@@ -3,7 +3,7 @@
 use calls::Answer;
 use replay_compare::asked::Parameters;
 ghost use Rattle.replay_compare.specs.Compared.{ThreeOutputs, Compared};
-ghost use Rattle.replay_compare.specs.Head.{Rooms, functionOf};
+ghost use Rattle.replay_record.specs.Head.{Rooms, functionOf};
 ghost use Rattle.replay_three.specs.Three.{IsThree, ThreeCall, ThreeCalled};
 
 fn answer_three(
@@ -76,7 +76,7 @@ pub fn three_agree(
     let one = head[11] as usize;
     let two = head[12] as usize;
     let three = head[13] as usize;
-    let untouched = replay_words::floats::float_of(replay_compare::UNTOUCHED);
+    let untouched = replay_words::floats::float_of(replay_record::UNTOUCHED);
     let mut middle = [untouched; 65537];
     let mut upper = [untouched; 65537];
     let mut lower = [untouched; 65537];

@@ -8,15 +8,15 @@ use lib.ListN.{replicate}
 use lib.Ieee.{Float}
 use Rattle.calls.specs.declared.Answer.{Answer}
 use Rattle.averages_ticks.specs.TickMean.{TickMeanCall}
-use Rattle.rules_bands.specs.Boll.{BollCall}
-use Rattle.rules_bands.specs.BollReverse.{BollReverseCall}
+use Rattle.rules_bands_bar.specs.Boll.{BollCall}
+use Rattle.rules_bands_bar.specs.BollReverse.{BollReverseCall}
 use Rattle.rules_rank.specs.RollingRank.{RollingRankCall}
-use Rattle.rules_rsi.specs.RsiReverse.{RsiReverseCall}
-use Rattle.rules_triple.specs.Triple.{TripleCall}
+use Rattle.rules_rsi_bar.specs.RsiReverse.{RsiReverseCall}
+use Rattle.rules_triple_bar.specs.Triple.{TripleCall}
 use Rattle.replay_compare.specs.declared.asked.Parameters.{Parameters}
 use Rattle.replay_compare.specs.Asked.{asked}
 use Rattle.replay_compare.specs.Compared.{OneOutput}
-use Rattle.replay_compare.specs.Head.{outOf}
+use Rattle.replay_record.specs.Head.{outOf}
 use Rattle.replay_compare.specs.Wholes.{wholeWord}
 
 -- the numbers of the functions whose cells are i32, u64 and i64

@@ -4,7 +4,7 @@ use calls::Answer;
 use replay_compare::asked::Parameters;
 ghost use Prim.Native.Nat.{_≤_};
 ghost use Rattle.replay_compare.specs.Compared.{OneOutput, Compared};
-ghost use Rattle.replay_compare.specs.Head.{functionOf, outOf};
+ghost use Rattle.replay_record.specs.Head.{functionOf, outOf};
 ghost use Rattle.replay_compare.specs.Wholes.{wholeWord};
 ghost use Rattle.replay_wholes.specs.Wholes.{
   IsShorts,
@@ -56,7 +56,7 @@ pub fn shorts_agree(head: &[u64; 18], first: &[f64], recorded: &[u64], work: &mu
         (now (first .entry)) (now (work .entry))) (now (head .entry)) (now (recorded .entry)) r) ⌝ }
 {
     let cells = head[11] as usize;
-    let mut out = [replay_compare::UNTOUCHED_SHORT; 65537];
+    let mut out = [replay_record::UNTOUCHED_SHORT; 65537];
     shorts_left(
         head,
         replay_compare::asked::parameters_of(head),
@@ -101,7 +101,7 @@ pub fn places_agree(head: &[u64; 18], first: &[f64], recorded: &[u64], work: &mu
         (now (first .entry)) (now (work .entry))) (now (head .entry)) (now (recorded .entry)) r) ⌝ }
 {
     let cells = head[11] as usize;
-    let mut out = [replay_compare::UNTOUCHED_PLACE; 65537];
+    let mut out = [replay_record::UNTOUCHED_PLACE; 65537];
     places_left(
         head,
         replay_compare::asked::parameters_of(head),
@@ -146,7 +146,7 @@ pub fn wholes_agree(head: &[u64; 18], first: &[f64], recorded: &[u64], work: &mu
         (now (first .entry)) (now (work .entry))) (now (head .entry)) (now (recorded .entry)) r) ⌝ }
 {
     let cells = head[11] as usize;
-    let mut out = [replay_compare::UNTOUCHED_WHOLE; 65537];
+    let mut out = [replay_record::UNTOUCHED_WHOLE; 65537];
     wholes_left(
         head,
         replay_compare::asked::parameters_of(head),

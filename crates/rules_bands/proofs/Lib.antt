@@ -1,4 +1,1 @@
-pub mod Bands
-pub mod Guess
-pub mod Narrow
 pub mod Open

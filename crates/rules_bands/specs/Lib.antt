@@ -1,6 +1,2 @@
 -- Both Bollinger rules.
-pub mod Answer
-pub mod Boll
-pub mod BollReverse
 pub mod Cases
-pub mod inner

@@ -1,3 +1,1 @@
-pub mod Index
 pub mod Open
-pub mod Rows

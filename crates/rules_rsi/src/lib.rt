@@ -11,17 +11,20 @@ ghost use Rattle.cells.specs.Written.{Writing};
 ghost use Rattle.cells.specs.inner.Touched.{Touched};
 ghost use Rattle.windows.specs.Window.{mean};
 ghost use Rattle.checks.specs.inner.Due.{Priced};
-ghost use Rattle.rules_held.specs.Held.{moved};
-ghost use Rattle.rules_rsi.specs.RsiReverse.{
-  changesBefore,
+ghost use Rattle.rules_rsi_bar.specs.RsiReverse.{
   rsiBefore,
-  opensAt,
-  turnsAt,
   turned,
   rsiReverseLine,
   rsiReverseAnswer,
 };
-ghost use Rattle.rules_rsi.specs.inner.Stages.{part, withParts, Changed, indexBy, eachIndex, Begun, Further};
+ghost use Rattle.rules_rsi_bar.specs.inner.Stages.{
+  part,
+  withParts,
+  Changed,
+  eachIndex,
+  Begun,
+  Further,
+};
 
 // The answer: refusal 6 for the levels comes after the series' own refusals, and before those of the window.
 pub fn answer_rsi_reverse(
@@ -81,60 +84,20 @@ fn write_changes(series: &[f64], n: usize, work: &mut [f64])
     write_parts(work, 2 * bars, bars, true);
 }
 
-// The index of two sums of changes: 100 where there are no losses.
-fn index_by(up: f64, down: f64, count: f64) -> f64
-    ensures { λ r. ⌜ r ≡ indexBy count up down ⌝ }
-{
-    if down == 0.0 {
-        100.0
-    } else {
-        changes::strength(up / count, down / count)
-    }
-}
-
 // The same for eight bars side by side.
 fn index_of_eight(up: Lanes, down: Lanes, count: f64) -> Lanes
     ensures { λ r. ⌜ r ≡ eachIndex count up down ⌝ }
 {
     Lanes {
-        lane0: index_by(up.lane0, down.lane0, count),
-        lane1: index_by(up.lane1, down.lane1, count),
-        lane2: index_by(up.lane2, down.lane2, count),
-        lane3: index_by(up.lane3, down.lane3, count),
-        lane4: index_by(up.lane4, down.lane4, count),
-        lane5: index_by(up.lane5, down.lane5, count),
-        lane6: index_by(up.lane6, down.lane6, count),
-        lane7: index_by(up.lane7, down.lane7, count),
+        lane0: rules_rsi_bar::index_by(up.lane0, down.lane0, count),
+        lane1: rules_rsi_bar::index_by(up.lane1, down.lane1, count),
+        lane2: rules_rsi_bar::index_by(up.lane2, down.lane2, count),
+        lane3: rules_rsi_bar::index_by(up.lane3, down.lane3, count),
+        lane4: rules_rsi_bar::index_by(up.lane4, down.lane4, count),
+        lane5: rules_rsi_bar::index_by(up.lane5, down.lane5, count),
+        lane6: rules_rsi_bar::index_by(up.lane6, down.lane6, count),
+        lane7: rules_rsi_bar::index_by(up.lane7, down.lane7, count),
     }
-}
-
-// How many changes of means there are at the n bars before bar i.
-fn changes_before(n: usize, i: usize) -> usize
-    ensures { λ r. ⌜ r ≡ changesBefore n i ⌝ }
-{
-    if i < n {
-        return 0;
-    }
-    cells::smaller(i - n, n)
-}
-
-// The index at bar i: NaN where there are fewer than n - 1 changes, and 100 where none are needed.
-fn index_at(series: &[f64], n: usize, i: usize, work: &[f64]) -> f64
-    requires { ⌜ Window n × (i < length (now series)) ⌝ }
-    requires { ⌜ Changed n (now series) (now work) ⌝ }
-    ensures { λ r. ⌜ r ≡ rsiBefore n (mean n (line (now (series .entry)))) i ⌝ }
-{
-    let count = changes_before(n, i);
-    if count < n - 1 {
-        return 0.0 / 0.0;
-    }
-    if count == 0 {
-        return 100.0;
-    }
-    let bars = series.len();
-    let up = windows::sum_at(work, count, bars + i - 1);
-    let down = windows::sum_at(work, count, 2 * bars + i - 1);
-    index_by(up, down, count as f64)
 }
 
 // Writes the indexes of the sixteen bars from bar i on, which have n changes each, to the first row.
@@ -162,7 +125,7 @@ fn write_some(series: &[f64], n: usize, i: usize, work: &mut [f64]) -> usize
         write_sixteen(series, n, i, work);
         16
     } else {
-        work[i] = index_at(series, n, i, work);
+        work[i] = rules_rsi_bar::index_at(series, n, i, work);
         1
     }
 }
@@ -179,27 +142,6 @@ fn write_indexes(series: &[f64], n: usize, work: &mut [f64])
     }
 }
 
-// What a flat position opens: long below `lower`, else short above `upper`.
-fn opens_at(x: f64, upper: f64, lower: f64) -> i32
-    ensures { λ r. ⌜ r ≡ opensAt upper lower x ⌝ }
-{
-    if x < lower {
-        return 1;
-    }
-    if x > upper {
-        return -1;
-    }
-    0
-}
-
-// The position after a bar, by its index.
-fn turned_by(position: i32, x: f64, upper: f64, lower: f64, exit: f64) -> i32
-    ensures { λ r. ⌜ r ≡ moved position (turnsAt upper lower exit x) ⌝ }
-{
-    let opens = opens_at(x, upper, lower);
-    rules_held::move_position(position, opens, x > exit, x < exit)
-}
-
 // Writes each bar's position by the indexes.
 fn write_turned(indexes: &[f64], upper: f64, lower: f64, exit: f64, out: &mut [i32])
     requires { ⌜ length (now indexes) ≤ length (now out) ⌝ }
@@ -209,7 +151,7 @@ fn write_turned(indexes: &[f64], upper: f64, lower: f64, exit: f64, out: &mut [i
     let mut position = 0;
     let mut i = 0;
     while i < indexes.len() {
-        position = turned_by(position, indexes[i], upper, lower, exit);
+        position = rules_rsi_bar::turned_by(position, indexes[i], upper, lower, exit);
         out[i] = position;
         i += 1;
     }

@@ -1,4 +1,3 @@
 -- The triple rule: what it answers and writes.
 pub mod Cases
-pub mod Triple
 pub mod inner

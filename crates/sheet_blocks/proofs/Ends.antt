@@ -10,7 +10,7 @@ use Rattle.sheet_requests.specs.declared.Counts.{Counts}
 use Rattle.sheet_requests.specs.Counts.{afterBroken, closing}
 use Rattle.sheet_requests.specs.Sheet.{State, waiting, collecting, stopped, broken, lines, ending, outcome}
 use Rattle.sheet_blocks.specs.declared.Sheet.{Sheet}
-use Rattle.sheet_blocks.specs.declared.Status.{Status}
+use Rattle.sheet_status.specs.declared.Status.{Status}
 use Rattle.sheet_blocks.specs.Whole.{last}
 use Rattle.sheet_blocks.specs.inner.Block.{Finished}
 use Rattle.sheet_blocks.proofs.Lines.{short-line, outcome-stopped}

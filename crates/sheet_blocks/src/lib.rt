@@ -5,6 +5,7 @@ use sheet_lines::Header;
 use sheet_lines::Request;
 use sheet_requests::CLOSING_BYTES;
 use sheet_requests::Counts;
+use sheet_status::Status;
 ghost use mathlib.Core.Path.{_≡_};
 ghost use mathlib.Core.List.{_++_, List};
 ghost use Prim.Native.Nat.{_<_, _≤_, _+_, _-_, _*_};
@@ -50,15 +51,6 @@ pub struct Run {
     pub at: usize,
     pub got: usize,
     pub whole: bool,
-}
-
-// How the program stands: it reads on; all is read, to the end of the
-// input or to a line that broke its columns; or a read or a write failed.
-pub enum Status {
-    Reading,
-    Done,
-    ReadFailed,
-    WriteFailed,
 }
 
 // Reads prices from `at` on until the request has all or too few bytes are left.

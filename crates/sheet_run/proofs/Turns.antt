@@ -9,8 +9,8 @@ use lib.Ieee.{Float}
 use Rattle.sheet_blocks.specs.declared.Stage.{Stage}
 use Rattle.sheet_blocks.specs.declared.Stage.the-variants.{Waiting, Collecting, Stopped}
 use Rattle.sheet_blocks.specs.declared.Sheet.{Sheet}
-use Rattle.sheet_blocks.specs.declared.Status.{Status}
-use Rattle.sheet_blocks.specs.declared.Status.the-variants.{Reading, Done, ReadFailed, WriteFailed}
+use Rattle.sheet_status.specs.declared.Status.{Status}
+use Rattle.sheet_status.specs.declared.Status.the-variants.{Reading, Done, ReadFailed, WriteFailed}
 use Rattle.sheet_requests.specs.Sheet.{State}
 use Rattle.sheet_blocks.specs.Whole.{Reached, last}
 use Rattle.sheet_blocks.specs.inner.Place.{stateOf, due}

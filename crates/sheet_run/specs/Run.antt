@@ -7,8 +7,8 @@ use lib.IntN.{ℤ, pos, negsuc}
 use Rattle.sheet_requests.specs.Sheet.{State, sheet}
 use Rattle.sheet_blocks.specs.declared.Stage.{Stage}
 use Rattle.sheet_blocks.specs.declared.Stage.the-variants.{Waiting, Collecting, Stopped}
-use Rattle.sheet_blocks.specs.declared.Status.{Status}
-use Rattle.sheet_blocks.specs.declared.Status.the-variants.{Reading, Done, ReadFailed, WriteFailed}
+use Rattle.sheet_status.specs.declared.Status.{Status}
+use Rattle.sheet_status.specs.declared.Status.the-variants.{Reading, Done, ReadFailed, WriteFailed}
 use Rattle.sheet_blocks.specs.Whole.{Reached}
 use Rattle.sheet_run.specs.declared.Input.{Input}
 use Rattle.sheet_run.specs.declared.Input.the-variants.{Came, Ended, Failed}

@@ -7,7 +7,7 @@ use Rattle.cells.specs.Search.{nonZero}
 use Rattle.cells.specs.Written.{Writing}
 use Rattle.cells.proofs.Written.{none-written, one-more, ends}
 use Rattle.cells.proofs.Leads.{not-yet}
-use Rattle.jurik.specs.Jurik.{copied}
+use Rattle.jurik_bar.specs.Jurik.{copied}
 use Rattle.jurik.proofs.keep_nonzero.Statement.{statement}
 use Rattle.jurik.proofs.keep_nonzero.Tie as tie
 

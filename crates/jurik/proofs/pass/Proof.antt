@@ -3,7 +3,7 @@ use mathlib.Core.Path.{sym, _∙_}
 use native.Mathlib.Omega.{arith}
 use borrow.Author.Needs.{needs}
 use Rattle.cells.proofs.Written.{writing-same}
-use Rattle.jurik.proofs.Passes.{differing-inside, tested-averages, tested-copies}
+use Rattle.jurik_bar.proofs.Passes.{differing-inside, tested-averages, tested-copies}
 use Rattle.jurik.proofs.pass.Statement.{statement}
 use Rattle.jurik.proofs.pass.Tie as tie
 

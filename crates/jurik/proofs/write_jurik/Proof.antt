@@ -11,7 +11,7 @@ use Rattle.cells.proofs.Touched.{written-over-all}
 use Rattle.cells.proofs.Written.{writing-same}
 use Rattle.windows.proofs.Window.{count-is-float}
 use Rattle.averages_exponential.specs.Ema.{emaAlpha}
-use Rattle.jurik.specs.inner.Passes.{tested}
+use Rattle.jurik_bar.specs.inner.Passes.{tested}
 use Rattle.jurik.proofs.Fused.{averages-then}
 use Rattle.jurik.proofs.Stages.{next-stage, local-tested}
 use Rattle.jurik.proofs.write_jurik.Statement.{statement}

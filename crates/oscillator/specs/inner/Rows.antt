@@ -10,7 +10,7 @@ use Rattle.values.specs.Accepted.{accepted, all}
 use Rattle.cells.specs.Line.{Line, line, minusZero}
 use Rattle.cells.specs.Written.{Writing}
 use Rattle.windows.specs.declared.Lanes.{Lanes}
-use Rattle.oscillator.specs.Oscillator.{ratio, weighed, weighedShares}
+use Rattle.oscillator_bar.specs.Oscillator.{ratio, weighed, weighedShares}
 
 -- three series of one length with accepted values, three windows, a cell for each bar, and eight rows of work cells
 pub record Ready (high low close : List Float) (n m k out work : ℕ) : Type 0 where

@@ -2,7 +2,7 @@
 use mathlib.Core.Path.{refl}
 use native.Mathlib.Omega.{arith}
 use borrow.Author.Needs.{needs}
-use Rattle.replay_compare.specs.Rule.{ruled}
+use Rattle.replay_record.specs.Rule.{ruled}
 use Rattle.replay.proofs.Parts.{cut}
 use Rattle.replay.proofs.with_rule.Statement.{statement}
 use Rattle.replay.proofs.with_rule.Tie as tie

@@ -8,7 +8,7 @@ use lib.Ieee.{Float}
 use Rattle.replay_words.specs.declared.stream.Place.{Place}
 use Rattle.replay.specs.declared.Step.{Step}
 use Rattle.replay.specs.declared.Step.the-variants.{Run, Stop}
-use Rattle.replay_compare.specs.Head.{
+use Rattle.replay_record.specs.Head.{
   functionOf,
   formOf,
   firstOf,
@@ -20,7 +20,7 @@ use Rattle.replay_compare.specs.Head.{
   Within,
   Rooms,
 }
-use Rattle.replay_compare.specs.Left.{untouched}
+use Rattle.replay_record.specs.Left.{untouched}
 use Rattle.replay_calls.specs.Called.{Called}
 use Rattle.replay.specs.Records.{Ran, Stood}
 

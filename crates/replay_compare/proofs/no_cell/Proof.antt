@@ -1,6 +1,6 @@
 -- `no_cell` meets its contract: of no words all are recorded. Assumes nothing.
 use mathlib.Core.Path.{refl}
-use Rattle.replay_compare.specs.Rule.{digestFrom}
+use Rattle.replay_record.specs.Rule.{digestFrom}
 use Rattle.replay_compare.proofs.Deciding.{holds}
 use Rattle.replay_compare.proofs.no_cell.Statement.{statement}
 use Rattle.replay_compare.proofs.no_cell.Tie as tie

@@ -5,7 +5,7 @@ use borrow.Author.Needs.{needs}
 use lib.ListN.{length}
 use Rattle.cells.specs.Written.{Writing}
 use Rattle.cells.proofs.Written.{none-written, one-more, ends}
-use Rattle.replay_compare.specs.Left.{floats}
+use Rattle.replay_record.specs.Left.{floats}
 use Rattle.replay_compare.proofs.write_floats.Statement.{statement}
 use Rattle.replay_compare.proofs.write_floats.Tie as tie
 

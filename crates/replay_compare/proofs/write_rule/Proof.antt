@@ -9,7 +9,7 @@ use lib.Ieee.{binary64, inFloat}
 use lib.ListN.{length}
 use Rattle.cells.specs.Written.{Writing}
 use Rattle.cells.proofs.Written.{none-written, one-more, ends}
-use Rattle.replay_compare.specs.Rule.{ruled}
+use Rattle.replay_record.specs.Rule.{ruled}
 use Rattle.replay_compare.proofs.write_rule.Statement.{statement}
 use Rattle.replay_compare.proofs.write_rule.Tie as tie
 

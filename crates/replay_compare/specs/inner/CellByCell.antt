@@ -6,7 +6,7 @@ use Prim.Native.Nat.{ℕ}
 use lib.ListN.{length, take}
 use Rattle.replay_words.specs.Decides.{Decides}
 use Rattle.replay_compare.specs.declared.Seen.{Seen}
-use Rattle.replay_compare.specs.Rule.{digest}
+use Rattle.replay_record.specs.Rule.{digest}
 
 -- s was made of the words l: whether they are the first of the recorded ones, where the next one stands, and their
 -- digest

@@ -4,8 +4,8 @@ use native.Mathlib.Omega.{arith}
 use borrow.Author.Needs.{needs}
 use Rattle.cells.proofs.Parts.{part-long, through}
 use Rattle.cells.proofs.Touched.{touched}
-use Rattle.rules_bands.specs.Boll.{outsideBands}
-use Rattle.rules_bands.proofs.Bands.{causal-outside}
+use Rattle.rules_bands_bar.specs.Boll.{outsideBands}
+use Rattle.rules_bands_bar.proofs.Bands.{causal-outside}
 use Rattle.rules_bands.proofs.write_boll.Statement.{statement}
 use Rattle.rules_bands.proofs.write_boll.Tie as tie
 

@@ -7,7 +7,7 @@ use Rattle.cells.specs.Line.{line}
 use Rattle.cells.specs.Written.{Writing}
 use Rattle.cells.proofs.Leads.{lead-stands, lead-then}
 use Rattle.cells.proofs.Written.{stands, then-written}
-use Rattle.rules_bands.specs.Boll.{outsideBands}
+use Rattle.rules_bands_bar.specs.Boll.{outsideBands}
 use Rattle.rules_bands.proofs.write_outside.Statement.{statement}
 use Rattle.rules_bands.proofs.write_outside.Tie as tie
 

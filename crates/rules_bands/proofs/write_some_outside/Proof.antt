@@ -11,8 +11,8 @@ use mir.ValLaws.{toZ-ofZ}
 use Rattle.cells.specs.Line.{line}
 use Rattle.cells.specs.Written.{Writing}
 use Rattle.cells.proofs.Written.{step, ends, read-back}
-use Rattle.rules_bands.specs.Boll.{outsideBands}
-use Rattle.rules_bands.proofs.Bands.{outside-at}
+use Rattle.rules_bands_bar.specs.Boll.{outsideBands}
+use Rattle.rules_bands_bar.proofs.Bands.{outside-at}
 use Rattle.rules_bands.proofs.write_some_outside.Statement.{statement}
 use Rattle.rules_bands.proofs.write_some_outside.Tie as tie
 

@@ -15,8 +15,8 @@ use Rattle.cells.specs.inner.Recurring.{Recurring}
 use Rattle.cells.proofs.Written.{step, ends, read-back}
 use Rattle.rules_held.specs.Held.{flat, moved}
 use Rattle.rules_held.proofs.Holding.{held-on}
-use Rattle.rules_bands.specs.BollReverse.{bandSignals, turnedBands}
-use Rattle.rules_bands.proofs.Bands.{turns-at, held-before}
+use Rattle.rules_bands_bar.specs.BollReverse.{bandSignals, turnedBands}
+use Rattle.rules_bands_bar.proofs.Bands.{turns-at, held-before}
 use Rattle.rules_bands.proofs.write_some_turned.Statement.{statement}
 use Rattle.rules_bands.proofs.write_some_turned.Tie as tie
 

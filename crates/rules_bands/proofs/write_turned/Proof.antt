@@ -8,7 +8,7 @@ use Rattle.cells.specs.Written.{Writing}
 use Rattle.cells.proofs.Leads.{lead-then}
 use Rattle.cells.proofs.Written.{stands, then-written}
 use Rattle.rules_held.proofs.Holding.{flat-stands}
-use Rattle.rules_bands.specs.BollReverse.{bandSignals, turnedBands}
+use Rattle.rules_bands_bar.specs.BollReverse.{bandSignals, turnedBands}
 use Rattle.rules_bands.proofs.write_turned.Statement.{statement}
 use Rattle.rules_bands.proofs.write_turned.Tie as tie
 

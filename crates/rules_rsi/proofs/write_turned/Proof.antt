@@ -14,7 +14,7 @@ use Rattle.cells.proofs.Recur.{no-step, one-step}
 use Rattle.cells.proofs.Written.{none-written, one-more, ends}
 use Rattle.rules_held.specs.Held.{flat, moved}
 use Rattle.rules_held.proofs.Holding.{held-at}
-use Rattle.rules_rsi.specs.RsiReverse.{turnsAt, turned}
+use Rattle.rules_rsi_bar.specs.RsiReverse.{turnsAt, turned}
 use Rattle.rules_rsi.proofs.write_turned.Statement.{statement}
 use Rattle.rules_rsi.proofs.write_turned.Tie as tie
 

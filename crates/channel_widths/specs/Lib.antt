@@ -1,0 +1,3 @@
+-- What the ultimate channel is.
+pub mod Channel
+pub mod inner

@@ -1,0 +1,3 @@
+-- What the volatility smoothed three times is.
+pub mod Jurik
+pub mod inner

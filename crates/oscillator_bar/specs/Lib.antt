@@ -1,0 +1,2 @@
+-- What the ultimate oscillator is.
+pub mod Oscillator

@@ -1,0 +1,4 @@
+-- What a record says of a call.
+pub mod Head
+pub mod Left
+pub mod Rule

@@ -1,0 +1,28 @@
+// What a record says of a call: how many calls differ, and what a work cell must hold.
+ghost use mathlib.Core.Path.{_≡_};
+ghost use mathlib.Core.Bool.{cond};
+ghost use Rattle.replay_record.specs.Left.{workWord};
+
+// What every output and work cell holds before a call: the pattern of -987654321.125, and a whole number where cells
+// are.
+pub const UNTOUCHED: u64 = 0xc1cd_6f34_5890_0000;
+
+pub const UNTOUCHED_WHOLE: i64 = -987654321;
+
+pub const UNTOUCHED_SHORT: i32 = -987654321;
+
+pub const UNTOUCHED_PLACE: u64 = 0xffff_ffff_c521_974f;
+
+// How often a call differs.
+pub fn misses(same: bool) -> u64
+    ensures { λ r. ⌜ r ≡ cond same 0 1 ⌝ }
+{
+    if same { 0 } else { 1 }
+}
+
+// What work cell i holds after a call that cleared the first cells.
+pub fn work_word(cleared: u64, i: usize) -> u64
+    ensures { λ r. ⌜ r ≡ workWord cleared i ⌝ }
+{
+    if (i as u64) < cleared { 0 } else { UNTOUCHED }
+}

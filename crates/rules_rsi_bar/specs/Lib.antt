@@ -1,0 +1,3 @@
+-- What the rule against the relative strength index is.
+pub mod RsiReverse
+pub mod inner

@@ -1,0 +1,2 @@
+-- What the rule of three averages is.
+pub mod Triple

@@ -1,0 +1,2 @@
+-- The exit status of a run.
+pub mod Status
