@@ -1,20 +1,21 @@
 -- `boll_positions` with n 1: a window of one mean has no deviation over n - 1, which is 0, so every cell is flat, for
 -- every k. Assumes nothing.
 use mathlib.Core.Path.{_≡_, refl, sym}
-use mathlib.Core.Bool.{Bool, true, false, not}
+use mathlib.Core.Bool.{Bool, true, false}
 use mathlib.Core.List.{List, [], _∷_}
 use mathlib.Core.Logic.{_⊎_, inl, inr}
 use Prim.Native.Nat.{ℕ, zero, suc, _+_, _-_, _*_, _<_}
-use native.Mathlib.Nat.{zero-add, sub-zero, zero-mul, mul-one, one-mul, mul-pos}
+use native.Mathlib.Nat.{zero-add, sub-zero, zero-mul, mul-one, one-mul}
 use native.Mathlib.Omega.{arith}
-use borrow.Author.Tests.{lt-ltb, le-ltb}
+use borrow.Author.Tests.{lt-ltb}
 use lib.Dec.{T}
-use lib.IntN.{ℤ, pos}
+use lib.IntN.{ℤ}
 use lib.ListN.{length, getD}
 use lib.Ieee.{Float, nan, inf, fin, binary64, fits, up, down, neg, add, sub, mul, div, lt, ofInt, sum, round}
-use lib.Ieee.Fits.{down-pos, div-fits}
+use lib.Ieee.Fits.{div-fits}
 use Rattle.rounding.proofs.Opposite.{own}
-use Rattle.rounding_order.proofs.Rounded.{zero-rounded}
+use Rattle.rounding.proofs.NotANumber.{nan-last, nan-factor, not-below-nan}
+use Rattle.rounding_order.proofs.Itself.{less-itself}
 use Rattle.rounding_root.specs.Root.{sqrtOf}
 use Rattle.calls.specs.declared.Answer.the-variants.{Cells}
 use Rattle.calls.proofs.Cells.{cell-at, room-after}
@@ -52,27 +53,12 @@ over-one (fin false m e) f = rw (mul-one, one-mul) (own false m e f)
 
 -- ---- it has no deviation over 0
 
-nothing-left : (s : Bool) (a c : ℕ) → 0 < c → sum binary64 s a (not s) a c ≡ plusZero
-unfolding sum
-nothing-left true a c C =
-    let none : a - a ≡ 0 = omega arith in rw (le-ltb a a (omega arith), none) (zero-rounded c C)
-nothing-left false a c C =
-    let none : a - a ≡ 0 = omega arith in rw (le-ltb a a (omega arith), none) (zero-rounded c C)
-
 -- over 0 divides a root of nothing: 0 / 0
 root-over-zero : (z : Float) → (z ≡ nan) ⊎ (z ≡ plusZero)
     → sqrtOf binary64 (over 0 (add binary64 minusZero (square z))) ≡ nan
 unfolding sqrtOf div add mul sum round ofInt
 root-over-zero z (inl e) = rw e
 root-over-zero z (inr e) = rw e
-
-less-itself : (x : Float) → (sub binary64 x x ≡ nan) ⊎ (sub binary64 x x ≡ plusZero)
-unfolding sub neg add
-less-itself nan = inl refl
-less-itself (inf true) = inl refl
-less-itself (inf false) = inl refl
-less-itself (fin s m e) =
-    inr (nothing-left s (m * up e * down e) (down e * down e) (mul-pos (down-pos e) (down-pos e)))
 
 no-deviation : (x : Float) → T (fits binary64 x)
     → sqrtOf binary64
@@ -82,24 +68,6 @@ no-deviation x f =
     rw e (root-over-zero (sub binary64 x x) (less-itself x))
 
 -- ---- a width that is NaN leaves the position flat
-
-nan-factor : (x : Float) → mul binary64 x nan ≡ nan
-unfolding mul
-nan-factor nan = refl
-nan-factor (inf s) = refl
-nan-factor (fin s m e) = refl
-
-nan-last : (x : Float) → add binary64 x nan ≡ nan
-unfolding add
-nan-last nan = refl
-nan-last (inf s) = refl
-nan-last (fin s m e) = refl
-
-not-below-nan : (x : Float) → lt x nan ≡ false
-unfolding lt
-not-below-nan nan = refl
-not-below-nan (inf s) = refl
-not-below-nan (fin s m e) = refl
 
 no-width : (average middle k : Float) → outsideAt average middle k nan ≡ flat
 unfolding sub neg add lt

@@ -10,7 +10,7 @@ use Rattle.cells.specs.Written.{Writing}
 use Rattle.cells.proofs.Line.{causal-with}
 use Rattle.cells.proofs.Written.{writing-same, then-written, read-back}
 use Rattle.deviations.specs.Deviation.{upperBand, lowerBand}
-use Rattle.smoother.proofs.Smoother.{nan-last, nan-factor}
+use Rattle.rounding.proofs.NotANumber.{nan-last, nan-factor}
 use Rattle.outer_lines.specs.OuterLines.{upperLine, lowerLine}
 
 -- ---- no look-ahead

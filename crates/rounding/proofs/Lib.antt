@@ -1,3 +1,4 @@
+pub mod NotANumber
 pub mod Opposite
 pub mod Patterns
 pub mod Signs

@@ -1,5 +1,6 @@
 pub mod Compared
 pub mod Enclosed
+pub mod Itself
 pub mod Outward
 pub mod Rounded
 pub mod Within

@@ -1,13 +1,13 @@
 -- Every cell of `mms_positions` is a number from -1 to 1: the mean lies between the lowest and the highest, and
 -- rounding keeps that order. Assumes nothing.
-use mathlib.Core.Path.{_≡_, refl, sym, ap, subst, _∙_}
-use mathlib.Core.Bool.{Bool, true, false, not, cond, false≢true, true≢false}
+use mathlib.Core.Path.{_≡_, refl, sym, subst, _∙_}
+use mathlib.Core.Bool.{Bool, true, false, not, cond, true≢false}
 use Prim.Native.Nat.{ℕ, zero, suc, _+_, _-_, _*_, _^_, _<_, _≤_}
 use native.Mathlib.Nat.{le-refl, mul-pos, zero-mul}
 use native.Mathlib.Omega.{arith}
-use borrow.Author.Tests.{le-ltb, ltb-false, ltb-true}
+use borrow.Author.Tests.{le-ltb, ltb-false}
 use lib.Dec.{ltb, lit≤, lit<}
-use lib.IntN.{ℤ, pos}
+use lib.IntN.{ℤ}
 use lib.Ieee.{Float, nan, inf, fin, binary64, up, down, round, sum, neg, add, sub, mul, div, lt}
 use lib.Ieee.Scale.{round-same}
 use lib.Ieee.Fits.{up-pos, down-pos}
@@ -15,9 +15,10 @@ use Rattle.rounding.specs.Leaves.{plusOne, minusOne, two, negative, magnitudeOf
 use Rattle.rounding.specs.Literals.{tenToMinus}
 use Rattle.rounding_laws.proofs.Bounds.{AtMost, sub-at-most, at-most-number}
 use Rattle.rounding_laws.proofs.Value.{sub-at, mul-at, div-at}
-use Rattle.rounding_order.proofs.Outward.{Inside, lt-self, sub-inside-first, no-parts}
-use Rattle.rounding_order.proofs.Rounded.{zero-rounded, round-plain}
-use Rattle.rounding_order.proofs.Within.{Within, Signed, within-whole, times-within, FromMinusOneToOne, in-unit}
+use Rattle.rounding_order.proofs.Itself.{number-less-itself}
+use Rattle.rounding_order.proofs.Outward.{lt-self, sub-inside-first, no-parts}
+use Rattle.rounding_order.proofs.Rounded.{round-plain}
+use Rattle.rounding_order.proofs.Within.{Within, within-whole, FromMinusOneToOne, in-unit}
 use Rattle.cells.specs.Line.{Line, plusZero, minusZero}
 use Rattle.cells.proofs.Line.{from-bar}
 use Rattle.windows.specs.Window.{mean}
@@ -155,20 +156,9 @@ between x d p q u v wide =
 zero-within : FromMinusOneToOne plusZero
 zero-within = in-unit {s = false} record { count = 0; parts = 1; some = lit< tt; value = (refl, refl); size = lit≤ tt }
 
-nothing-left : (s : Bool) (a c : ℕ) → 0 < c → sum binary64 s a (not s) a c ≡ plusZero
-unfolding sum
-nothing-left true a c C =
-    let none : a - a ≡ 0 = omega arith in rw (le-ltb a a (omega arith), none) (zero-rounded c C)
-nothing-left false a c C =
-    let none : a - a ≡ 0 = omega arith in rw (le-ltb a a (omega arith), none) (zero-rounded c C)
-
 -- a number less itself
 less-itself : (x : Float) {b : ℕ} → AtMost b x → sub binary64 x x ≡ plusZero
-unfolding sub neg add
-less-itself x p =
-    let g = p .place in
-    rw (p .is) (nothing-left (p .sign) (p .digits * up g * down g) (down g * down g)
-    (mul-pos (down-pos g) (down-pos g)))
+less-itself x p = rw (p .is) (number-less-itself (p .sign) (p .digits) (p .place))
 
 module _ (average high low : Float) (m : AtMost (2 ^ 30) average) (h : AtMost (2 ^ 30) high)
     (l : AtMost (2 ^ 30) low) where

@@ -205,14 +205,6 @@ zero-near = refl
 at-zero : (c : ℕ) → 0 < c → lt (round binary64 false 0 c) (tenToMinus 8) ≡ true
 at-zero c C = rw (round-same binary64 false 0 c 0 1 C (zero-lt-suc 0) (simp zero-mul)) zero-near
 
-pub self : (x : Float) → lt x x ≡ false
-unfolding lt
-self nan = refl
-self (inf true) = refl
-self (inf false) = refl
-self (fin false m e) = le-ltb (m * up e * down e) (m * up e * down e) (omega arith)
-self (fin true m e) = le-ltb (m * up e * down e) (m * up e * down e) (omega arith)
-
 module _ (v : Float) (z : finite v ≡ true) where
   -- from x up to v, what is not below x is as near as x
   nearer : (x y : Float) → finite x ≡ true → finite y ≡ true → lt y x ≡ false → lt y v ≡ true → near v x ≡ true

@@ -18,11 +18,11 @@ use Rattle.cells.proofs.Line.{from-bar}
 use Rattle.ranks.specs.Counted.{countFrom}
 use Rattle.rules_rank.specs.RollingRank.{near, wellBelow, rollingRankLine}
 use Rattle.rules_rank.specs.Sorted.{cellsFrom, Rearranged, none, keep, swap, then, ascending, next, placeOf}
+use Rattle.rounding_order.proofs.Outward.{lt-self}
 use Rattle.rounding_order.proofs.Compared.{either-way}
 use Rattle.rounding_order.proofs.Enclosed.{neither-way}
 use Rattle.rules_rank.proofs.Distances.{
   number,
-  self,
   below-with,
   first-near,
   accepted-finite,
@@ -137,7 +137,7 @@ module _ (v : Float) (z : finite v ≡ true) where
           rw (not-true (near v x) (parts .1), later some)
       go false e later =
           let first = least-first x s F A in
-          let here : lt v x ≡ false = not-above x (x ∷ s) F (rw (self x) first) h in
+          let here : lt v x ≡ false = not-above x (x ∷ s) F (rw (lt-self x) first) h in
           rw (first-near v z x (f .0) here e, none-after x s (f .0) (f .1) first e)
 
 -- ---- the rank
@@ -180,7 +180,7 @@ module _ (k : ℕ) (f : Line) (i : ℕ) (h : k ≤ i) where
   rank-is-place s p a F =
       let none = none-fails finite (cellsFrom f (i - k) (suc k)) F in
       let numbers : all finite s ≡ true = all-pass finite s (sym (count-arranged _ p) ∙ none) in
-      let here = last-counts (equals (f i)) (rw (self (f i))) in
+      let here = last-counts (equals (f i)) (rw (lt-self (f i))) in
       let some : 0 < countIn (equals (f i)) s = rw (← count-arranged (equals (f i)) p) here in
       from-bar k 0 _ i h
       ∙ ap suc (count-window (wellBelow (f i)) f (i - k) (suc k) ∙ count-arranged (wellBelow (f i)) p)

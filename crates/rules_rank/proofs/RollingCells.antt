@@ -26,9 +26,10 @@ use Rattle.calls.proofs.Call.{AllBars}
 use Rattle.calls.proofs.Room.{andThen-cells, unless-cells, emptyIf-cells, same-count}
 use Rattle.checks.specs.inner.Due.{CellsDue}
 use Rattle.checks.proofs.Due.{some-due, clearable-then, room-then}
+use Rattle.rounding_order.proofs.Outward.{lt-self}
 use Rattle.rules_rank.specs.RollingRank.{wellBelow, rollingRankLine, rollingRankAnswer}
 use Rattle.rules_rank.specs.inner.Rows.{RankRoom}
-use Rattle.rules_rank.proofs.Distances.{self, accepted-finite, well-below-is}
+use Rattle.rules_rank.proofs.Distances.{accepted-finite, well-below-is}
 
 -- 0 before the first whole window
 pub rolling-before : (w : ℕ) (f : Line) (i : ℕ) → i < w - 1 → rollingRankLine w f i ≡ 0
@@ -45,7 +46,7 @@ rolling-from (suc k) f i p h =
     let first : i + 1 - suc k ≡ i - k = omega arith in
     let last : i - k + k ≡ i = omega arith in
     let others : suc k - 1 ≡ k = omega arith in
-    let own : wellBelow (f i) (f (i - k + k)) ≡ false = rw (last, self (f i)) in
+    let own : wellBelow (f i) (f (i - k + k)) ≡ false = rw (last, lt-self (f i)) in
     from-bar k 0 _ i (omega arith) ∙ rw (first, others) (ap suc (last-failed (wellBelow (f i)) f (i - k) k own))
 
 -- so it lies from 1 to the window

@@ -3,7 +3,8 @@ use mathlib.Core.Path.{_≡_, refl, sym}
 use mathlib.Core.List.{List}
 use Prim.Native.Nat.{ℕ, zero, suc, _-_, _<_, _≤_}
 use native.Mathlib.Omega.{arith}
-use lib.Ieee.{Float, nan, inf, fin, binary64, neg, add, sub, mul, div}
+use lib.Ieee.{Float, nan, neg, add, sub, mul, div}
+use Rattle.rounding.proofs.NotANumber.{nan-last, nan-factor}
 use Rattle.cells.specs.Line.{Line, Causal}
 use Rattle.cells.specs.Written.{Writing}
 use Rattle.cells.proofs.Written.{writing-same}
@@ -57,18 +58,6 @@ copied {f = f} c w h = writing-same w (λ i l. smooth-first c f i (omega arith))
 -- ---- NaN
 
 -- An input that is NaN makes the cell NaN, and so does a cell before it that is.
-pub nan-last : (x : Float) → add binary64 x nan ≡ nan
-unfolding add
-nan-last nan = refl
-nan-last (inf s) = refl
-nan-last (fin s m e) = refl
-
-pub nan-factor : (x : Float) → mul binary64 x nan ≡ nan
-unfolding mul
-nan-factor nan = refl
-nan-factor (inf s) = refl
-nan-factor (fin s m e) = refl
-
 module _ (c : Coefficients) (x y z u : Float) where
   pub nan-newest : formula c nan x y z u ≡ nan
   unfolding formula add sub

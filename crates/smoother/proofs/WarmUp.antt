@@ -7,7 +7,8 @@ use lib.Ieee.{Float, nan, add}
 use Rattle.cells.specs.Line.{Line}
 use Rattle.smoother_table.specs.declared.Coefficients.{Coefficients}
 use Rattle.smoother.specs.Smoother.{formula, smooth}
-use Rattle.smoother.proofs.Smoother.{nan-last, nan-factor, nan-third}
+use Rattle.rounding.proofs.NotANumber.{nan-last, nan-factor}
+use Rattle.smoother.proofs.Smoother.{nan-third}
 
 -- a cell before it that is NaN makes a cell NaN
 nan-cell : (c : Coefficients) (x y z u : Float) → formula c x y z nan u ≡ nan
