@@ -1,0 +1,4 @@
+pub mod Relative
+pub mod Sums
+pub mod Means
+pub mod Margin

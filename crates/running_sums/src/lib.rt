@@ -1,0 +1,1 @@
+// How far a running sum is from one made afresh: see proofs/.
