@@ -1,4 +1,6 @@
 pub mod Relative
 pub mod Sums
 pub mod Means
-pub mod Margin
+pub mod Signs
+pub mod Bound
+pub mod Twice
