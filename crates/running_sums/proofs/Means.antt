@@ -14,11 +14,13 @@ use Rattle.rounding_laws.proofs.Integers.{above, below, Near, near-abs, parts-a
 use Rattle.rounding_laws.proofs.About.{zero-is}
 use Rattle.rounding_laws.proofs.Quotient.{Whole, quotient-zero}
 use Rattle.rounding_laws.proofs.Units.{Worth, worth-number, worth-units}
-use Rattle.cells.specs.Line.{Line, plusZero}
+use Rattle.cells.specs.Line.{Line, plusZero, Causal}
 use Rattle.cells.proofs.Line.{from-bar, before-bar}
 use Rattle.windows.proofs.Window.{mean-of}
 use Rattle.windows.specs.Window.{windowSum, over, mean}
 use Rattle.windows.specs.inner.Runs.{runs}
+use Rattle.windows.proofs.Runs.{causal-runs}
+use Rattle.running_sums.specs.inner.Means.{runMeans}
 use Rattle.running_sums.proofs.Relative.{off-near, apart-near, near-apart, size-by, div-off, roof}
 use Rattle.running_sums.proofs.Sums.{Small, Windowed, Carried, values, slacks, fresh, running, carried-size}
 
@@ -174,7 +176,7 @@ module _ {m n l : ℕ} {g h : Line} (w : Windowed m n l g) (v : Windowed m n l h
         (average-number w o b (omega arith) (omega arith), average-size w o b (omega arith) (omega arith)),
       ))
 
-  pub run-means-small : Small (3 * m + 1) l (λ i. over n (runs n h i))
+  pub run-means-small : Small (3 * m + 1) l (runMeans n h)
   run-means-small = record { number = λ i H. both-small i H .0 .0; size = λ i H. both-small i H .0 .1 }
 
   pub means-small : Small (3 * m + 1) l (mean n g)
@@ -184,8 +186,13 @@ module _ {m n l : ℕ} {g h : Line} (w : Windowed m n l g) (v : Windowed m n l h
   pub run-means-near : (d : ℕ)
       → ((j : ℕ) → j < l → natAbs (signedUnits binary64 (h j) -ℤ signedUnits binary64 (g j)) * 2 ^ 53 ≤ d)
       → (i : ℕ) → i < l
-      → natAbs (signedUnits binary64 (over n (runs n h i)) -ℤ signedUnits binary64 (mean n g i)) * 2 ^ 53 ≤ spread m d
+      → natAbs (signedUnits binary64 (runMeans n h i) -ℤ signedUnits binary64 (mean n g i)) * 2 ^ 53 ≤ spread m d
   run-means-near d D i H =
       at-every-bar (λ x y. natAbs (signedUnits binary64 x -ℤ signedUnits binary64 y) * 2 ^ 53 ≤ spread m d) n i g h
       (w .some) (w .narrow) (rw zero-units (omega arith))
       (λ b. average-near w v d D i (run-carried v B i b H) b H (omega arith))
+
+-- ---- no look-ahead
+
+pub causal-run-means : (n : ℕ) → 0 < n → Causal (runMeans n)
+causal-run-means n N f g b s = ap (over n) (causal-runs n N f g b s)
