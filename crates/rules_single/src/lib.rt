@@ -116,7 +116,7 @@ fn write_single_by_runs(series: &[f64], n: usize, out: &mut [f64], work: &mut [f
     ensures { λ r. ⌜ Decided r n (now (series .entry)) (now (out .entry)) (now (out .exit)) (now (work .entry))
         (now (work .exit)) ⌝ }
 {
-    if n < 32 {
+    if n < 40 {
         return false;
     }
     let bars = series.len();

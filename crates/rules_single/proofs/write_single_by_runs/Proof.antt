@@ -32,10 +32,10 @@ returns-2 c =
     let pre = start .pre in
     let doubled = through (first .write-means .ensures) (omega arith) (runMeans _)
     (causal-run-means _ (pre .window .some)) (second .write-means2 .ensures) in
-    let positions = writing-same (then-written doubled (cells .write-against-means .ensures) (omega arith))
-    (by-runs (now (start .args .series)) (start .args .n) (pre .values) (known .shared-slice-known .given) (pre .window) (pre .short)
-    doubled (omega arith) (test .if2 .taken) (margin .margin .ensures) (looked .all-far .ensures))
-    in
+    let same = by-runs (now (start .args .series)) (start .args .n) (pre .values) (known .shared-slice-known .given)
+    (pre .window) (pre .short) doubled (omega arith) (test .if2 .taken) (margin .margin .ensures)
+    (looked .all-far .ensures) in
+    let positions = writing-same (then-written doubled (cells .write-against-means .ensures) (omega arith)) same in
     record {
       used = touched positions;
       work = touched-more (touched (first .write-means .ensures)) (omega arith);
