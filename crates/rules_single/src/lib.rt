@@ -9,7 +9,7 @@ ghost use Rattle.cells.specs.Written.{Writing};
 ghost use Rattle.windows.specs.Window.{mean};
 ghost use Rattle.rules_single.specs.inner.Ticks.{tie, TickRows};
 ghost use Rattle.rules_single.specs.Single.{againstMean, singleLine};
-ghost use Rattle.rules_single.specs.inner.Runs.{positions, AllFar, Decided};
+ghost use Rattle.rules_single.specs.inner.Runs.{positions, Decided};
 ghost use Rattle.windows.specs.inner.Eight.{WindowRoom};
 ghost use Rattle.cells.specs.inner.Touched.{Touched};
 ghost use Rattle.checks.specs.inner.Due.{Priced};
@@ -93,22 +93,6 @@ fn write_single_of_ticks(series: &[f64], n: usize, out: &mut [f64], work: &mut [
     write_tick_positions(series, work, n, out);
 }
 
-// Whether each price is farther than d from its average, and that from 0. All are looked at, so that the loop takes
-// several at a time.
-fn all_far(series: &[f64], averages: &[f64], n: usize, d: f64) -> bool
-    requires { ⌜ WindowRoom n (length (now series)) (length (now averages)) ⌝ }
-    ensures { λ r. ⌜ AllFar r n d (line (now (series .entry))) (line (now (averages .entry)))
-        (length (now (series .entry))) ⌝ }
-{
-    let mut far = true;
-    let mut i = 2 * n - 2;
-    while i < series.len() {
-        far = far & running_sums::is_far(d, series[i], averages[i]);
-        i += 1;
-    }
-    far
-}
-
 // Writes each bar's position by running sums, if the window is long enough for that to pay and they decide every bar,
 // and says whether it did. Two rows of `work` may be used.
 fn write_single_by_runs(series: &[f64], n: usize, out: &mut [f64], work: &mut [f64]) -> bool
@@ -122,7 +106,7 @@ fn write_single_by_runs(series: &[f64], n: usize, out: &mut [f64], work: &mut [f
     let bars = series.len();
     running_sums::write_means(series, n, work);
     running_sums::write_means(&work[..bars], n, out);
-    let far = all_far(series, out, n, running_sums::margin(series));
+    let far = running_sums::all_far(series, out, 2 * n - 2, running_sums::margin(series));
     if far {
         write_against_means(series, n, out);
     }

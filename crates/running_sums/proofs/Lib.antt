@@ -4,3 +4,4 @@ pub mod Means
 pub mod Signs
 pub mod Bound
 pub mod Twice
+pub mod Far

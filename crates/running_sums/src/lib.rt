@@ -1,10 +1,11 @@
 // Means by running sums of any prices, and the margin beyond which an average of them decides: see proofs/.
 ghost use mathlib.Core.Path.{_≡_};
+ghost use Prim.Native.Nat.{_≤_};
 ghost use lib.ListN.{length};
 ghost use Rattle.cells.specs.Line.{line};
 ghost use Rattle.cells.specs.Written.{Writing};
 ghost use Rattle.windows.specs.inner.Eight.{WindowRoom};
-ghost use Rattle.running_sums.specs.inner.Margin.{largestOf, marginOf, far};
+ghost use Rattle.running_sums.specs.inner.Margin.{largestOf, marginOf, far, AllFar};
 ghost use Rattle.running_sums.specs.inner.Means.{runMeans};
 
 // Writes each bar's running sum over n, which is 0.0 before the first whole window.
@@ -51,4 +52,19 @@ pub fn is_far(d: f64, price: f64, average: f64) -> bool
     } else {
         false
     }
+}
+
+// Whether that holds of every bar from `first` on. All are looked at, so that the loop takes several at a time.
+pub fn all_far(series: &[f64], averages: &[f64], first: usize, d: f64) -> bool
+    requires { ⌜ length (now series) ≤ length (now averages) ⌝ }
+    ensures { λ r. ⌜ AllFar r first d (line (now (series .entry))) (line (now (averages .entry)))
+        (length (now (series .entry))) ⌝ }
+{
+    let mut far = true;
+    let mut i = first;
+    while i < series.len() {
+        far = far & is_far(d, series[i], averages[i]);
+        i += 1;
+    }
+    far
 }

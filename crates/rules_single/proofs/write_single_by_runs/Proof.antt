@@ -66,6 +66,8 @@ write-single-by-runs-spec =
     -- slice-aggregate-write-means
     (λ c. sym (part-long (c .before .before .before .write-means .ensures) (omega arith)))
     write-means-requires-2
+    (λ c. search needs)  -- mul-all-far
+    (λ c. search needs)  -- sub-all-far
     (λ c κs. search needs)  -- margin-requires
     (λ c κs. search needs)  -- all-far-requires
     (λ c κs. search needs)  -- write-against-means-requires

@@ -3,22 +3,17 @@
 use mathlib.Core.Path.{_≡_}
 use mathlib.Core.Bool.{Bool, true}
 use mathlib.Core.List.{List}
-use Prim.Native.Nat.{ℕ, _-_, _*_, _<_, _≤_}
+use Prim.Native.Nat.{ℕ, _-_, _*_}
 use lib.ListN.{length}
 use lib.Ieee.{Float}
 use Rattle.cells.specs.Line.{Line, line, plusZero, fromBar}
 use Rattle.cells.specs.Written.{Writing}
 use Rattle.cells.specs.inner.Touched.{Touched}
-use Rattle.running_sums.specs.inner.Margin.{far}
 use Rattle.rules_single.specs.Single.{againstMean, singleLine}
 
 -- the prices of f against the averages of g, from bar 2n - 2 on
 abbrev pub positions : ℕ → Line → Line → Line
 positions n f g = fromBar (2 * n - 2) plusZero (λ i. againstMean (f i) (g i))
-
--- r says that from bar 2n - 2 on each price is farther than d from its average, and that from 0
-pub record AllFar (r : Bool) (n : ℕ) (d : Float) (f g : Line) (bars : ℕ) : Type 0 where
-  pub each : r ≡ true → (i : ℕ) → 2 * n - 2 ≤ i → i < bars → far d (f i) (g i) ≡ true
 
 -- r says that the cells are written
 pub record Decided (r : Bool) (n : ℕ) (s out₀ out₁ work₀ work₁ : List Float) : Type 0 where

@@ -1,19 +1,19 @@
 -- `all_far` meets its contract: each turn looks at one more bar. Assumes nothing.
-use Prim.Native.Nat.{_-_, _*_, _≤_}
+use Prim.Native.Nat.{_-_, _≤_}
 use native.Mathlib.Omega.{arith}
 use borrow.Author.Needs.{needs}
 use lib.ListN.{length}
 use Rattle.cells.specs.Line.{line}
-use Rattle.rules_single.specs.inner.Runs.{AllFar}
-use Rattle.rules_single.proofs.Runs.{none-looked-at, one-more-far, fewer-far}
-use Rattle.rules_single.proofs.all_far.Statement.{statement}
-use Rattle.rules_single.proofs.all_far.Tie as tie
+use Rattle.running_sums.specs.inner.Margin.{AllFar}
+use Rattle.running_sums.proofs.Far.{none-looked-at, one-more-far, fewer-far}
+use Rattle.running_sums.proofs.all_far.Statement.{statement}
+use Rattle.running_sums.proofs.all_far.Tie as tie
 
 abbrev Inv-loop : tie.InvT-loop
-Inv-loop series averages n d far₀ i₀ far i = (2 * n - 2 ≤ i) × AllFar far n d (line series) (line averages) i
+Inv-loop series averages first d far₀ i₀ far i = (first ≤ i) × AllFar far first d (line series) (line averages) i
 
 abbrev μ-loop : tie.MeasureT-loop
-μ-loop series averages n d far₀ i₀ far i = length series - i
+μ-loop series averages first d far₀ i₀ far i = length series - i
 
 loop-again : tie.Need-loop-again Inv-loop μ-loop
 loop-again c =
@@ -29,8 +29,6 @@ all-far-spec =
     (tie.spec
     Inv-loop
     μ-loop
-    (λ c. search needs)  -- mul-i
-    (λ c. search needs)  -- sub-i
     (λ c. (omega arith, none-looked-at (omega arith)))  -- loop-holds
     (λ c. search needs)  -- mul-is-far
     (λ c. search needs)  -- shared-slice-read-is-far
