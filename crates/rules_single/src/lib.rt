@@ -9,7 +9,8 @@ ghost use Rattle.cells.specs.Written.{Writing};
 ghost use Rattle.windows.specs.Window.{mean};
 ghost use Rattle.rules_single.specs.inner.Ticks.{tie, TickRows};
 ghost use Rattle.rules_single.specs.Single.{againstMean, singleLine};
-ghost use Rattle.window_means.specs.inner.Averaged.{Averaged};
+ghost use Rattle.rules_single.specs.inner.Runs.{positions, Decided};
+ghost use Rattle.windows.specs.inner.Eight.{WindowRoom};
 ghost use Rattle.cells.specs.inner.Touched.{Touched};
 ghost use Rattle.checks.specs.inner.Due.{Priced};
 ghost use Rattle.window_means.specs.inner.Ticks.{longTicks};
@@ -25,11 +26,11 @@ fn against_mean(price: f64, average: f64) -> f64
     }
 }
 
-// Writes each bar's position over the doubly averaged price that stands in its cell.
+// Writes each bar's position over the average that stands in its cell.
 fn write_against_means(series: &[f64], n: usize, out: &mut [f64])
-    requires { ⌜ Averaged n (now series) (mean n (mean n (line (now series)))) (now out) ⌝ }
-    ensures { λ _. ⌜ Writing (length (now (series .entry))) (singleLine n (line (now (series .entry))))
-        (now (out .entry)) (now (out .exit)) ⌝ }
+    requires { ⌜ WindowRoom n (length (now series)) (length (now out)) ⌝ }
+    ensures { λ _. ⌜ Writing (length (now (series .entry)))
+        (positions n (line (now (series .entry))) (line (now (out .entry)))) (now (out .entry)) (now (out .exit)) ⌝ }
 {
     let mut i = cells::fill_lead(out, 2 * n - 2, series.len(), 0.0);
     while i < series.len() {
@@ -92,6 +93,26 @@ fn write_single_of_ticks(series: &[f64], n: usize, out: &mut [f64], work: &mut [
     write_tick_positions(series, work, n, out);
 }
 
+// Writes each bar's position by running sums, if the window is long enough for that to pay and they decide every bar,
+// and says whether it did. Two rows of `work` may be used.
+fn write_single_by_runs(series: &[f64], n: usize, out: &mut [f64], work: &mut [f64]) -> bool
+    requires { ⌜ Priced 2 n (now series) (length (now out)) (length (now work)) ⌝ }
+    ensures { λ r. ⌜ Decided r n (now (series .entry)) (now (out .entry)) (now (out .exit)) (now (work .entry))
+        (now (work .exit)) ⌝ }
+{
+    if n < 40 {
+        return false;
+    }
+    let bars = series.len();
+    running_sums::write_means(series, n, work);
+    running_sums::write_means(&work[..bars], n, out);
+    let far = running_sums::all_far(series, out, 2 * n - 2, running_sums::margin(series));
+    if far {
+        write_against_means(series, n, out);
+    }
+    far
+}
+
 // Writes each bar's position by the means of the means. One row of `work` is used.
 fn write_single_of_means(series: &[f64], n: usize, ticks: bool, out: &mut [f64], work: &mut [f64])
     requires { ⌜ Priced 2 n (now series) (length (now out)) (length (now work)) ⌝ }
@@ -119,6 +140,9 @@ pub fn write_single(series: &[f64], n: usize, out: &mut [f64], work: &mut [f64])
             write_single_of_ticks(series, n, out, work);
             return;
         }
+    }
+    if write_single_by_runs(series, n, out, work) {
+        return;
     }
     write_single_of_means(series, n, ticks, out, work);
 }

@@ -1,23 +1,25 @@
--- `write_against_means` meets its contract: each turn reads a mean that still stands and writes the bar's cell.
+-- `write_against_means` meets its contract: each turn reads an average that still stands and writes the bar's cell.
 -- Assumes nothing.
-use mathlib.Core.Path.{_∙_}
+use mathlib.Core.Path.{_∙_, ap, sym}
 use Prim.Native.Nat.{_-_, _*_, _≤_, min}
 use native.Mathlib.Omega.{arith}
 use borrow.Author.Needs.{needs}
 use lib.Ieee.{ofBits}
 use lib.ListN.{length}
 use Rattle.cells.specs.Line.{line}
-use Rattle.cells.proofs.Leads.{lead-stands, lead-then, still}
+use Rattle.cells.proofs.Leads.{lead-stands, lead-then, not-yet}
 use Rattle.cells.specs.Written.{Writing}
-use Rattle.cells.proofs.Written.{one-more}
-use Rattle.rules_single.specs.Single.{singleLine}
-use Rattle.rules_single.proofs.Single.{single-at}
+use Rattle.cells.proofs.Written.{one-more, writing-same}
+use Rattle.rules_single.specs.Single.{againstMean}
+use Rattle.rules_single.specs.inner.Runs.{positions}
+use Rattle.rules_single.proofs.Single.{position-at, positions-same}
 use Rattle.rules_single.proofs.write_against_means.Statement.{statement}
 use Rattle.rules_single.proofs.write_against_means.Tie as tie
 
 abbrev Inv-loop : tie.InvT-loop
 Inv-loop series n out₀ i₀ out i =
-    (min (2 * n - 2) (length series) ≤ i) × (i ≤ length series) × Writing i (singleLine n (line series)) out₀ out
+    (min (2 * n - 2) (length series) ≤ i) × (i ≤ length series)
+    × Writing i (positions n (line series) (line out₀)) out₀ out
 
 abbrev μ-loop : tie.MeasureT-loop
 μ-loop series n out₀ i₀ out i = length series - i
@@ -25,14 +27,18 @@ abbrev μ-loop : tie.MeasureT-loop
 loop-again : tie.Need-loop-again Inv-loop μ-loop
 loop-again c =
     let at = c .before .before .before .before in
-    let lead = at .before .before .before in
-    let means = lead .before .before .before .before .pre .means in
-    let mean-is = still (at .loop .i) means (lead .fill-lead .ensures .lead) (at .loop .inv .2) (omega arith) in (
+    let average-is = not-yet (at .loop .i) (at .loop .inv .2) (omega arith) in (
       omega arith,
       omega arith,
       one-more (at .loop .inv .2)
-          (c .against-mean .ensures ∙ single-at _ _ _ mean-is (omega arith)) (omega arith),
+          (c .against-mean .ensures ∙ position-at _ _ _ _ average-is (omega arith)) (omega arith),
     )
+
+returns : tie.Need-returns Inv-loop μ-loop
+returns c =
+    let lead = c .before .before .before .before .fill-lead .ensures in
+    writing-same (lead-then lead (c .before .loop .inv .2) (omega arith))
+    (λ i l. positions-same _ _ _ _ i (λ b. ap (againstMean _) (not-yet i (lead .lead) (omega arith))))
 
 pub write-against-means-spec : {M : Type 1} → statement M
 write-against-means-spec =
@@ -43,7 +49,7 @@ write-against-means-spec =
     (λ c. search needs)  -- mul-fill-lead
     (λ c. search needs)  -- sub-fill-lead
     (λ c κs. search needs)  -- fill-lead-requires
-    (λ c. unfold singleLine ofBits in search (needs, lead-stands))  -- loop-holds
+    (λ c. unfold ofBits in search (needs, lead-stands))  -- loop-holds
     (λ c. search needs)  -- mul-against-mean
     (λ c. search needs)  -- shared-slice-read-against-mean
     (λ c. search needs)  -- mul-against-mean-2
@@ -55,6 +61,5 @@ write-against-means-spec =
     (λ c. search needs)  -- loop-less
     loop-again
     (λ c. search needs)  -- same-length
-    -- returns
-    (λ c. lead-then (c .before .before .before .before .fill-lead .ensures) (c .before .loop .inv .2) (omega arith))
+    returns
     )

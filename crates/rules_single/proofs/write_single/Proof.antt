@@ -1,8 +1,9 @@
--- `write_single` meets its contract: by exact sums where the prices are whole ticks and the window is long, and else
--- by means. Assumes nothing.
+-- `write_single` meets its contract: by exact sums where the prices are whole ticks and the window is long, else by
+-- running sums where they decide every bar, and else by means. Assumes nothing.
 use native.Mathlib.Omega.{arith}
 use borrow.Author.Needs.{needs}
 use denote.Ref.{now}
+use Rattle.cells.proofs.Touched.{touched-then, written-over-all}
 use Rattle.window_means.proofs.Ticks.{known-ticks}
 use Rattle.rules_single.proofs.write_single.Statement.{statement}
 use Rattle.rules_single.proofs.write_single.Tie as tie
@@ -16,6 +17,36 @@ write-single-of-ticks-requires c κs =
     (test .if2 .taken) in
     (search needs, (omega arith, ticks))
 
+returns-2 : tie.Need-returns-2
+returns-2 c =
+    let decided = c .before .before .before .before .before .write-single-by-runs .ensures in
+    (decided .cells (c .if3 .taken), decided .work)
+
+write-single-of-means-requires : tie.Need-write-single-of-means-requires
+write-single-of-means-requires c κs =
+    let tried = c .before .before .before .before .before .before .before in
+    let asked = tried .before .before .before .before in
+    let pre = asked .before .before .before .before .pre in
+    let out = tried .write-single-by-runs .ensures .used .long in
+    let work = tried .write-single-by-runs .ensures .work .long in (
+      record {
+        window = pre .window;
+        short = pre .short;
+        out-long = omega (arith, pre .out-long);
+        work-long = omega (arith, pre .work-long);
+        values = pre .values;
+      },
+      asked .are-long-ticks .ensures,
+    )
+
+returns-3 : tie.Need-returns-3
+returns-3 c =
+    let means = c .before .before .before .before in
+    let tried = means .before .before .before .before .before .before .before .before in
+    let decided = tried .write-single-by-runs .ensures in
+    let cells = means .write-single-of-means .ensures in
+    (written-over-all (decided .used) (cells .0), touched-then (decided .work) (cells .1))
+
 pub write-single-spec : {M : Type 1} → statement M
 write-single-spec =
     tie.close
@@ -25,8 +56,12 @@ write-single-spec =
     (λ c. search needs)  -- same-length
     (λ c. search needs)  -- same-length-2
     (λ c. search needs)  -- returns
-    (λ c κs. search needs)  -- write-single-of-means-requires
+    (λ c κs. search needs)  -- write-single-by-runs-requires
     (λ c. search needs)  -- same-length-3
     (λ c. search needs)  -- same-length-4
-    (λ c. search needs)  -- returns-2
+    returns-2
+    write-single-of-means-requires
+    (λ c. search needs)  -- same-length-5
+    (λ c. search needs)  -- same-length-6
+    returns-3
     )

@@ -1,0 +1,7 @@
+pub mod Relative
+pub mod Sums
+pub mod Means
+pub mod Signs
+pub mod Bound
+pub mod Twice
+pub mod Far

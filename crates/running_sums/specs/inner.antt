@@ -1,0 +1,3 @@
+-- What the stages that use running sums ask and promise.
+pub mod Margin
+pub mod Means

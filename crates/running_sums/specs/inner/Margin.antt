@@ -1,0 +1,26 @@
+-- The margin beyond which an average by running sums decides. Assumes nothing.
+use mathlib.Core.Path.{_≡_}
+use mathlib.Core.Bool.{Bool, true, false, _&&_}
+use Prim.Native.Nat.{ℕ, _<_, _≤_}
+use lib.IntN.{negsuc}
+use lib.Ieee.{Float, fin, binary64, add, sub, mul, lt}
+use Rattle.rounding.specs.Leaves.{magnitudeOf}
+use Rattle.cells.specs.Line.{Line, plusZero}
+use Rattle.cells.specs.Recur.{recur}
+use Rattle.extremes.specs.Extreme.{larger}
+
+-- the largest magnitude of the first k cells
+unfoldable pub largestOf : Line → ℕ → Float
+largestOf f = recur plusZero (λ j most. larger most (magnitudeOf (f j)))
+
+-- 2 ^ -31 of a bound, and 2 ^ -1000 for bounds among the smallest numbers
+abbrev pub marginOf : Float → Float
+marginOf most = add binary64 (mul binary64 most (fin false 1 (negsuc 30))) (fin false 1 (negsuc 999))
+
+-- price and average are farther apart than the distance d, and so are the average and 0
+abbrev pub far : Float → Float → Float → Bool
+far d price average = lt d (magnitudeOf (sub binary64 price average)) && lt d (magnitudeOf average)
+
+-- r says that this holds of the prices of f and the averages of g from bar `first` on
+pub record AllFar (r : Bool) (first : ℕ) (d : Float) (f g : Line) (bars : ℕ) : Type 0 where
+  pub each : r ≡ true → (i : ℕ) → first ≤ i → i < bars → far d (f i) (g i) ≡ true

@@ -1,0 +1,70 @@
+// Means by running sums of any prices, and the margin beyond which an average of them decides: see proofs/.
+ghost use mathlib.Core.Path.{_≡_};
+ghost use Prim.Native.Nat.{_≤_};
+ghost use lib.ListN.{length};
+ghost use Rattle.cells.specs.Line.{line};
+ghost use Rattle.cells.specs.Written.{Writing};
+ghost use Rattle.windows.specs.inner.Eight.{WindowRoom};
+ghost use Rattle.running_sums.specs.inner.Margin.{largestOf, marginOf, far, AllFar};
+ghost use Rattle.running_sums.specs.inner.Means.{runMeans};
+
+// Writes each bar's running sum over n, which is 0.0 before the first whole window.
+pub fn write_means(series: &[f64], n: usize, means: &mut [f64])
+    requires { ⌜ WindowRoom n (length (now series)) (length (now means)) ⌝ }
+    ensures { λ _. ⌜ Writing (length (now (series .entry))) (runMeans n (line (now (series .entry))))
+        (now (means .entry)) (now (means .exit)) ⌝ }
+{
+    windows::write_sums(series, n, means);
+    let count = n as f64;
+    let mut i = 0;
+    while i < series.len() {
+        means[i] = means[i] / count;
+        i += 1;
+    }
+}
+
+// The largest magnitude of a series.
+fn largest(series: &[f64]) -> f64
+    ensures { λ r. ⌜ r ≡ largestOf (line (now (series .entry))) (length (now (series .entry))) ⌝ }
+{
+    let mut most = 0.0;
+    let mut i = 0;
+    while i < series.len() {
+        most = extremes::larger_of(most, rounding::magnitude(series[i]));
+        i += 1;
+    }
+    most
+}
+
+// How far price and average have to be apart: 2^-31 of the largest price, and 2^-1000 more.
+pub fn margin(series: &[f64]) -> f64
+    ensures { λ r. ⌜ r ≡ marginOf (largestOf (line (now (series .entry))) (length (now (series .entry)))) ⌝ }
+{
+    largest(series) * 4.656612873077393e-10 + 9.332636185032189e-302
+}
+
+// Whether price and average, and average and 0, are farther apart than d.
+pub fn is_far(d: f64, price: f64, average: f64) -> bool
+    ensures { λ r. ⌜ r ≡ far d price average ⌝ }
+{
+    if d < rounding::magnitude(price - average) {
+        d < rounding::magnitude(average)
+    } else {
+        false
+    }
+}
+
+// Whether that holds of every bar from `first` on. All are looked at, so that the loop takes several at a time.
+pub fn all_far(series: &[f64], averages: &[f64], first: usize, d: f64) -> bool
+    requires { ⌜ length (now series) ≤ length (now averages) ⌝ }
+    ensures { λ r. ⌜ AllFar r first d (line (now (series .entry))) (line (now (averages .entry)))
+        (length (now (series .entry))) ⌝ }
+{
+    let mut far = true;
+    let mut i = first;
+    while i < series.len() {
+        far = far & is_far(d, series[i], averages[i]);
+        i += 1;
+    }
+    far
+}
