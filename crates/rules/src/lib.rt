@@ -43,6 +43,10 @@ pub fn mid_positions(series: &[f64], n: usize, out: &mut [f64], work: &mut [f64]
 pub fn double_sma_positions(series: &[f64], n: usize, m: usize, out: &mut [f64]) -> Answer
     ensures { λ r. ⌜ DoubleCall (now (series .entry)) n m (now (out .entry)) r (now (out .exit)) ⌝ }
 {
+    if rules_double::has_tick_cells(series, n, m, out.len()) {
+        rules_double::write_double_of_ticks(series, n, m, out);
+        return Answer::Cells(series.len());
+    }
     let due = rules_double::answer_double(series, n, m, out.len());
     if calls::has_cells(due) {
         rules_double::write_double(series, n, m, out);

@@ -3,14 +3,28 @@ use calls::Answer;
 use calls::Refusal;
 use limits::LONGEST_WINDOW;
 ghost use mathlib.Core.Path.{_≡_};
+ghost use mathlib.Core.Bool.{false};
 ghost use Prim.Native.Nat.{_+_, _<_, _≤_};
 ghost use lib.ListN.{length};
+ghost use lib.Ieee.{binary64, ofInt, isNan};
 ghost use Rattle.cells.specs.Line.{line};
 ghost use Rattle.cells.specs.Written.{Writing};
 ghost use Rattle.windows.specs.Window.{addThenSubtract};
 ghost use Rattle.windows.specs.inner.Sums.{Running};
 ghost use Rattle.rules_double.specs.Double.{doubleLine, doubleAnswer};
 ghost use Rattle.rules_double.specs.inner.Stages.{Started, crossing};
+ghost use Rattle.rules_double.specs.inner.Ticks.{
+  ticksOf,
+  spread,
+  change,
+  tickCells,
+  TickRoom,
+  OverTicks,
+  Spread,
+  Fours,
+  Written,
+};
+ghost use Rattle.rounding.specs.Leaves.{signOf};
 ghost use Rattle.limits.specs.Limits.{Window};
 
 // The sign of the short average less the long one, from the sums of n and of m prices.
@@ -62,6 +76,111 @@ pub fn write_double(series: &[f64], n: usize, m: usize, out: &mut [f64])
     let first = cells::fill_lead(out, m - 1, series.len(), 0.0);
     if first < series.len() {
         write_crossings(series, n, m, out);
+    }
+}
+
+// 1.0 with the sign of a number.
+fn side(x: f64) -> f64
+    requires { ⌜ isNan «x» ≡ false ⌝ }
+    ensures { λ r. ⌜ r ≡ signOf «x» ⌝ }
+{
+    if f64::to_bits(x) >= 0x8000_0000_0000_0000 {
+        -1.0
+    } else {
+        1.0
+    }
+}
+
+// What bar i adds to the spread of whole ticks.
+fn change_at(series: &[f64], n: usize, m: usize, i: usize) -> f64
+    requires { ⌜ OverTicks n m (now series) × (m ≤ i) × (i < length (now series)) ⌝ }
+    ensures { λ r. ⌜ r ≡ ofInt binary64 (change n m (ticksOf (now (series .entry))) i) ⌝ }
+{
+    series[i] * ((m - n) as f64) - series[i - n] * (m as f64) + series[i - m] * (n as f64)
+}
+
+// The spread of the first m bars.
+fn first_spread(series: &[f64], n: usize, m: usize) -> f64
+    requires { ⌜ OverTicks n m (now series) ⌝ }
+    ensures { λ r. ⌜ r ≡ ofInt binary64 (spread n m (ticksOf (now (series .entry))) m) ⌝ }
+{
+    let short = windows::sum_at(series, n, m - 1);
+    let rest = windows::sum_at(series, m - n, m - n - 1);
+    short * ((m - n) as f64) - rest * (n as f64)
+}
+
+// Writes the positions from bar m up to `end`, and gives the spread of the bars before `end`.
+fn write_some(series: &[f64], n: usize, m: usize, first: f64, end: usize, out: &mut [f64]) -> f64
+    requires { ⌜ OverTicks n m (now series) × (m ≤ end) × (end ≤ length (now series)) ⌝ }
+    requires { ⌜ Spread n m (now series) m «first» (now out) ⌝ }
+    ensures { λ r. ⌜ Written n m (now (series .entry)) end r (now (out .entry)) (now (out .exit)) ⌝ }
+{
+    let mut total = first;
+    let mut i = m;
+    while i < end {
+        total = total + change_at(series, n, m, i);
+        out[i] = side(total);
+        i += 1;
+    }
+    total
+}
+
+// Writes the positions of four bars from bar i on, and gives the spread of the bars before bar i + 4. One addition
+// waits for the spread before.
+fn write_four(series: &[f64], n: usize, m: usize, before: f64, i: usize, out: &mut [f64]) -> f64
+    requires { ⌜ OverTicks n m (now series) × (m ≤ i) × (i + 4 ≤ length (now series)) ⌝ }
+    requires { ⌜ Spread n m (now series) i «before» (now out) ⌝ }
+    ensures { λ r. ⌜ Written n m (now (series .entry)) (i + 4) r (now (out .entry)) (now (out .exit)) ⌝ }
+{
+    let one = change_at(series, n, m, i);
+    let two = one + change_at(series, n, m, i + 1);
+    let third = change_at(series, n, m, i + 2);
+    let four = two + (third + change_at(series, n, m, i + 3));
+    out[i] = side(before + one);
+    out[i + 1] = side(before + two);
+    out[i + 2] = side(before + (two + third));
+    out[i + 3] = side(before + four);
+    before + four
+}
+
+// Writes the positions from bar `from` on, where a multiple of four bars is left.
+fn write_by_four(series: &[f64], n: usize, m: usize, before: f64, from: usize, out: &mut [f64])
+    requires { ⌜ OverTicks n m (now series) × (m ≤ from) × Fours from (length (now series)) ⌝ }
+    requires { ⌜ Spread n m (now series) from «before» (now out) ⌝ }
+    ensures { λ _. ⌜ Writing (length (now (series .entry))) (doubleLine n m (line (now (series .entry))))
+        (now (out .entry)) (now (out .exit)) ⌝ }
+{
+    let mut total = before;
+    let mut i = from;
+    while i < series.len() {
+        total = write_four(series, n, m, total, i, out);
+        i += 4;
+    }
+}
+
+// Writes each bar's position of whole ticks. The sign of n * m times the short average less the long one decides, a
+// whole number that is exact however it is summed.
+pub fn write_double_of_ticks(series: &[f64], n: usize, m: usize, out: &mut [f64])
+    requires { ⌜ TickRoom n m (now series) (length (now out)) ⌝ }
+    ensures { λ _. ⌜ Writing (length (now (series .entry))) (doubleLine n m (line (now (series .entry))))
+        (now (out .entry)) (now (out .exit)) ⌝ }
+{
+    cells::fill_lead(out, m - 1, series.len(), 0.0);
+    let first = first_spread(series, n, m);
+    out[m - 1] = side(first);
+    let from = m + (series.len() - m) % 4;
+    let before = write_some(series, n, m, first, from, out);
+    write_by_four(series, n, m, before, from, out);
+}
+
+// Whether a call has cells and its prices are whole ticks: both windows are full, in order and not too long.
+pub fn has_tick_cells(series: &[f64], n: usize, m: usize, out: usize) -> bool
+    ensures { λ r. ⌜ r ≡ tickCells (now (series .entry)) n m out ⌝ }
+{
+    if (n > 0) & (n < m) & checks::window_fits(series.len(), m, out) {
+        values::all_ticks(series)
+    } else {
+        false
     }
 }
 
