@@ -26,10 +26,13 @@ module _ {s : List Float} where
   pub fair-none : Fair s 0
   fair-none = record { none = λ h. refl }
 
+  -- the price k alone
+  pub fair-one : (c k : ℕ) → eqb c 0 ≡ accepted (getD s k nan) → k < length s → Fair s c
+  fair-one c k e l = record { none = λ h. eqb-true _ _ (e ∙ all-at accepted s k h l) }
+
   -- one more price
   pub fair-with : {b : ℕ} (c k : ℕ) → Fair s b → eqb c 0 ≡ accepted (getD s k nan) → k < length s → Fair s (bitOr b c)
-  fair-with {b} c k f e l =
-      record { none = λ h. or-none b c (f .none h) (eqb-true _ _ (e ∙ all-at accepted s k h l)) }
+  fair-with {b} c k f e l = record { none = λ h. or-none b c (f .none h) (fair-one c k e l .none h) }
 
   pub clean-none : {b a k : ℕ} → k ≤ a → Clean s b a k
   clean-none h = record { each = λ z i p q. absurd (omega arith) }
@@ -38,14 +41,15 @@ module _ {s : List Float} where
   pub clean-first : {b a k : ℕ} (c : ℕ) → Clean s b a k → Clean s (bitOr b c) a k
   clean-first {b} c n = record { each = λ z. n .each (omega (arith, or-first b c)) }
 
+  pub clean-second : {c a k : ℕ} (b : ℕ) → Clean s c a k → Clean s (bitOr b c) a k
+  clean-second {c} b n = record { each = λ z. n .each (omega (arith, or-second b c)) }
+
   -- the price k alone
-  pub clean-one : (b c k : ℕ) → eqb c 0 ≡ accepted (getD s k nan) → Clean s (bitOr b c) k (k + 1)
-  clean-one b c k e = record { each = λ z i p q. go z i (omega arith) }
+  pub clean-one : (c k : ℕ) → eqb c 0 ≡ accepted (getD s k nan) → Clean s c k (k + 1)
+  clean-one c k e = record { each = λ z i p q. go z i (omega arith) }
     where
-      go : bitOr b c ≡ 0 → (i : ℕ) → i ≡ k → accepted (getD s i nan) ≡ true
-      go z i h =
-          let none : c ≡ 0 = omega (arith, or-second b c) in
-          rw h (sym e ∙ rw none refl)
+      go : c ≡ 0 → (i : ℕ) → i ≡ k → accepted (getD s i nan) ≡ true
+      go z i h = rw h (sym e ∙ rw z refl)
 
   -- a part
   pub clean-within : {b a k : ℕ} (m l : ℕ) → Clean s b a k → (a ≤ m) × (l ≤ k) → Clean s b m l
@@ -62,7 +66,7 @@ module _ {s : List Float} where
   -- the next price
   pub clean-with : {b a k : ℕ} (c : ℕ) → Clean s b a k → eqb c 0 ≡ accepted (getD s k nan)
       → Clean s (bitOr b c) a (k + 1)
-  clean-with {b} {a} {k} c n e = clean-joined (clean-first c n) (clean-one b c k e) (omega arith)
+  clean-with {b} {a} {k} c n e = clean-joined (clean-first c n) (clean-second b (clean-one c k e)) (omega arith)
 
   pub all-clean : {b : ℕ} → Fair s b → Clean s b 0 (length s) → eqb b 0 ≡ all accepted s
   all-clean {b} f n = go (all accepted s) (eqb b 0) refl refl

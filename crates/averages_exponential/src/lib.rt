@@ -5,23 +5,28 @@ use calls::Refusal;
 use limits::LARGEST_VALUE;
 use limits::LARGEST_VALUE_BITS;
 ghost use mathlib.Core.Path.{_≡_};
-ghost use mathlib.Core.Bool.{not};
-ghost use Prim.Native.Nat.{_+_, _^_, _<_, _≤_};
+ghost use Prim.Native.Nat.{_+_, _-_, _<_, _≤_};
 ghost use lib.Dec.{eqb};
+ghost use lib.IntN.{pos};
 ghost use lib.ListN.{length};
-ghost use lib.Ieee.{binary64, toBits};
-ghost use Rattle.limits.specs.Limits.{valuePower};
-ghost use Rattle.values.specs.Accepted.{within, accepted, all};
-ghost use Rattle.calls.specs.declared.Refusal.the-variants.{ValueNotAccepted};
-ghost use Rattle.calls.specs.declared.Answer.the-variants.{Cells};
-ghost use Rattle.calls.specs.Answer.{unless};
-ghost use Rattle.calls.specs.Call.{Call};
+ghost use lib.Ieee.{binary64, div, ofInt};
+ghost use Rattle.limits.specs.Limits.{longestWindow};
+ghost use Rattle.values.specs.Accepted.{accepted, all};
+ghost use Rattle.calls.specs.inner.Fits.{Fits};
 ghost use Rattle.cells.specs.Line.{line};
-ghost use Rattle.averages_exponential.specs.Blend.{blend, smoothLine};
-ghost use Rattle.averages_exponential.specs.Ema.{EmaCall};
+ghost use Rattle.windows.specs.Window.{mean};
+ghost use Rattle.averages_exponential.specs.Blend.{blend};
+ghost use Rattle.averages_exponential.specs.Ema.{emaAlpha, EmaCall};
 ghost use Rattle.averages_exponential.specs.ExponentialSmoothing.{ExponentialSmoothingCall};
-ghost use Rattle.averages_exponential.specs.inner.Blending.{Seeded, HalfWay, Middle, Smoothing, Smooth};
-ghost use Rattle.averages_exponential.specs.inner.Tested.{Fair, Clean, TestedHalf};
+ghost use Rattle.averages_exponential.specs.inner.Blending.{
+  Seeded,
+  HalfWay,
+  Middle,
+  Smoothing,
+  Smooth,
+  SmoothCall,
+};
+ghost use Rattle.averages_exponential.specs.inner.Tested.{TestedSum, TestedSeed, TestedHalf};
 
 // alpha of x and the rest of `last`.
 pub fn blended(alpha: f64, last: f64, x: f64) -> f64
@@ -51,71 +56,56 @@ fn blend_half(series: &[f64], alpha: f64, first: usize, seed: Pass) -> Pass
     Pass { bits, value: last }
 }
 
-// 0, unless x lies beyond 2^30, or is a NaN.
-fn far_bit(x: f64) -> u64
-    ensures { λ r. ⌜ eqb r 0 ≡ within valuePower x ⌝ }
+// The bits of -0.0: the sign alone.
+const MINUS_ZERO_BITS: u64 = 9223372036854775808;
+
+// 0 if a series may hold x, else 1.
+fn refused_bit(x: f64) -> u64
+    ensures { λ r. ⌜ eqb r 0 ≡ accepted x ⌝ }
 {
     if (x >= -LARGEST_VALUE) & (x <= LARGEST_VALUE) {
-        0
+        if f64::to_bits(x) == MINUS_ZERO_BITS {
+            1
+        } else {
+            0
+        }
     } else {
         1
     }
 }
 
-// 0, unless x is -0.0.
-fn minus_zero_bits(x: f64) -> u64
-    ensures { λ r. ⌜ eqb r 0 ≡ not (eqb (toBits binary64 x) (2 ^ 63)) ⌝ }
-{
-    if x == 0.0 { f64::to_bits(x) } else { 0 }
-}
-
-// 0, unless a series must not hold x. A loop that waits for nothing takes several of these at a time.
-fn both_bits(x: f64) -> u64
-    ensures { λ r. ⌜ eqb r 0 ≡ accepted x ⌝ }
-{
-    far_bit(x) | minus_zero_bits(x)
-}
-
-// The same, for a loop that waits.
-fn refused_bits(x: f64) -> u64
-    ensures { λ r. ⌜ eqb r 0 ≡ accepted x ⌝ }
-{
-    if (x >= -LARGEST_VALUE) & (x <= LARGEST_VALUE) {
-        if x == 0.0 { f64::to_bits(x) } else { 0 }
-    } else {
-        1
-    }
-}
-
-// 0, unless a series must not hold one of the first `end` prices.
-fn refused_first(series: &[f64], end: usize) -> u64
-    requires { ⌜ end ≤ length (now series) ⌝ }
-    ensures { λ r. ⌜ Fair (now (series .entry)) r × Clean (now (series .entry)) r 0 end ⌝ }
+// The sum of the first n prices, and 0 if a series may hold them. An addition waits for the one before it, and each
+// price is tested by itself meanwhile.
+fn sum_tested(series: &[f64], n: usize) -> Pass
+    requires { ⌜ (0 < n) × (n ≤ length (now series)) ⌝ }
+    ensures { λ r. ⌜ TestedSum (now (series .entry)) n r ⌝ }
 {
     let mut bits = 0;
+    let mut sum = -0.0;
     let mut i = 0;
-    while i < end {
-        bits = bits | both_bits(series[i]);
+    while i < n {
+        sum = sum + series[i];
+        bits = bits | refused_bit(series[i]);
         i += 1;
     }
-    bits
+    Pass { bits, value: sum }
 }
 
 // The cell half way through the bars after the seed, and 0 if a series may hold all prices. Each price is tested by
 // itself, on both sides of 0, while a cell waits for the one before it.
-fn blend_tested(series: &[f64], alpha: f64, first: usize, seed: f64) -> Pass
-    requires { ⌜ first < length (now series) ⌝ }
-    ensures { λ r. ⌜ TestedHalf (now (series .entry)) alpha first seed r ⌝ }
+fn blend_tested(series: &[f64], alpha: f64, first: usize, seed: Pass) -> Pass
+    requires { ⌜ TestedSeed (now series) first (seed .bits) ⌝ }
+    ensures { λ r. ⌜ TestedHalf (now (series .entry)) alpha first (seed .value) r ⌝ }
 {
     let half = (series.len() - first - 1) / 2;
     let low = first + 1;
     let high = low + half;
-    let mut bits = refused_first(series, low) | refused_bits(series[series.len() - 1]);
-    let mut last = seed;
+    let mut bits = seed.bits | refused_bit(series[series.len() - 1]);
+    let mut last = seed.value;
     let mut i = 0;
     while i < half {
-        bits = bits | refused_bits(series[low + i]);
-        bits = bits | refused_bits(series[high + i]);
+        bits = bits | refused_bit(series[low + i]);
+        bits = bits | refused_bit(series[high + i]);
         last = blended(alpha, last, series[low + i]);
         i += 1;
     }
@@ -169,9 +159,7 @@ fn answer_tested(
 ) -> Answer
     requires { ⌜ Smoothing (now series) alpha first seed 0 (now out) × Middle (now series) alpha first seed middle
         × (accept ≡ all accepted (now series)) ⌝ }
-    ensures { λ r. ⌜ Call (unless (all accepted (now (series .entry))) ValueNotAccepted
-        (Cells (length (now (series .entry)))))
-        (smoothLine alpha first seed (line (now (series .entry)))) (now (out .entry)) r (now (out .exit)) ⌝ }
+    ensures { λ r. ⌜ SmoothCall (now (series .entry)) alpha first seed (now (out .entry)) r (now (out .exit)) ⌝ }
 {
     if accept {
         write_smooth(series, alpha, first, seed, middle, out);
@@ -181,29 +169,82 @@ fn answer_tested(
     }
 }
 
-// The answer of a smoothed line whose lengths are in order: it writes nothing before all prices are tested. The first
-// 16 tell how: by the bits of all together, or each by itself, as on both sides of 0.
-fn answer_smooth(series: &[f64], alpha: f64, first: usize, seed: Pass, out: &mut [f64]) -> Answer
+// The answer of a smoothed line whose lengths are in order, where all prices are tested by their bits together. It
+// writes nothing before that.
+fn answer_by_bits(series: &[f64], alpha: f64, first: usize, seed: Pass, out: &mut [f64]) -> Answer
     requires { ⌜ Seeded (now series) first (seed .bits) × (length (now series) ≤ length (now out)) ⌝ }
-    ensures { λ r. ⌜ Call (unless (all accepted (now (series .entry))) ValueNotAccepted
-        (Cells (length (now (series .entry)))))
-        (smoothLine alpha first (seed .value) (line (now (series .entry)))) (now (out .entry)) r (now (out .exit)) ⌝ }
+    ensures { λ r. ⌜ SmoothCall (now (series .entry)) alpha first (seed .value) (now (out .entry)) r
+        (now (out .exit)) ⌝ }
 {
-    if values::bits_together(series, 0, cells::smaller(series.len(), 16)) <= LARGEST_VALUE_BITS {
-        let half = blend_half(series, alpha, first, seed);
-        let accept = values::accepted_by(half.bits, series);
-        answer_tested(series, alpha, first, seed.value, half.value, accept, out)
+    let half = blend_half(series, alpha, first, seed);
+    let accept = values::accepted_by(half.bits, series);
+    answer_tested(series, alpha, first, seed.value, half.value, accept, out)
+}
+
+// The same, where each price is tested by itself.
+fn answer_by_tests(series: &[f64], alpha: f64, first: usize, seed: Pass, out: &mut [f64]) -> Answer
+    requires { ⌜ TestedSeed (now series) first (seed .bits) × (length (now series) ≤ length (now out)) ⌝ }
+    ensures { λ r. ⌜ SmoothCall (now (series .entry)) alpha first (seed .value) (now (out .entry)) r
+        (now (out .exit)) ⌝ }
+{
+    let half = blend_tested(series, alpha, first, seed);
+    answer_tested(
+        series,
+        alpha,
+        first,
+        seed.value,
+        half.value,
+        half.bits == 0,
+        out,
+    )
+}
+
+// Whether the bits of the first 16 prices together are enough to accept them, so that those of all may be. On both
+// sides of 0 they are not.
+fn bits_suffice(series: &[f64]) -> bool {
+    values::bits_together(series, 0, cells::smaller(series.len(), 16)) <= LARGEST_VALUE_BITS
+}
+
+// The mean of n prices of which the sum is at hand, with the same bits.
+fn mean_of(sum: Pass, n: usize) -> Pass
+    requires { ⌜ n ≤ longestWindow ⌝ }
+    ensures { λ r. ⌜ (r .bits ≡ sum .bits) × (r .value ≡ div binary64 (sum .value) (ofInt binary64 (pos n))) ⌝ }
+{
+    Pass {
+        bits: sum.bits,
+        value: sum.value / (n as f64),
+    }
+}
+
+// The answer of `ema` where the window fits.
+fn answer_from_mean(series: &[f64], n: usize, out: &mut [f64]) -> Answer
+    requires { ⌜ Fits (length (now series)) n (length (now out)) ⌝ }
+    ensures { λ r. ⌜ SmoothCall (now (series .entry)) (emaAlpha n) (n - 1) (mean n (line (now (series .entry))) (n - 1))
+        (now (out .entry)) r (now (out .exit)) ⌝ }
+{
+    let alpha = 2.0 / ((n + 1) as f64);
+    if bits_suffice(series) {
+        let seed = mean_of(averages::sum_first(series, n), n);
+        answer_by_bits(series, alpha, n - 1, seed, out)
     } else {
-        let half = blend_tested(series, alpha, first, seed.value);
-        answer_tested(
-            series,
-            alpha,
-            first,
-            seed.value,
-            half.value,
-            half.bits == 0,
-            out,
-        )
+        let seed = mean_of(sum_tested(series, n), n);
+        answer_by_tests(series, alpha, n - 1, seed, out)
+    }
+}
+
+// The answer of `exponential_smoothing` where the lengths and alpha are in order.
+fn answer_from_first(series: &[f64], alpha: f64, out: &mut [f64]) -> Answer
+    requires { ⌜ (0 < length (now series)) × (length (now series) ≤ length (now out)) ⌝ }
+    ensures { λ r. ⌜ SmoothCall (now (series .entry)) alpha 0 (line (now (series .entry)) 0) (now (out .entry)) r
+        (now (out .exit)) ⌝ }
+{
+    let value = series[0];
+    if bits_suffice(series) {
+        let bits = f64::to_bits(values::cap(value));
+        answer_by_bits(series, alpha, 0, Pass { bits, value }, out)
+    } else {
+        let bits = refused_bit(value);
+        answer_by_tests(series, alpha, 0, Pass { bits, value }, out)
     }
 }
 
@@ -212,12 +253,7 @@ pub fn ema(series: &[f64], n: usize, out: &mut [f64]) -> Answer
     ensures { λ r. ⌜ EmaCall (now (series .entry)) n (now (out .entry)) r (now (out .exit)) ⌝ }
 {
     if checks::window_fits(series.len(), n, out.len()) {
-        let sum = averages::sum_first(series, n);
-        let seed = Pass {
-            bits: sum.bits,
-            value: sum.value / (n as f64),
-        };
-        answer_smooth(series, 2.0 / ((n + 1) as f64), n - 1, seed, out)
+        answer_from_mean(series, n, out)
     } else {
         averages::answer_lead(series, n, out)
     }
@@ -228,11 +264,7 @@ pub fn exponential_smoothing(series: &[f64], alpha: f64, out: &mut [f64]) -> Ans
     ensures { λ r. ⌜ ExponentialSmoothingCall (now (series .entry)) alpha (now (out .entry)) r (now (out .exit)) ⌝ }
 {
     if checks::window_fits(series.len(), 1, out.len()) & values::is_finite(alpha) {
-        let seed = Pass {
-            bits: f64::to_bits(values::cap(series[0])),
-            value: series[0],
-        };
-        return answer_smooth(series, alpha, 0, seed, out);
+        return answer_from_first(series, alpha, out);
     }
     let due = checks::check(series, out.len());
     if let Answer::Refused(_) = due {

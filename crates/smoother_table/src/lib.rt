@@ -3,10 +3,55 @@ mod table;
 
 use limits::LONGEST_PERIOD_F64;
 ghost use mathlib.Core.Path.{_≡_};
-ghost use Prim.Native.Nat.{_≤_};
-ghost use Rattle.smoother_table.specs.Coefficients.{ofPair, coefficients};
+ghost use Prim.Native.Nat.{_*_, _<_, _≤_};
+ghost use lib.ListN.{take, drop};
+ghost use Rattle.smoother_table.specs.Coefficients.{a1Table, b1Table, ofPair, coefficients};
 ghost use Rattle.smoother_table.specs.Period.{isPeriod};
 ghost use Rattle.limits.specs.Limits.{longestPeriod};
+
+// a1 and b1 of 16 periods.
+struct Row([f64; 16], [f64; 16]);
+
+// a1 and b1 of the periods from 16k + 1 on. An array is copied before it is indexed: so a row is, and no table of 512.
+fn row_at(k: usize) -> Row
+    requires { ⌜ k < 32 ⌝ }
+    ensures { λ r. ⌜ (r .0 ≡ take 16 (drop (k * 16) a1Table)) × (r .1 ≡ take 16 (drop (k * 16) b1Table)) ⌝ }
+{
+    match k {
+        0 => Row(table::A1_0, table::B1_0),
+        1 => Row(table::A1_1, table::B1_1),
+        2 => Row(table::A1_2, table::B1_2),
+        3 => Row(table::A1_3, table::B1_3),
+        4 => Row(table::A1_4, table::B1_4),
+        5 => Row(table::A1_5, table::B1_5),
+        6 => Row(table::A1_6, table::B1_6),
+        7 => Row(table::A1_7, table::B1_7),
+        8 => Row(table::A1_8, table::B1_8),
+        9 => Row(table::A1_9, table::B1_9),
+        10 => Row(table::A1_10, table::B1_10),
+        11 => Row(table::A1_11, table::B1_11),
+        12 => Row(table::A1_12, table::B1_12),
+        13 => Row(table::A1_13, table::B1_13),
+        14 => Row(table::A1_14, table::B1_14),
+        15 => Row(table::A1_15, table::B1_15),
+        16 => Row(table::A1_16, table::B1_16),
+        17 => Row(table::A1_17, table::B1_17),
+        18 => Row(table::A1_18, table::B1_18),
+        19 => Row(table::A1_19, table::B1_19),
+        20 => Row(table::A1_20, table::B1_20),
+        21 => Row(table::A1_21, table::B1_21),
+        22 => Row(table::A1_22, table::B1_22),
+        23 => Row(table::A1_23, table::B1_23),
+        24 => Row(table::A1_24, table::B1_24),
+        25 => Row(table::A1_25, table::B1_25),
+        26 => Row(table::A1_26, table::B1_26),
+        27 => Row(table::A1_27, table::B1_27),
+        28 => Row(table::A1_28, table::B1_28),
+        29 => Row(table::A1_29, table::B1_29),
+        30 => Row(table::A1_30, table::B1_30),
+        _ => Row(table::A1_31, table::B1_31),
+    }
+}
 
 // What the smoother's step needs of its period.
 pub struct Coefficients {
@@ -49,7 +94,9 @@ impl Coefficients {
                 c3: zero.c3,
             };
         }
-        Coefficients::of_pair(table::A1[period - 1], table::B1[period - 1])
+        let row = row_at((period - 1) / 16);
+        let k = (period - 1) % 16;
+        Coefficients::of_pair(row.0[k], row.1[k])
     }
 }
 

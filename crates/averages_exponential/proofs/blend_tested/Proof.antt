@@ -11,6 +11,7 @@ use Rattle.averages_exponential.proofs.Tested.{
   fair-with,
   clean-none,
   clean-first,
+  clean-second,
   clean-one,
   clean-within,
   clean-joined,
@@ -21,22 +22,23 @@ use Rattle.averages_exponential.proofs.blend_tested.Statement.{statemen
 use Rattle.averages_exponential.proofs.blend_tested.Tie as tie
 
 abbrev Inv-loop : tie.InvT-loop
-Inv-loop series alpha first seed half low high bits₀ last₀ i₀ bits last i =
+Inv-loop series alpha first half low high bits₀ last₀ i₀ bits last i =
     (i ≤ half) × Fair series bits × Clean series bits 0 (low + i) × Clean series bits high (high + i)
     × Clean series bits (high + half) (length series) × Blending alpha first last₀ (line series) (low + i) last
 
 abbrev μ-loop : tie.MeasureT-loop
-μ-loop series alpha first seed half low high bits₀ last₀ i₀ bits last i = half - i
+μ-loop series alpha first half low high bits₀ last₀ i₀ bits last i = half - i
 
 loop-holds : tie.Need-loop-holds Inv-loop μ-loop
 loop-holds c =
-    let first = c .before .before .refused-first in
-    let b = c .refused-bits .result in (
+    let start = c .before .before .before .before in
+    let at-end = c .before .refused-bit in
+    let b = at-end .result in (
       omega arith,
-      fair-with b _ (first .ensures .0) (c .refused-bits .ensures) (omega arith),
-      clean-within _ _ (clean-first b (first .ensures .1)) (omega arith),
+      fair-with b _ (start .pre .fair) (at-end .ensures) (omega arith),
+      clean-within _ _ (clean-first b (start .pre .clean)) (omega arith),
       clean-none (omega arith),
-      clean-within _ _ (clean-one (first .result) b _ (c .refused-bits .ensures)) (omega arith),
+      clean-within _ _ (clean-second (start .args .seed .bits) (clean-one b _ (at-end .ensures))) (omega arith),
       at-bar seeded (omega arith),
     )
 
@@ -45,13 +47,13 @@ loop-again c =
     let at-high = c .before .before in
     let at-low = at-high .before .before in
     let inv = at-low .before .before .before .loop .inv in
-    let lo = at-low .refused-bits2 .result in
-    let hi = at-high .refused-bits3 .result in (
+    let lo = at-low .refused-bit2 .result in
+    let hi = at-high .refused-bit3 .result in (
       omega arith,
-      fair-with hi _ (fair-with lo _ (inv .1) (at-low .refused-bits2 .ensures) (omega arith))
-          (at-high .refused-bits3 .ensures) (omega arith),
-      clean-within _ _ (clean-first hi (clean-with lo (inv .2) (at-low .refused-bits2 .ensures))) (omega arith),
-      clean-within _ _ (clean-with hi (clean-first lo (inv .3)) (at-high .refused-bits3 .ensures)) (omega arith),
+      fair-with hi _ (fair-with lo _ (inv .1) (at-low .refused-bit2 .ensures) (omega arith))
+          (at-high .refused-bit3 .ensures) (omega arith),
+      clean-within _ _ (clean-first hi (clean-with lo (inv .2) (at-low .refused-bit2 .ensures))) (omega arith),
+      clean-within _ _ (clean-with hi (clean-first lo (inv .3)) (at-high .refused-bit3 .ensures)) (omega arith),
       clean-first hi (clean-first lo (inv .4)),
       at-bar (next-blended (inv .5) (c .blended .ensures) (omega arith)) (omega arith),
     )
@@ -74,20 +76,19 @@ blend-tested-spec =
     (λ c. search needs)  -- sub-half-2
     (λ c. search needs)  -- add-low
     (λ c. search needs)  -- add-high
-    (λ c κs. search needs)  -- refused-first-requires
-    (λ c. search needs)  -- sub-refused-bits
-    (λ c. search needs)  -- mul-refused-bits
-    (λ c. search needs)  -- shared-slice-read-refused-bits
-    (λ c κs. search needs)  -- refused-bits-requires
+    (λ c. search needs)  -- sub-refused-bit
+    (λ c. search needs)  -- mul-refused-bit
+    (λ c. search needs)  -- shared-slice-read-refused-bit
+    (λ c κs. search needs)  -- refused-bit-requires
     loop-holds
-    (λ c. search needs)  -- add-refused-bits
-    (λ c. search needs)  -- mul-refused-bits-2
-    (λ c. search needs)  -- shared-slice-read-refused-bits-2
-    (λ c κs. search needs)  -- refused-bits-requires-2
-    (λ c. search needs)  -- add-refused-bits-2
-    (λ c. search needs)  -- mul-refused-bits-3
-    (λ c. search needs)  -- shared-slice-read-refused-bits-3
-    (λ c κs. search needs)  -- refused-bits-requires-3
+    (λ c. search needs)  -- add-refused-bit
+    (λ c. search needs)  -- mul-refused-bit-2
+    (λ c. search needs)  -- shared-slice-read-refused-bit-2
+    (λ c κs. search needs)  -- refused-bit-requires-2
+    (λ c. search needs)  -- add-refused-bit-2
+    (λ c. search needs)  -- mul-refused-bit-3
+    (λ c. search needs)  -- shared-slice-read-refused-bit-3
+    (λ c κs. search needs)  -- refused-bit-requires-3
     (λ c. search needs)  -- add-blended
     (λ c. search needs)  -- mul-blended
     (λ c. search needs)  -- shared-slice-read-blended

@@ -10,7 +10,6 @@ use Rattle.calls.specs.declared.Refusal.the-variants.{ParameterNotFinite}
 use Rattle.calls.specs.declared.Answer.the-variants.{Cells}
 use Rattle.values.specs.Accepted.{accepted, finite}
 use Rattle.values.proofs.All.{and-parts}
-use Rattle.values.proofs.Quick.{capped-number, none-of-one}
 use Rattle.calls.specs.Answer.{unless}
 use Rattle.calls.specs.inner.Fits.{windowFits}
 use Rattle.calls.proofs.Call.{refused, counted}
@@ -37,25 +36,19 @@ first-false : (t u : Bool) → t && u ≡ false → u ≡ true → t ≡ false
 first-false true u p q = absurd (true≢false (sym q ∙ p))
 first-false false u p q = refl
 
-shared-slice-read-cap : tie.Need-shared-slice-read-cap
-shared-slice-read-cap c = fits-parts _ _ _ (told (c .before)) .inside
-
-answer-smooth-requires : tie.Need-answer-smooth-requires
-answer-smooth-requires c κs =
-    let at-cap = c .before .before in
-    let fits = fits-parts _ _ _ (told (at-cap .before .before)) in
-    (record { inside = fits .inside; bits = none-of-one (at-cap .cap .ensures) }, fits .room)
+answer-from-first-requires : tie.Need-answer-from-first-requires
+answer-from-first-requires c κs = let fits = fits-parts _ _ _ (told (c .before)) in (fits .inside, fits .room)
 
 returns : tie.Need-returns
 unfolding exponentialAnswer
 returns c =
-    let at-smooth = c .before .before in
-    let at-then = at-smooth .before .before .before .before .before in
+    let at-answer = c .before .before in
+    let at-then = at-answer .before .before in
     let a = at-then .before .before .before .before .before .args in
     let yes = sym (at-then .before .is-finite .ensures)
     ∙ and-parts (at-then .before .before .window-fits .result) _ (at-then .if1 .taken) .1 in
     rw (fits-checked accepted (now (a .series)) 1 (length (now (a .out))) (told at-then), yes, counted-twice)
-    (at-smooth .answer-smooth .ensures)
+    (at-answer .answer-from-first .ensures)
 
 returns-2 : tie.Need-returns-2
 unfolding exponentialAnswer
@@ -85,11 +78,7 @@ exponential-smoothing-spec =
     (tie.spec
     (λ c κs. search needs)  -- window-fits-requires
     (λ c κs. search needs)  -- is-finite-requires
-    shared-slice-read-cap
-    (λ c κs. search needs)  -- cap-requires
-    (λ c. rw (c .cap .ensures) (capped-number _))  -- float-to-bits-t14
-    (λ c. fits-parts _ _ _ (told (c .before .before .before)) .inside)  -- shared-slice-read-t16
-    answer-smooth-requires
+    answer-from-first-requires
     (λ c. search needs)  -- same-length
     returns
     (λ c κs. search needs)  -- check-requires

@@ -4,7 +4,13 @@ use mathlib.Core.List.{List}
 use Prim.Native.Nat.{ℕ, _+_, _-_, _/_, _<_, _≤_}
 use lib.ListN.{length}
 use lib.Ieee.{Float}
+use Rattle.values.specs.Accepted.{accepted, all}
 use Rattle.values.specs.inner.Quick.{NoneAbove}
+use Rattle.calls.specs.declared.Refusal.the-variants.{ValueNotAccepted}
+use Rattle.calls.specs.declared.Answer.{Answer}
+use Rattle.calls.specs.declared.Answer.the-variants.{Cells}
+use Rattle.calls.specs.Answer.{unless}
+use Rattle.calls.specs.Call.{Call}
 use Rattle.cells.specs.Line.{Line, line}
 use Rattle.cells.specs.Written.{Writing}
 use Rattle.averages.specs.declared.Pass.{Pass}
@@ -42,3 +48,8 @@ pub record Smoothing (s : List Float) (alpha : Float) (first : ℕ) (seed : Floa
     pub inside : first < length s
     pub room : length s ≤ length now
     pub cells : Writing k (smoothLine alpha first seed (line s)) now now
+
+-- a call whose lengths and parameters are in order: only the values are left to be refused
+abbrev pub SmoothCall : List Float → Float → ℕ → Float → List Float → Answer → List Float → Type 0
+SmoothCall s alpha first seed = Call (unless (all accepted s) ValueNotAccepted (Cells (length s)))
+    (smoothLine alpha first seed (line s))

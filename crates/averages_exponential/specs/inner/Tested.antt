@@ -2,11 +2,13 @@
 use mathlib.Core.Path.{_≡_}
 use mathlib.Core.Bool.{true}
 use mathlib.Core.List.{List}
-use Prim.Native.Nat.{ℕ, _<_, _≤_}
+use Prim.Native.Nat.{ℕ, _+_, _-_, _<_, _≤_}
 use lib.Dec.{eqb}
-use lib.ListN.{getD}
+use lib.ListN.{length, getD}
 use lib.Ieee.{Float, nan}
 use Rattle.values.specs.Accepted.{accepted, all}
+use Rattle.cells.specs.Line.{line}
+use Rattle.windows.specs.Window.{windowSum}
 use Rattle.averages.specs.declared.Pass.{Pass}
 use Rattle.averages_exponential.specs.inner.Blending.{Middle}
 
@@ -17,6 +19,18 @@ pub record Fair (s : List Float) (b : ℕ) : Type 0 where
 -- where no bit is set, the prices from index a up to k are accepted
 pub record Clean (s : List Float) (b a k : ℕ) : Type 0 where
   pub each : b ≡ 0 → (i : ℕ) → a ≤ i → i < k → accepted (getD s i nan) ≡ true
+
+-- the sum of the first n bars, each of which is tested
+pub record TestedSum (s : List Float) (n : ℕ) (r : Pass) : Type 0 where
+  pub sum : r .value ≡ windowSum n (line s) (n - 1)
+  pub fair : Fair s (r .bits)
+  pub clean : Clean s (r .bits) 0 n
+
+-- the bars up to the seed's are tested
+pub record TestedSeed (s : List Float) (first b : ℕ) : Type 0 where
+  pub inside : first < length s
+  pub fair : Fair s b
+  pub clean : Clean s b 0 (first + 1)
 
 -- the cell half way, and whether all prices are accepted
 pub record TestedHalf (s : List Float) (alpha : Float) (first : ℕ) (seed : Float) (r : Pass) : Type 0 where
