@@ -5,6 +5,7 @@ use crate::catalogue::{Function, Role};
 use crate::generate::{ODD_PERIODS, ODD_REALS, ODD_WHOLE_PERIODS, ODD_WINDOWS, PERIOD_LIMIT, WINDOW_LIMIT, plain};
 use crate::rng::Rng;
 use crate::series::{DAMAGED, SERIES_LIMIT, damage, wide};
+use crate::ties::ties;
 
 pub fn edges(rng: &mut Rng, function: &Function) -> Vec<Call> {
     let mut calls = Vec::new();
@@ -18,6 +19,7 @@ pub fn edges(rng: &mut Rng, function: &Function) -> Vec<Call> {
     wide_windows(rng, function, &mut calls);
     pairs_of_faults(rng, function, &mut calls);
     long(rng, function, &mut calls);
+    ties(rng, function, &mut calls);
     calls
 }
 

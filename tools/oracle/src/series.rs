@@ -136,7 +136,7 @@ fn of_any_size(word: u64) -> f64 {
 }
 
 /// The nearest value that is accepted; adding +0.0 turns -0.0 into it.
-fn within_limits(x: f64) -> f64 {
+pub fn within_limits(x: f64) -> f64 {
     x.clamp(-VALUE_LIMIT, VALUE_LIMIT) + 0.0
 }
 
