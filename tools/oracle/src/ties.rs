@@ -13,7 +13,7 @@ pub fn ties(rng: &mut Rng, function: &Function, calls: &mut Vec<Call>) {
         patterns(function, calls);
     }
     if function.domain == Domain::Accepted && function.series == 1 {
-        averaged_hundredths(rng, function, calls);
+        averaged(rng, function, calls);
     }
     if function.name.ends_with("_positions") || function.name == "rolling_rank" {
         at_changes(rng, function, calls);
@@ -58,15 +58,16 @@ fn patterns(function: &Function, calls: &mut Vec<Call>) {
     }
 }
 
-/// Hundredths at whose last bar but a few n² times the price is the sum D of the window sums, or one beside it.
-fn averaged_hundredths(rng: &mut Rng, function: &Function, calls: &mut Vec<Call>) {
-    for (n, want) in [13, 24, 60, 250].into_iter().flat_map(|n| [-1, 0, 1].map(|want| (n, want))) {
-        for after in [0, 12] {
+/// Whole ticks and hundredths in which at a bar n² times the price is the sum D of the window sums, or one beside it; the
+/// bar is the last, or others follow.
+fn averaged(rng: &mut Rng, function: &Function, calls: &mut Vec<Call>) {
+    for (n, want) in [13, 14, 15, 24, 60, 250].into_iter().flat_map(|n| [-1, 0, 1].map(|want| (n, want))) {
+        for (one, after) in [(1.0, 0), (1.0, 12), (100.0, 0), (100.0, 12)] {
             let level = rng.between(-30_000, 30_000);
             let mut ticks: Vec<i64> = (0..2 * n + 3).map(|_| level + rng.between(-50, 50)).collect();
             nearly_averaged(&mut ticks, n, want);
             ticks.extend_from_within(..after);
-            let series = ticks.iter().map(|x| *x as f64 / 100.0).collect();
+            let series = ticks.iter().map(|x| *x as f64 / one).collect();
             calls.push(function.call(vec![series], with_windows(function, n)));
         }
     }
