@@ -49,7 +49,8 @@ impl Trial {
         }
     }
 
-    fn difference(&mut self, call: &Call, salt: u64, expected: &Expected) -> Option<String> {
+    /// What a call leaves that is not as expected.
+    pub fn difference(&mut self, call: &Call, salt: u64, expected: &Expected) -> Option<String> {
         for (place, (output, length)) in self.outputs.iter_mut().zip(&call.outputs).enumerate() {
             output.fill(*length, salt.wrapping_add(place as u64));
         }
@@ -89,22 +90,24 @@ fn describe(call: &Call) -> String {
     format!("{:?}, outputs {:?}, work {}, {}", call.parameters, call.outputs, call.work, series.join("; "))
 }
 
-/// Whether one of these calls differs.
-fn differs(function: &'static Function, mut calls: impl Iterator<Item = Call>, salt: u64) -> bool {
-    let mut trial = Trial::new(function);
-    calls.any(|call| trial.difference(&call, salt, &source::expected(function, &call)).is_some())
+/// The calls of one function with a seed, each with the salt of what it is lent: its edges, and random calls up to
+/// `calls` in all.
+pub fn seeded(function: &'static Function, seed: u64, calls: usize) -> impl Iterator<Item = (Call, u64)> {
+    let mut rng = rng_of(function, seed);
+    let mut edges = edges(&mut rng, function).into_iter();
+    (0..calls.max(edges.len())).map(move |_| {
+        let call = edges.next().unwrap_or_else(|| generate::random(&mut rng, function));
+        (call, rng.word())
+    })
 }
 
-/// Whether a difference shows in the functions named, of all where none is named: in random calls of each, or else in
-/// the edges of each.
-pub fn notices(seed: u64, calls: usize, names: &[&str]) -> bool {
-    let wanted = |f: &&Function| names.is_empty() || names.contains(&f.name);
-    let in_random = |function| {
-        let mut rng = Rng::new(seed);
-        differs(function, (0..calls).map(|_| generate::random(&mut rng, function)), seed)
-    };
-    let in_edges = |function| differs(function, edges(&mut Rng::new(seed), function).into_iter(), seed);
-    catalogue::exported().filter(wanted).any(in_random) || catalogue::exported().filter(wanted).any(in_edges)
+/// The longest series with the longest window, for a seed.
+pub fn longest(function: &'static Function, seed: u64) -> Call {
+    extreme(&mut rng_of(function, seed), function)
+}
+
+fn rng_of(function: &Function, seed: u64) -> Rng {
+    Rng::new(seed.wrapping_add(catalogue::number(function) << 56))
 }
 
 /// Every exported function: its largest call, then with each seed its edges and random calls up to `calls` in all. True
@@ -113,18 +116,9 @@ pub fn run(seeds: &[u64], calls: usize) -> bool {
     let (mut total, mut functions, mut differ) = (0, 0, 0);
     for function in catalogue::exported() {
         let mut trial = Trial::new(function);
-        let seeded = |seed: u64| Rng::new(seed.wrapping_add(catalogue::number(function) << 56));
-        trial.run(&extreme(&mut seeded(seeds[0]), function), seeds[0]);
-        for seed in seeds {
-            let mut rng = seeded(*seed);
-            let edges = edges(&mut rng, function);
-            for call in &edges {
-                trial.run(call, rng.word());
-            }
-            for _ in edges.len()..calls {
-                let call = generate::random(&mut rng, function);
-                trial.run(&call, rng.word());
-            }
+        trial.run(&longest(function, seeds[0]), seeds[0]);
+        for (call, salt) in seeds.iter().flat_map(|seed| seeded(function, *seed, calls)) {
+            trial.run(&call, salt);
         }
         trial.print();
         total += trial.tally.calls;

@@ -4,7 +4,8 @@ use crate::call::{Call, Value};
 use crate::catalogue::{Function, Role};
 use crate::generate::{ODD_PERIODS, ODD_REALS, ODD_WHOLE_PERIODS, ODD_WINDOWS, PERIOD_LIMIT, WINDOW_LIMIT, plain};
 use crate::rng::Rng;
-use crate::series::{DAMAGED, SERIES_LIMIT, damage, wide};
+use crate::series::{DAMAGED, SERIES_LIMIT, damage, large, walk, wide};
+use crate::ties::ties;
 
 pub fn edges(rng: &mut Rng, function: &Function) -> Vec<Call> {
     let mut calls = Vec::new();
@@ -16,8 +17,12 @@ pub fn edges(rng: &mut Rng, function: &Function) -> Vec<Call> {
     every_room(rng, function, &mut calls);
     unequal(rng, function, &mut calls);
     wide_windows(rng, function, &mut calls);
+    ticks_of_long_windows(rng, function, &mut calls);
+    zeros_first(rng, function, &mut calls);
+    multiples(rng, function, &mut calls);
     pairs_of_faults(rng, function, &mut calls);
     long(rng, function, &mut calls);
+    ties(rng, function, &mut calls);
     calls
 }
 
@@ -223,6 +228,42 @@ fn wide_windows(rng: &mut Rng, function: &Function, calls: &mut Vec<Call>) {
     for n in [63, 64, 65, 202, 204, 255, 256, 302, 402] {
         for _ in 0..3 {
             calls.push(plain(rng, function, 3 * n + 8, with_windows(function, n)));
+        }
+    }
+}
+
+/// Whole ticks with windows around 1,023, from where the one-average rule has another form, and with cells of few bars.
+fn ticks_of_long_windows(rng: &mut Rng, function: &Function, calls: &mut Vec<Call>) {
+    for n in [1_022, 1_023, 1_025].into_iter().filter(|_| function.roles.contains(&Role::Window)) {
+        for more in [0, 1, 20, 41] {
+            let series = (0..function.series).map(|_| walk(rng, 2 * n - 1 + more)).collect();
+            calls.push(function.call(series, with_windows(function, n)));
+        }
+    }
+}
+
+/// Whole ticks that begin with as many zeros as a window has bars, or a few more or fewer, so that first means are 0.
+fn zeros_first(rng: &mut Rng, function: &Function, calls: &mut Vec<Call>) {
+    for (n, zeros) in [2, 5, 13, 14, 30].into_iter().flat_map(|n| [n - 1, n, n + 1, 2 * n + 3].map(|zeros| (n, zeros)))
+    {
+        for more in [3 * n, 3 * n + 1] {
+            let mut series: Vec<Vec<f64>> = (0..function.series).map(|_| walk(rng, zeros + more)).collect();
+            series.iter_mut().for_each(|series| series[..zeros].fill(0.0));
+            calls.push(function.call(series, with_windows(function, n)));
+        }
+    }
+}
+
+/// Multiples so small and so large that products and quotients with prices leave the range of f64.
+fn multiples(rng: &mut Rng, function: &Function, calls: &mut Vec<Call>) {
+    for (place, _) in function.roles.iter().enumerate().filter(|(_, role)| **role == Role::Multiple) {
+        for multiple in [5e-324, 1e-308, 1e-305, 1e-300, 1e-160, 1e160, 1e300, f64::MAX] {
+            for n in [2, 3, 5] {
+                let mut parameters = with_windows(function, n);
+                parameters[place] = Value::Real(multiple);
+                let series = (0..function.series).map(|_| large(rng, 40)).collect();
+                calls.push(function.call(series, parameters));
+            }
         }
     }
 }

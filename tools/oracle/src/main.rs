@@ -7,8 +7,10 @@ mod clock;
 mod compare;
 mod edges;
 mod exact;
+mod flips;
 mod generate;
 mod library;
+mod nearly;
 mod published;
 mod record;
 mod restated;
@@ -21,6 +23,7 @@ mod smoother;
 mod source;
 mod table;
 mod tick_mean;
+mod ties;
 mod wilder_rsi;
 
 use bench::Prices;
@@ -28,7 +31,7 @@ use std::io::{BufWriter, stdin, stdout};
 use std::process::ExitCode;
 
 const USAGE: &str = "usage: oracle compare CALLS SEED..   compare the library's calls and check its exactness
-       oracle notice CALLS [NAME..]     whether a difference shows: for tools/mutate
+       oracle flips FILE CALLS [NAME..]   which of the listed flips show: for tools/mutate
        oracle bench [ticks|hundredths|differences]   the table of times
        oracle record                a sample of calls for a program to replay
        oracle sheet                 the sheet program, in Rust over pure.rs
@@ -46,7 +49,7 @@ fn main() -> ExitCode {
             let calls = number(calls) as usize;
             exact::run(&seeds, calls / 50) & compare::run(&seeds, calls)
         }
-        ["notice", calls, names @ ..] => compare::notices(1, number(calls) as usize, names),
+        ["flips", file, calls, names @ ..] => flips::run(file, number(calls) as usize, names),
         ["bench"] => told(|| bench::run(Prices::Ticks)),
         ["bench", word] if Prices::named(word).is_some() => told(|| bench::run(Prices::named(word).unwrap())),
         ["record"] => told(|| record::print()),

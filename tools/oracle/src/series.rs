@@ -93,6 +93,16 @@ pub fn wide(rng: &mut Rng, domain: Domain, len: usize) -> Vec<f64> {
     of_shape(rng, Shape::WideTicks, tick, len)
 }
 
+/// Whole ticks, each near the one before.
+pub fn walk(rng: &mut Rng, len: usize) -> Vec<f64> {
+    of_shape(rng, Shape::WalkOfTicks, 1.0, len)
+}
+
+/// Whole ticks of any size without any order.
+pub fn large(rng: &mut Rng, len: usize) -> Vec<f64> {
+    of_shape(rng, Shape::LargeTicks, 1.0, len)
+}
+
 fn of_shape(rng: &mut Rng, shape: Shape, tick: f64, len: usize) -> Vec<f64> {
     let start = rng.between(-TICK_LIMIT + SERIES_LIMIT as i64 * 2, TICK_LIMIT - SERIES_LIMIT as i64 * 2);
     let few = [rng.between(-9, 9), rng.between(-9, 9), rng.between(-9, 9)];
@@ -136,7 +146,7 @@ fn of_any_size(word: u64) -> f64 {
 }
 
 /// The nearest value that is accepted; adding +0.0 turns -0.0 into it.
-fn within_limits(x: f64) -> f64 {
+pub fn within_limits(x: f64) -> f64 {
     x.clamp(-VALUE_LIMIT, VALUE_LIMIT) + 0.0
 }
 

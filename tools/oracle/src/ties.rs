@@ -1,0 +1,162 @@
+//! Calls on which a rule has ties that rounding decides, or misses them by the last digit of a price.
+
+use crate::call::{Call, Value};
+use crate::catalogue::{Domain, Function, Role};
+use crate::edges::with_windows;
+use crate::nearly::nearly_averaged;
+use crate::rng::Rng;
+use crate::series::{series, within_limits};
+use crate::table::answer;
+
+pub fn ties(rng: &mut Rng, function: &Function, calls: &mut Vec<Call>) {
+    if function.domain == Domain::Accepted {
+        patterns(function, calls);
+    }
+    if function.domain == Domain::Accepted && function.series == 1 {
+        averaged(rng, function, calls);
+    }
+    if function.name.ends_with("_positions") || function.name == "rolling_rank" {
+        at_changes(rng, function, calls);
+    }
+}
+
+/// Whole numbers that repeat, or change by equal steps, so that averages equal a price or each other but for rounding.
+const PATTERNS: &[fn(i64) -> i64] = &[
+    |_| 0,
+    |bar| bar,
+    |bar| -bar,
+    |bar| bar % 2,
+    |bar| bar % 12 / 6,
+    |bar| (bar % 24 - 12).abs(),
+    |bar| (bar % 97 == 96) as i64,
+    |bar| bar / 40 % 2,
+    |bar| bar * bar % 5,
+];
+
+/// A level and how many units are 1: hundredths, low and high; thirds; eighths; and units that are the last digit of a
+/// price.
+const SCALES: &[(i64, f64)] = &[
+    (10_001, 100.0),
+    (9_999_999_999, 100.0),
+    (0, 100.0),
+    (0, 3.0),
+    (8_000_000_000, 8.0),
+    ((1 << 53) - (1 << 20), (1 << 23) as f64),
+];
+
+/// Each pattern in each scale, as it is and with the sign turned at every second bar, so that sums are near 0. Of three
+/// series the first is a unit higher and the second a unit lower than the third.
+fn patterns(function: &Function, calls: &mut Vec<Call>) {
+    for (n, turned) in [24, 60, 250].into_iter().flat_map(|n| [(n, false), (n, true)]) {
+        for ((level, one), pattern) in SCALES.iter().flat_map(|scale| PATTERNS.iter().map(move |p| (scale, p))) {
+            let units = |bar: i64| (level + pattern(bar)) * if turned && bar % 2 == 1 { -1 } else { 1 };
+            let line = |more: i64| (0..2 * n + 21).map(|bar| (units(bar) + more) as f64 / one).collect();
+            let beside = if function.series == 3 { &[1, -1, 0][..] } else { &[0] };
+            let series = beside.iter().map(|more| line(*more)).collect();
+            calls.push(function.call(series, with_windows(function, n as usize)));
+        }
+    }
+}
+
+/// Whole ticks and hundredths in which at a bar n² times the price is the sum D of the window sums, or one beside it; the
+/// bar is the last, or others follow.
+fn averaged(rng: &mut Rng, function: &Function, calls: &mut Vec<Call>) {
+    for (n, want) in [13, 14, 15, 24, 60, 250].into_iter().flat_map(|n| [-1, 0, 1].map(|want| (n, want))) {
+        for (one, after) in [(1.0, 0), (1.0, 12), (100.0, 0), (100.0, 12)] {
+            let level = rng.between(-30_000, 30_000);
+            let mut ticks: Vec<i64> = (0..2 * n + 3).map(|_| level + rng.between(-50, 50)).collect();
+            nearly_averaged(&mut ticks, n, want);
+            ticks.extend_from_within(..after);
+            let series = ticks.iter().map(|x| *x as f64 / one).collect();
+            calls.push(function.call(vec![series], with_windows(function, n)));
+        }
+    }
+}
+
+/// Series with a price at which the source's cell of that bar just changes: that price, the one next to it, and the
+/// hundredths around it; with bars after it too.
+fn at_changes(rng: &mut Rng, function: &Function, calls: &mut Vec<Call>) {
+    for (n, times) in [(2, 8), (3, 8), (5, 8), (13, 6), (24, 6), (60, 4), (250, 1)] {
+        for _ in 0..times {
+            let mut call = function.call(vec![changing(rng, function, 2 * n + 3)], with_windows(function, n));
+            let multiple = function.roles.iter().position(|role| *role == Role::Multiple);
+            if let Some(place) = multiple {
+                call.parameters[place] = Value::Real(rng.pick(&[0.25, 0.5, 0.7, 1.0]));
+            }
+            let answered = answer(function, &call).count > 0;
+            for price in if answered { changes(function, &call) } else { Vec::new() } {
+                for after in [0, 12] {
+                    let mut call = function.call(call.series.clone(), call.parameters.clone());
+                    *call.series[0].last_mut().unwrap() = price;
+                    call.series[0].extend_from_within(..after.min(2 * n));
+                    calls.push(function.call(call.series, call.parameters));
+                }
+            }
+        }
+    }
+}
+
+/// A walk in hundredths, or a series of any shape.
+fn changing(rng: &mut Rng, function: &Function, len: usize) -> Vec<f64> {
+    if rng.one_in(3) {
+        return series(rng, function.domain, len);
+    }
+    let mut hundredths = rng.between(-20_000, 20_000);
+    let mut step = || {
+        hundredths += rng.between(-9, 9);
+        hundredths as f64 / 100.0
+    };
+    (0..len).map(|_| step()).collect()
+}
+
+/// The prices for the last bar of the call's series at which the source's last cell changes, one on either side, and the
+/// hundredths around: of at most three changes between prices that are tried.
+fn changes(function: &Function, call: &Call) -> Vec<f64> {
+    let mut call = call.clone();
+    let tried = spread_out(&call.series[0]);
+    let mut cell = |price: f64| {
+        *call.series[0].last_mut().unwrap() = price;
+        *(function.source)(&call)[0].last().unwrap()
+    };
+    let tried: Vec<(f64, u64)> = tried.into_iter().map(|price| (price, cell(price))).collect();
+    let parted = tried.windows(2).filter(|pair| pair[0].1 != pair[1].1).take(3);
+    parted.flat_map(|pair| beside_change(pair[0], pair[1].0, &mut cell)).collect()
+}
+
+/// Some prices of a series in their order, with one below them and two above.
+fn spread_out(series: &[f64]) -> Vec<f64> {
+    let mut prices = series.to_vec();
+    prices.sort_by(f64::total_cmp);
+    prices.dedup();
+    let (lowest, highest) = (prices[0], prices[prices.len() - 1]);
+    let spread = (highest - lowest).max(1e-3);
+    let some = prices.iter().copied().step_by(prices.len().div_ceil(12));
+    let beyond = [highest + spread, highest + 9.0 * spread];
+    std::iter::once(lowest - 3.0 * spread).chain(some).chain(beyond).map(within_limits).collect()
+}
+
+/// Halves the range of f64 from `low` to `high`, whose cells differ, down to two neighbours.
+fn beside_change(low: (f64, u64), high: f64, cell: &mut impl FnMut(f64) -> u64) -> [f64; 4] {
+    let (mut below, mut above) = (order(low.0), order(high));
+    while below + 1 < above {
+        let middle = below.midpoint(above);
+        if cell(in_order(middle)) == low.1 {
+            below = middle;
+        } else {
+            above = middle;
+        }
+    }
+    let hundredths = in_order(below) * 100.0;
+    [in_order(below), in_order(above), hundredths.floor() / 100.0, hundredths.ceil() / 100.0].map(within_limits)
+}
+
+/// The place of an f64 among all, in their order.
+fn order(x: f64) -> i64 {
+    let bits = x.to_bits() as i64;
+    bits ^ ((bits >> 63) as u64 >> 1) as i64
+}
+
+/// The f64 at a place, with +0.0 for -0.0.
+fn in_order(place: i64) -> f64 {
+    f64::from_bits((place ^ ((place >> 63) as u64 >> 1) as i64) as u64) + 0.0
+}
