@@ -103,8 +103,7 @@ pub fn single_ema_positions(series: &[f64], n: usize, out: &mut [f64], work: &mu
 {
     let due = checks::answer_window_with_work(series, n, out.len(), work.len());
     if checks::cells_due(due, series.len(), work) {
-        rules_ema::write_ema(series, n, out);
-        cells::clear(work, 8 * series.len());
+        rules_ema::write_ema(series, n, out, work);
     }
     due
 }

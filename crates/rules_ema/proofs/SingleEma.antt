@@ -12,7 +12,8 @@ use lib.Ieee.{Float, binary64, sub}
 use Rattle.cells.specs.Line.{Line, line, plusZero, Same, Causal}
 use Rattle.cells.proofs.Line.{before-bar, from-bar, causal-same, causal-from}
 use Rattle.cells.specs.Written.{Writing}
-use Rattle.cells.proofs.Written.{writing-same, then-written}
+use Rattle.cells.proofs.Written.{writing-same, stands}
+use Rattle.cells.proofs.Touched.{untouched, touched, touched-more}
 use Rattle.cells.proofs.Parts.{part-long, part-is}
 use Rattle.cells.specs.Search.{firstBar, nonZero}
 use Rattle.cells.proofs.Search.{
@@ -25,6 +26,10 @@ use Rattle.cells.proofs.Search.{
 }
 use Rattle.cells.specs.Recur.{carried}
 use Rattle.cells.proofs.Carried.{carried-same, carried-seed, carried-next}
+use Rattle.work_rows.specs.inner.Scratch.{Scratch}
+use Rattle.work_rows.specs.inner.Finished.{Finished}
+use Rattle.work_rows.proofs.Scratch.{goes-on}
+use Rattle.work_rows.proofs.Finished.{all-finished, then-finished}
 use Rattle.rounding.specs.Leaves.{signOf}
 use Rattle.windows.specs.Window.{mean}
 use Rattle.windows.proofs.Window.{causal-mean}
@@ -84,11 +89,28 @@ module _ (start n : ℕ) (f : Line) where
   position-at i e g h = rw (g, e, from-bar start plusZero _ i h)
 
 -- bars before it have none
-pub lead-written : (start n : ℕ) (f : Line) {k : ℕ} {old now : List Float} → Writing k (λ i. plusZero) old now
+lead-written : (start n : ℕ) (f : Line) {k : ℕ} {old now : List Float} → Writing k (λ i. plusZero) old now
     → k ≤ start
     → Writing k (singleEmaFrom start n f) old now
 unfolding singleEmaFrom
 lead-written start n f w h = writing-same w (λ i l. sym (before-bar start plusZero _ i (omega arith)))
+
+module _ (start n : ℕ) (f : Line) {l : ℕ} {out₀ mid work₀ rows : List Float} where
+  -- where every bar comes before it
+  pub none-finished : Writing l (λ i. plusZero) out₀ mid → Scratch l l (λ i. plusZero) work₀ rows → l ≤ start
+      → Finished (singleEmaFrom start n f) l l out₀ mid work₀ rows
+  none-finished w c h = record { cells = lead-written start n f w h; cleared = c }
+
+  module _ (w : Writing start (λ i. plusZero) out₀ mid) (c : Scratch l start (λ i. plusZero) work₀ rows) where
+    -- the bars before it, for a loop that goes on
+    pub lead-finished : Finished (singleEmaFrom start n f) l start mid mid rows rows
+    lead-finished = record { cells = stands (lead-written start n f w (le-refl start)); cleared = goes-on c }
+
+    -- and the bars of that loop
+    pub rest-finished : {k : ℕ} {now left : List Float} → Finished (singleEmaFrom start n f) l k mid now rows left
+        → (start ≤ k) × (k ≡ l) → Finished (singleEmaFrom start n f) l l out₀ now work₀ left
+    rest-finished p (h, e) =
+        then-finished (touched-more (touched w) (omega arith)) (c .rest) (all-finished p e)
 
 -- ---- the stages, where the means of l bars stand in the first part of a slice
 
@@ -103,10 +125,12 @@ module _ (n : ℕ) (f : Line) {l : ℕ} {old mid : List Float} (w : Writing l (m
   seed-found start e k = e ∙ causal-mean n _ _ start (λ j m. part-is w h j (omega arith))
 
   -- the cells from the start that was found are the rule's
-  pub found-written : {r : ℕ} {now : List Float} → r ≡ firstUsable (length (take l mid)) (line (take l mid))
-      → Writing l (singleEmaFrom (r + (n - 1)) n f) mid now → Writing l (singleEmaLine l n f) old now
+  pub found-finished : {r : ℕ} {now work₀ work₁ : List Float}
+      → r ≡ firstUsable (length (take l mid)) (line (take l mid))
+      → Finished (singleEmaFrom (r + (n - 1)) n f) l l mid now work₀ work₁
+      → Finished (singleEmaLine l n f) l l old now work₀ work₁
   unfolding singleEmaLine
-  found-written e v = then-written w (rw (← start-found e) v) (le-refl l)
+  found-finished e v = then-finished (touched w) untouched (rw (← start-found e) v)
 
 -- ---- no look-ahead, once the start is known
 

@@ -12,8 +12,11 @@ use Rattle.limits.specs.Limits.{Window}
 use Rattle.cells.specs.Line.{Line, line, plusZero}
 use Rattle.cells.proofs.Line.{before-bar}
 use Rattle.cells.specs.Written.{Writing}
-use Rattle.cells.proofs.Written.{read-back, then-written, writing-same, ends}
+use Rattle.cells.proofs.Written.{read-back, writing-same, ends}
+use Rattle.cells.proofs.Touched.{untouched, touched, touched-more}
 use Rattle.cells.specs.Search.{nonZero}
+use Rattle.work_rows.specs.inner.Finished.{Finished}
+use Rattle.work_rows.proofs.Finished.{then-finished}
 use Rattle.values.specs.Accepted.{tick, all}
 use Rattle.windows.specs.Window.{over, windowSum, mean, addDifference}
 use Rattle.windows.specs.inner.Sums.{Running}
@@ -68,12 +71,14 @@ starts-early : (l n : ℕ) (f : Line) → nonZero (mean n f (n - 1)) ≡ true �
 starts-early l n f e (some, h) = usable-found (n - 1) l (mean n f) (none-early n f) e (omega arith)
 
 -- where the first mean is not 0, the cells from bar 2n - 2 on are the rule's
-pub early-written : (n : ℕ) (f : Line) {l head : ℕ} {old mid now : List Float} → Writing head (mean n f) old mid
-    → nonZero (line mid (n - 1)) ≡ true → Writing l (singleEmaFrom (head - 1) n f) mid now
-    → (0 < n) × (head ≡ 2 * n - 1) × (head ≤ l) × (l ≤ length old) → Writing l (singleEmaLine l n f) old now
+pub early-finished : (n : ℕ) (f : Line) {l head : ℕ} {old mid now work₀ work₁ : List Float}
+    → Writing head (mean n f) old mid → nonZero (line mid (n - 1)) ≡ true
+    → Finished (singleEmaFrom (head - 1) n f) l l mid now work₀ work₁
+    → (0 < n) × (head ≡ 2 * n - 1) × (head ≤ l) × (l ≤ length old)
+    → Finished (singleEmaLine l n f) l l old now work₀ work₁
 unfolding singleEmaLine
-early-written n f {l} {head} w e v (some, is, h, room) =
+early-finished n f {l} {head} w e v (some, is, h, room) =
     let cell = read-back (n - 1) nan w (omega arith) in
     let first = starts-early l n f (rw (← cell) e) (omega arith) in
     let start : n - 1 + (n - 1) ≡ head - 1 = omega arith in
-    then-written w (rw (first, start) v) h
+    then-finished (touched-more (touched w) h) untouched (rw (first, start) v)

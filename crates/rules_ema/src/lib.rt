@@ -3,8 +3,8 @@ ghost use mathlib.Core.Path.{_≡_};
 ghost use mathlib.Core.Bool.{true};
 ghost use lib.ListN.{length};
 ghost use Rattle.cells.specs.Line.{line};
-ghost use Rattle.cells.specs.Written.{Writing};
-ghost use Rattle.windows.specs.inner.Eight.{WindowRoom};
+ghost use Rattle.work_rows.specs.inner.Finished.{Finished};
+ghost use Rattle.checks.specs.inner.Due.{Priced};
 ghost use Rattle.window_means.specs.inner.Ticks.{longTicks};
 ghost use Rattle.rules_ema.specs.SingleEma.{firstUsable, singleEmaFrom, singleEmaLine};
 ghost use Rattle.rules_ema.specs.inner.Stages.{Started, TicksStarted};
@@ -25,97 +25,114 @@ fn first_usable(means: &[f64]) -> usize
     }
 }
 
-// Writes each bar's position over the mean that stands in its cell, from the average's first bar and cell on.
-fn write_from(series: &[f64], n: usize, start: usize, seed: f64, out: &mut [f64])
-    requires { ⌜ Started n (now series) start seed (now out) ⌝ }
-    ensures { λ _. ⌜ Writing (length (now (series .entry))) (singleEmaFrom start n (line (now (series .entry))))
-        (now (out .entry)) (now (out .exit)) ⌝ }
+// Writes each bar's position over the mean that stands in its cell, from the average's first bar and cell on, and clears
+// the bar's work cells while an average waits for the one before it.
+fn write_from(series: &[f64], n: usize, start: usize, seed: f64, out: &mut [f64], work: &mut [f64])
+    requires { ⌜ Started n (now series) start seed (now out) (length (now work)) ⌝ }
+    ensures { λ _. ⌜ Finished (singleEmaFrom start n (line (now (series .entry)))) (length (now (series .entry)))
+        (length (now (series .entry))) (now (out .entry)) (now (out .exit)) (now (work .entry)) (now (work .exit)) ⌝ }
 {
+    let bars = series.len();
     let alpha = 2.0 / ((n + 1) as f64);
     let mut average = seed;
     let mut i = start;
     cells::clear(out, start);
+    work_rows::clear_bars(work, bars, start);
     while i + 1 < series.len() {
         out[i] = rounding::sign(series[i] - average);
+        work_rows::put(work, bars, i, 0.0);
         i += 1;
         average = averages_exponential::blended(alpha, average, out[i]);
     }
     out[i] = rounding::sign(series[i] - average);
+    work_rows::put(work, bars, i, 0.0);
 }
 
 // The same where the prices are whole ticks, with the means after bar `start` by a running sum, which is exact.
-fn write_from_ticks(series: &[f64], n: usize, start: usize, seed: f64, out: &mut [f64])
-    requires { ⌜ TicksStarted n (now series) start seed (length (now out)) ⌝ }
-    ensures { λ _. ⌜ Writing (length (now (series .entry))) (singleEmaFrom start n (line (now (series .entry))))
-        (now (out .entry)) (now (out .exit)) ⌝ }
+fn write_from_ticks(
+    series: &[f64],
+    n: usize,
+    start: usize,
+    seed: f64,
+    out: &mut [f64],
+    work: &mut [f64],
+)
+    requires { ⌜ TicksStarted n (now series) start seed (length (now out)) (length (now work)) ⌝ }
+    ensures { λ _. ⌜ Finished (singleEmaFrom start n (line (now (series .entry)))) (length (now (series .entry)))
+        (length (now (series .entry))) (now (out .entry)) (now (out .exit)) (now (work .entry)) (now (work .exit)) ⌝ }
 {
+    let bars = series.len();
     let alpha = 2.0 / ((n + 1) as f64);
     let count = n as f64;
     let mut sum = windows::sum_at(series, n, start);
     let mut average = seed;
     let mut i = start;
     cells::clear(out, start);
+    work_rows::clear_bars(work, bars, start);
     while i + 1 < series.len() {
         out[i] = rounding::sign(series[i] - average);
+        work_rows::put(work, bars, i, 0.0);
         i += 1;
         sum = sum + (series[i] - series[i - n]);
         average = averages_exponential::blended(alpha, average, sum / count);
     }
     out[i] = rounding::sign(series[i] - average);
+    work_rows::put(work, bars, i, 0.0);
 }
 
-// Writes each bar's position over the means of all bars.
-fn write_over_means(series: &[f64], n: usize, ticks: bool, out: &mut [f64])
-    requires { ⌜ WindowRoom n (length (now series)) (length (now out)) ⌝ }
+// Writes each bar's position over the means of all bars, and clears the work slice.
+fn write_over_means(series: &[f64], n: usize, ticks: bool, out: &mut [f64], work: &mut [f64])
+    requires { ⌜ Priced 8 n (now series) (length (now out)) (length (now work)) ⌝ }
     requires { ⌜ ticks ≡ longTicks n (now series) ⌝ }
-    ensures { λ _. ⌜ Writing (length (now (series .entry)))
-        (singleEmaLine (length (now (series .entry))) n (line (now (series .entry)))) (now (out .entry))
-        (now (out .exit)) ⌝ }
+    ensures { λ _. ⌜ Finished (singleEmaLine (length (now (series .entry))) n (line (now (series .entry))))
+        (length (now (series .entry))) (length (now (series .entry))) (now (out .entry)) (now (out .exit))
+        (now (work .entry)) (now (work .exit)) ⌝ }
 {
     let bars = series.len();
     window_means::write_means_by(series, n, ticks, out);
     let start = first_usable(&out[..bars]) + (n - 1);
     if start < bars {
         let seed = windows::mean_at(&out[..bars], n, start);
-        write_from(series, n, start, seed, out);
+        write_from(series, n, start, seed, out, work);
     } else {
         cells::clear(out, bars);
+        work_rows::clear_bars(work, bars, bars);
     }
 }
 
-// Writes each bar's position where the prices are whole ticks. Mostly the first mean is not 0: then the means up to bar
-// 2n - 2 are enough to start.
-fn write_of_ticks(series: &[f64], n: usize, out: &mut [f64])
-    requires { ⌜ WindowRoom n (length (now series)) (length (now out)) ⌝ }
+// The same where the prices are whole ticks. Mostly the first mean is not 0: then the means up to bar 2n - 2 are enough
+// to start.
+fn write_of_ticks(series: &[f64], n: usize, out: &mut [f64], work: &mut [f64])
+    requires { ⌜ Priced 8 n (now series) (length (now out)) (length (now work)) ⌝ }
     requires { ⌜ true ≡ longTicks n (now series) ⌝ }
-    ensures { λ _. ⌜ Writing (length (now (series .entry)))
-        (singleEmaLine (length (now (series .entry))) n (line (now (series .entry)))) (now (out .entry))
-        (now (out .exit)) ⌝ }
+    ensures { λ _. ⌜ Finished (singleEmaLine (length (now (series .entry))) n (line (now (series .entry))))
+        (length (now (series .entry))) (length (now (series .entry))) (now (out .entry)) (now (out .exit))
+        (now (work .entry)) (now (work .exit)) ⌝ }
 {
     let head = 2 * n - 1;
     if head <= series.len() {
         window_means::write_means_of_prices(&series[..head], n, out);
         if out[n - 1] != 0.0 {
             let seed = windows::mean_at(&out[..head], n, head - 1);
-            write_from_ticks(series, n, head - 1, seed, out);
+            write_from_ticks(series, n, head - 1, seed, out, work);
         } else {
-            write_over_means(series, n, true, out);
+            write_over_means(series, n, true, out, work);
         }
     } else {
-        write_over_means(series, n, true, out);
+        write_over_means(series, n, true, out, work);
     }
 }
 
-// Writes each bar's position.
-pub fn write_ema(series: &[f64], n: usize, out: &mut [f64])
-    requires { ⌜ WindowRoom n (length (now series)) (length (now out)) ⌝ }
-    ensures { λ _. ⌜ Writing (length (now (series .entry)))
-        (singleEmaLine (length (now (series .entry))) n (line (now (series .entry)))) (now (out .entry))
-        (now (out .exit)) ⌝ }
+// Writes each bar's position, and clears the work slice.
+pub fn write_ema(series: &[f64], n: usize, out: &mut [f64], work: &mut [f64])
+    requires { ⌜ Priced 8 n (now series) (length (now out)) (length (now work)) ⌝ }
+    ensures { λ _. ⌜ Finished (singleEmaLine (length (now (series .entry))) n (line (now (series .entry))))
+        (length (now (series .entry))) (length (now (series .entry))) (now (out .entry)) (now (out .exit))
+        (now (work .entry)) (now (work .exit)) ⌝ }
 {
     if window_means::are_long_ticks(series, n) {
-        write_of_ticks(series, n, out);
+        write_of_ticks(series, n, out, work);
     } else {
-        write_over_means(series, n, false, out);
+        write_over_means(series, n, false, out, work);
     }
 }

@@ -1,4 +1,5 @@
 pub mod Relative
+pub mod Shares
 pub mod Sums
 pub mod Means
 pub mod Signs

@@ -9,7 +9,7 @@ use lib.Ieee.{ofBits}
 use Rattle.cells.specs.Line.{line}
 use Rattle.averages_wilder.specs.inner.Averaged.{Averaged, Indexed}
 use Rattle.averages_wilder.proofs.Stages.{rsi-at, same-bar}
-use Rattle.averages_wilder.proofs.Indexed.{one-indexed, all-indexed}
+use Rattle.work_rows.proofs.Finished.{one-finished, all-finished}
 use Rattle.averages_wilder.proofs.write_from_seed.Statement.{statement}
 use Rattle.averages_wilder.proofs.write_from_seed.Tie as tie
 
@@ -34,7 +34,7 @@ loop-again c =
     let at = turn .loop in
     let room = turn .before .before .before .before .before .pre .0 .0 in
     let value = cell .cell .ensures ∙ rsi-at _ _ _ _ (at .inv .2) (omega arith) in
-    (omega arith, omega arith, c .next .ensures, one-indexed (at .inv .3) value (put .put .ensures) (omega arith))
+    (omega arith, omega arith, c .next .ensures, one-finished (at .inv .3) value (put .put .ensures) (omega arith))
 
 returns : tie.Need-returns Inv-loop μ-loop
 unfolding ofBits
@@ -45,7 +45,7 @@ returns c =
     let at = turn .loop in
     let room = turn .before .before .before .before .before .pre .0 .0 in
     let value = cell .cell2 .ensures ∙ rsi-at _ _ _ _ (at .inv .2) (omega arith) in
-    all-indexed (one-indexed (at .inv .3) value (put .put2 .ensures) (omega arith)) (omega arith)
+    all-finished (one-finished (at .inv .3) value (put .put2 .ensures) (omega arith)) (omega arith)
 
 pub write-from-seed-spec : {M : Type 1} → statement M
 write-from-seed-spec =

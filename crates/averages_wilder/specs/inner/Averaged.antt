@@ -5,9 +5,8 @@ use Prim.Native.Nat.{ℕ, _*_, _≤_}
 use lib.ListN.{length}
 use lib.Ieee.{Float}
 use Rattle.limits.specs.Limits.{Window}
-use Rattle.cells.specs.Line.{Line, line, plusZero}
-use Rattle.cells.specs.Written.{Writing}
-use Rattle.work_rows.specs.inner.Scratch.{Scratch}
+use Rattle.cells.specs.Line.{Line, line}
+use Rattle.work_rows.specs.inner.Finished.{Finished}
 use Rattle.changes.specs.Changes.{gains, losses}
 use Rattle.changes.specs.declared.Averages.{Averages}
 use Rattle.averages_wilder.specs.Wilder.{wilder}
@@ -19,10 +18,9 @@ pub record Room (n bars out work : ℕ) : Type 0 where
   pub out-long : bars ≤ out
   pub work-long : 8 * bars ≤ work
 
--- k cells are written, and the work cells of as many bars are cleared
-pub record Indexed (n : ℕ) (s : List Float) (k : ℕ) (out₀ out₁ work₀ work₁ : List Float) : Type 0 where
-  pub cells : Writing k (wilderRsiLine n (line s)) out₀ out₁
-  pub cleared : Scratch (length s) k (λ i. plusZero) work₀ work₁
+-- the index of the first k bars is written, and their work cells are cleared
+abbrev pub Indexed : ℕ → List Float → ℕ → List Float → List Float → List Float → List Float → Type 0
+Indexed n s = Finished (wilderRsiLine n (line s)) (length s)
 
 -- Wilder's averages of the gains and of the losses of f, at bar i
 pub record Averaged (n : ℕ) (f : Line) (i : ℕ) (r : Averages) : Type 0 where

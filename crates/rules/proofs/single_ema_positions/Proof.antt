@@ -1,11 +1,11 @@
 -- `single_ema_positions` meets its contract: the answer is the table's, and where it has cells they are written and
--- the work
--- slice is cleared. Assumes nothing.
+-- the work slice is cleared. Assumes nothing.
 use native.Mathlib.Omega.{arith}
 use borrow.Author.Needs.{needs}
 use denote.Ref.{now}
 use lib.ListN.{length}
 use Rattle.cells.proofs.Touched.{untouched}
+use Rattle.work_rows.proofs.Scratch.{all-cleared}
 use Rattle.calls.proofs.Room.{all-bars}
 use Rattle.checks.specs.inner.Due.{Priced}
 use Rattle.checks.proofs.Due.{clearable, priced, written-call, empty-call}
@@ -23,13 +23,14 @@ opened c =
 
 returns : tie.Need-returns
 returns c =
-    let clear = c .before .before in
-    let cells = clear .before .before .before .before in
-    let then = cells .before .before in
+    let cells = c .before .before .before .before in
+    let then = cells .before .before .before in
     let due = then .before .before .before in
+    let o = opened then in
+    let done = cells .write-ema .ensures in
+    let clear = all-cleared (done .cleared) (omega (arith, o .work-long, done .cleared .rest .long)) in
     written-call (due .before .before .answer-window-with-work .ensures) (all-bars _ _ _ _ _)
-    (rw (then .if1 .taken) at (due .cells-due .ensures)) (cells .write-ema .ensures, untouched {k = 0})
-    (omega arith) (clear .clear .ensures)
+    (rw (then .if1 .taken) at (due .cells-due .ensures)) (done .cells, untouched {k = 0}) (omega arith) clear
 
 pub single-ema-positions-spec : {M : Type 1} → statement M
 single-ema-positions-spec =
@@ -37,9 +38,7 @@ single-ema-positions-spec =
     (tie.spec
     (λ c κs. search needs)  -- answer-window-with-work-requires
     (λ c κs. clearable _ _ _ _ (c .before .answer-window-with-work .ensures))  -- cells-due-requires
-    (λ c κs. let o = opened (c .before) in record { window = o .window; room = o .out-long })  -- write-ema-requires
-    (λ c. let o = opened (c .before .before .before .before .before) in search needs)  -- mul-clear
-    (λ c κs. let o = opened (c .before .before .before .before .before) in search needs)  -- clear-requires
+    (λ c κs. let o = opened (c .before .before) in search needs)  -- write-ema-requires
     (λ c. search needs)  -- same-length
     (λ c. search needs)  -- same-length-2
     returns

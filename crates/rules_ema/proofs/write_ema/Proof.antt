@@ -10,11 +10,13 @@ write-ema-spec =
     (tie.spec
     (λ c κs. search needs)  -- are-long-ticks-requires
     -- write-of-ticks-requires
-    (λ c κs. (search needs, sym (c .before .if1 .taken) ∙ c .before .before .are-long-ticks .ensures))
+    (λ c κs. (search needs, sym (c .before .before .if1 .taken) ∙ c .before .before .before .are-long-ticks .ensures))
     -- write-over-means-requires
-    (λ c κs. (search needs, sym (c .before .if1 .left) ∙ c .before .before .are-long-ticks .ensures))
+    (λ c κs. (search needs, sym (c .before .before .if1 .left) ∙ c .before .before .before .are-long-ticks .ensures))
     (λ c. search needs)  -- same-length
-    (λ c. search needs)  -- returns
     (λ c. search needs)  -- same-length-2
+    (λ c. search needs)  -- returns
+    (λ c. search needs)  -- same-length-3
+    (λ c. search needs)  -- same-length-4
     (λ c. search needs)  -- returns-2
     )

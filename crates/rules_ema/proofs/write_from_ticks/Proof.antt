@@ -9,34 +9,36 @@ use borrow.Author.Needs.{needs}
 use denote.Ref.{now}
 use lib.Ieee.{ofBits}
 use Rattle.cells.specs.Line.{line}
-use Rattle.cells.specs.Written.{Writing}
-use Rattle.cells.proofs.Written.{stands, one-more, then-written, ends}
+use Rattle.work_rows.specs.inner.Finished.{Finished}
+use Rattle.work_rows.proofs.Finished.{one-finished}
 use Rattle.windows.specs.Window.{addDifference}
 use Rattle.windows.specs.inner.Sums.{Running}
 use Rattle.windows.proofs.Window.{count-is-float, next-running}
 use Rattle.rules_ema.specs.SingleEma.{emaOfMeans, singleEmaFrom}
-use Rattle.rules_ema.proofs.SingleEma.{first-average, next-average, position-at, lead-written}
+use Rattle.rules_ema.proofs.SingleEma.{first-average, next-average, position-at, lead-finished, rest-finished}
 use Rattle.rules_ema.proofs.Ticks.{fresh-running, running-mean}
 use Rattle.rules_ema.proofs.write_from_ticks.Statement.{statement}
 use Rattle.rules_ema.proofs.write_from_ticks.Tie as tie
 
 abbrev Inv-loop : tie.InvT-loop
-Inv-loop series n start seed out₀ alpha count sum₀ average₀ i₀ out sum average i =
-    (start ≤ i) × (i < length series) × Writing i (singleEmaFrom start n (line series)) out₀ out
+Inv-loop series n start seed out₀ work₀ bars alpha count sum₀ average₀ i₀ out work sum average i =
+    (start ≤ i) × (i < length series)
+    × Finished (singleEmaFrom start n (line series)) (length series) i out₀ out work₀ work
     × (average ≡ emaOfMeans start n (line series) i) × Running addDifference n (line series) (i + 1) sum
 
 abbrev μ-loop : tie.MeasureT-loop
-μ-loop series n start seed out₀ alpha count sum₀ average₀ i₀ out sum average i = length series - i
+μ-loop series n start seed out₀ work₀ bars alpha count sum₀ average₀ i₀ out work sum average i = length series - i
 
 loop-holds : tie.Need-loop-holds Inv-loop μ-loop
 loop-holds c =
-    let lead = c .before .before in
+    let rows = c .before .before in
+    let lead = rows .before .before .before .before in
     let summed = lead .before .before in
-    let known = summed .before .before .before .before in
+    let known = summed .before .before .before .before .before in
     let start = known .before in (
       omega arith,
       omega arith,
-      stands (lead-written _ _ _ (lead .clear .ensures) (omega arith)),
+      lead-finished _ _ _ (lead .clear .ensures) (rows .clear-bars .ensures),
       first-average _ _ _ (start .pre .first),
       fresh-running (now (start .args .series)) _ (known .shared-slice-known .given) (start .pre .ticks)
           (start .pre .window) _ (summed .sum-at .ensures) (omega arith),
@@ -45,29 +47,41 @@ loop-holds c =
 loop-again : tie.Need-loop-again Inv-loop μ-loop
 unfolding ofBits
 loop-again c =
-    let here = c .before .before .before in
+    let put = c .before .before .before .before .before in
+    let here = put .before .before in
     let at = here .before .before .before in
-    let known = at .before .before .before .before .before .before .before .before .before in
+    let lead = at .before .before .before .before .before .before .before in
+    let cells = lead .clear .ensures .long in
+    let rows = at .before .before .before .clear-bars .ensures .rest .long in
+    let kept = at .loop .inv .2 .cleared .rest .long in
+    let summed = lead .before .before in
+    let known = summed .before .before .before .before .before in
     let start = known .before in
+    let pre = start .pre in
     let i = at .loop .i in
     let slid = next-running (at .loop .inv .4) (omega arith) in
     let mean-is = running-mean (now (start .args .series)) _ (known .shared-slice-known .given) (start .pre .ticks)
     (start .pre .window) (i + 1) slid (omega arith) in (
       omega arith,
       omega arith,
-      one-more (at .loop .inv .2) (position-at _ _ _ _ (at .loop .inv .3) (here .sign .ensures) (omega arith))
-          (omega arith),
+      one-finished (at .loop .inv .2) (position-at _ _ _ _ (at .loop .inv .3) (here .sign .ensures) (omega arith))
+          (put .put .ensures) (omega arith),
       next-average _ _ _ _ (at .loop .inv .3) mean-is (c .blended .ensures) (omega arith),
       slid,
     )
 
 returns : tie.Need-returns Inv-loop μ-loop
+unfolding ofBits
 returns c =
-    let at = c .before .before .before in
-    let lead = at .before .before .before in
-    let now = one-more (at .loop .inv .2) (position-at _ _ _ _ (at .loop .inv .3) (c .sign2 .ensures) (omega arith))
-    (omega arith) in
-    ends (then-written (lead .clear .ensures) now (omega arith)) (omega arith)
+    let put = c .before .before in
+    let here = put .before .before in
+    let at = here .before .before .before in
+    let rows = at .before .before .before in
+    let lead = rows .before .before .before .before in
+    let pre = lead .before .before .before .before .before .before .before .before .pre in
+    let now = one-finished (at .loop .inv .2)
+    (position-at _ _ _ _ (at .loop .inv .3) (here .sign2 .ensures) (omega arith)) (put .put2 .ensures) (omega arith) in
+    rest-finished _ _ _ (lead .clear .ensures) (rows .clear-bars .ensures) now (omega arith)
 
 pub write-from-ticks-spec : {M : Type 1} → statement M
 write-from-ticks-spec =
@@ -80,6 +94,7 @@ write-from-ticks-spec =
     (λ c. count-is-float _ (omega arith))  -- int-to-float-count
     (λ c κs. search needs)  -- sum-at-requires
     (λ c κs. search needs)  -- clear-requires
+    (λ c κs. search needs)  -- clear-bars-requires
     loop-holds
     (λ c. search needs)  -- add-loop
     (λ c. search needs)  -- mul-sign
@@ -87,6 +102,7 @@ write-from-ticks-spec =
     (λ c κs. search needs)  -- sign-requires
     (λ c. search needs)  -- mul-out
     (λ c. search needs)  -- slice-write-out
+    (λ c κs. search needs)  -- put-requires
     (λ c. search needs)  -- add-i
     (λ c. search needs)  -- mul-sum
     (λ c. search needs)  -- shared-slice-read-sum
@@ -101,6 +117,8 @@ write-from-ticks-spec =
     (λ c κs. search needs)  -- sign-requires-2
     (λ c. search needs)  -- mul-out-2
     (λ c. search needs)  -- slice-write-out-2
+    (λ c κs. search needs)  -- put-requires-2
     (λ c. simp length-set (omega arith))  -- same-length
+    (λ c. search needs)  -- same-length-2
     returns
     )

@@ -8,23 +8,24 @@ use denote.Ref.{now}
 use lib.Ieee.{ne, ofBits}
 use Rattle.cells.specs.Line.{line}
 use Rattle.cells.proofs.Parts.{part-long}
-use Rattle.cells.proofs.Written.{then-written}
+use Rattle.cells.proofs.Touched.{untouched, touched, touched-more}
+use Rattle.work_rows.proofs.Finished.{then-finished}
 use Rattle.window_means.proofs.Ticks.{known-ticks}
 use Rattle.rules_ema.proofs.SingleEma.{seed-found}
-use Rattle.rules_ema.proofs.Ticks.{head-long, head-means, early-written}
+use Rattle.rules_ema.proofs.Ticks.{head-long, head-means, early-finished}
 use Rattle.rules_ema.proofs.write_of_ticks.Statement.{statement}
 use Rattle.rules_ema.proofs.write_of_ticks.Tie as tie
 
 write-means-of-prices-requires : tie.Need-write-means-of-prices-requires
 write-means-of-prices-requires c κs =
-    let start = c .before .before .before .before .before in
+    let start = c .before .before .before .before .before .before in
     let long = head-long (2 * start .args .n - 1) (now (start .args .series)) (omega arith) in
     record { window = start .pre .0 .window; room = omega arith }
 
 slice-aggregate-mean-at : tie.Need-slice-aggregate-mean-at
 slice-aggregate-mean-at c =
     let means = c .before .before .before .before .before in
-    let a = means .before .before .before .before .before .before .args in
+    let a = means .before .before .before .before .before .before .before .args in
     let stood = head-means (a .n) (2 * a .n - 1) (now (a .series)) (means .write-means-of-prices .ensures)
     (omega arith) in
     sym (part-long stood (omega arith))
@@ -32,7 +33,7 @@ slice-aggregate-mean-at c =
 mean-at-requires : tie.Need-mean-at-requires
 mean-at-requires c κs =
     let means = c .before .before .before .before .before in
-    let start = means .before .before .before .before .before .before in
+    let start = means .before .before .before .before .before .before .before in
     let a = start .args in
     let stood = head-means (a .n) (2 * a .n - 1) (now (a .series)) (means .write-means-of-prices .ensures)
     (omega arith) in
@@ -41,9 +42,9 @@ mean-at-requires c κs =
 
 write-from-ticks-requires : tie.Need-write-from-ticks-requires
 write-from-ticks-requires c κs =
-    let at-seed = c .before in
+    let at-seed = c .before .before in
     let means = at-seed .before .before .before .before .before .before in
-    let start = means .before .before .before .before .before .before in
+    let start = means .before .before .before .before .before .before .before in
     let a = start .args in
     let stood = head-means (a .n) (2 * a .n - 1) (now (a .series)) (means .write-means-of-prices .ensures)
     (omega arith) in
@@ -55,29 +56,39 @@ write-from-ticks-requires c κs =
       inside = omega arith;
       first = seed-found (a .n) (line (now (a .series))) stood (omega arith) _ (at-seed .mean-at .ensures)
           (omega arith);
+      rows = start .pre .0 .work-long;
     }
+
+write-over-means-requires : tie.Need-write-over-means-requires
+write-over-means-requires c κs =
+    let means = c .before .before .before .before .before .before in
+    let start = means .before .before .before .before .before .before .before in
+    let a = start .args in
+    let stood = head-means (a .n) (2 * a .n - 1) (now (a .series)) (means .write-means-of-prices .ensures)
+    (omega arith) in
+    (rw (stood .long) (start .pre .0), start .pre .1)
 
 returns : tie.Need-returns
 unfolding ne ofBits
 returns c =
-    let cells = c .before .before in
-    let then = cells .before .before .before .before in
+    let cells = c .before .before .before .before in
+    let then = cells .before .before .before .before .before in
     let means = then .before .before .before .before in
-    let start = means .before .before .before .before .before .before in
+    let start = means .before .before .before .before .before .before .before in
     let a = start .args in
     let stood = head-means (a .n) (2 * a .n - 1) (now (a .series)) (means .write-means-of-prices .ensures)
     (omega arith) in
-    early-written (a .n) (line (now (a .series))) stood (then .if2 .taken) (cells .write-from-ticks .ensures)
-    (omega (arith, start .pre .0 .window .some, start .pre .0 .room))
+    early-finished (a .n) (line (now (a .series))) stood (then .if2 .taken) (cells .write-from-ticks .ensures)
+    (omega (arith, start .pre .0 .window .some, start .pre .0 .out-long))
 
 returns-2 : tie.Need-returns-2
 returns-2 c =
-    let cells = c .before .before in
-    let means = cells .before .before .before .before .before .before in
-    let a = means .before .before .before .before .before .before .args in
+    let cells = c .before .before .before .before in
+    let means = cells .before .before .before .before .before .before .before in
+    let a = means .before .before .before .before .before .before .before .args in
     let stood = head-means (a .n) (2 * a .n - 1) (now (a .series)) (means .write-means-of-prices .ensures)
     (omega arith) in
-    then-written stood (cells .write-over-means .ensures) (omega arith)
+    then-finished (touched-more (touched stood) (omega arith)) untouched (cells .write-over-means .ensures)
 
 pub write-of-ticks-spec : {M : Type 1} → statement M
 write-of-ticks-spec =
@@ -96,12 +107,15 @@ write-of-ticks-spec =
     mean-at-requires
     (λ c. search needs)  -- sub-write-from-ticks
     write-from-ticks-requires
-    (λ c κs. search needs)  -- write-over-means-requires
+    write-over-means-requires
     (λ c κs. search needs)  -- write-over-means-requires-2
     (λ c. search needs)  -- same-length
-    returns
     (λ c. search needs)  -- same-length-2
-    returns-2
+    returns
     (λ c. search needs)  -- same-length-3
+    (λ c. search needs)  -- same-length-4
+    returns-2
+    (λ c. search needs)  -- same-length-5
+    (λ c. search needs)  -- same-length-6
     (λ c. search needs)  -- returns-3
     )

@@ -9,14 +9,14 @@ use Rattle.cells.specs.Line.{line}
 use Rattle.cells.proofs.Parts.{part-long}
 use Rattle.cells.proofs.Written.{stands}
 use Rattle.windows.specs.Window.{mean}
-use Rattle.rules_ema.proofs.SingleEma.{usable-inside, start-found, seed-found, found-written, lead-written}
+use Rattle.rules_ema.proofs.SingleEma.{usable-inside, start-found, seed-found, found-finished, none-finished}
 use Rattle.rules_ema.proofs.write_over_means.Statement.{statement}
 use Rattle.rules_ema.proofs.write_over_means.Tie as tie
 
 add-start : tie.Need-add-start
 add-start c =
     let means = c .before .before .before .before in
-    let a = means .before .before .before .before .args in
+    let a = means .before .before .before .before .before .args in
     let found = start-found (a .n) (line (now (a .series))) (means .write-means-by .ensures) (omega arith)
     (c .first-usable .ensures) in
     let inside = usable-inside (length (now (a .series))) (mean (a .n) (line (now (a .series)))) in
@@ -31,13 +31,13 @@ mean-at-requires : tie.Need-mean-at-requires
 mean-at-requires c κs =
     let means = c .before .before .before .before .before .before in
     let long = part-long (means .write-means-by .ensures) (omega arith) in
-    record { window = means .before .before .before .before .pre .0 .window; full = omega arith; inside = omega arith }
+    record { window = means .before .before .before .before .before .pre .0 .window; full = omega arith; inside = omega arith }
 
 write-from-requires : tie.Need-write-from-requires
 write-from-requires c κs =
-    let at-seed = c .before in
+    let at-seed = c .before .before in
     let means = at-seed .before .before .before .before .before .before .before in
-    let start = means .before .before .before .before in
+    let start = means .before .before .before .before .before in
     let a = start .args in
     let stood = means .write-means-by .ensures in
     record {
@@ -45,33 +45,38 @@ write-from-requires c κs =
       inside = omega arith;
       first = seed-found (a .n) (line (now (a .series))) stood (omega arith) _ (at-seed .mean-at .ensures)
           (omega arith);
+      rows = start .pre .0 .work-long;
     }
 
 returns : tie.Need-returns
 returns c =
-    let cells = c .before .before in
-    let found = cells .before .before .before .before .before in
+    let cells = c .before .before .before .before in
+    let found = cells .before .before .before .before .before .before in
     let means = found .before .before .before .before in
-    let a = means .before .before .before .before .args in
+    let a = means .before .before .before .before .before .args in
     let stood = means .write-means-by .ensures in
-    found-written (a .n) (line (now (a .series))) stood (omega arith) (found .first-usable .ensures)
+    found-finished (a .n) (line (now (a .series))) stood (omega arith) (found .first-usable .ensures)
     (cells .write-from .ensures)
 
 returns-2 : tie.Need-returns-2
 returns-2 c =
-    let cells = c .before .before in
+    let rows = c .before .before in
+    let cells = rows .before .before .before .before in
     let found = cells .before .before .before in
     let means = found .before .before .before .before in
-    let a = means .before .before .before .before .args in
+    let start = means .before .before .before .before .before in
+    let a = start .args in
+    let room = start .pre .0 .out-long in
     let stood = means .write-means-by .ensures in
-    found-written (a .n) (line (now (a .series))) stood (omega arith) (found .first-usable .ensures)
-    (lead-written _ (a .n) (line (now (a .series))) (cells .clear .ensures) (omega arith))
+    found-finished (a .n) (line (now (a .series))) stood (omega arith) (found .first-usable .ensures)
+    (none-finished _ (a .n) (line (now (a .series))) (cells .clear .ensures) (rows .clear-bars .ensures) (omega arith))
 
 pub write-over-means-spec : {M : Type 1} → statement M
 write-over-means-spec =
     tie.close
     (tie.spec
-    (λ c κs. search needs)  -- write-means-by-requires
+    -- write-means-by-requires
+    (λ c κs. let pre = c .before .before .before .before .pre in (record { window = pre .0 .window; room = search needs }, pre .1))
     (λ c. search needs)  -- slice-reshare-prefix-first-usable
     (λ c. let means = c .before .before .before in
     sym (part-long (means .write-means-by .ensures) (omega arith)))  -- slice-aggregate-first-usable
@@ -83,8 +88,11 @@ write-over-means-spec =
     mean-at-requires
     write-from-requires
     (λ c κs. search needs)  -- clear-requires
+    (λ c κs. search needs)  -- clear-bars-requires
     (λ c. search needs)  -- same-length
-    returns
     (λ c. search needs)  -- same-length-2
+    returns
+    (λ c. search needs)  -- same-length-3
+    (λ c. search needs)  -- same-length-4
     returns-2
     )
