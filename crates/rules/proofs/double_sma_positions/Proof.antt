@@ -1,5 +1,5 @@
--- `double_sma_positions` meets its contract: whole ticks are written by their own stage; else the answer is the table's,
--- and where it has cells they are written. Assumes nothing.
+-- `double_sma_positions` meets its contract: whole ticks are written by their own stage; else the answer is that of
+-- the table, and where it has cells they are written. Assumes nothing.
 use mathlib.Core.Path.{_≡_, sym, _∙_}
 use mathlib.Core.Bool.{true}
 use Prim.Native.Nat.{_<_}

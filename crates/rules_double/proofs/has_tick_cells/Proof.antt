@@ -1,4 +1,4 @@
--- `has_tick_cells` meets its contract: the lengths first, and the prices only where those are in order. Assumes nothing.
+-- `has_tick_cells` meets its contract: lengths first, and prices only where those are in order. Assumes nothing.
 use borrow.Author.Needs.{needs}
 use Rattle.rules_double.specs.inner.Ticks.{tickCells}
 use Rattle.rules_double.proofs.has_tick_cells.Statement.{statement}

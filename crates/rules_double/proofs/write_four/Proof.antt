@@ -12,7 +12,8 @@ use Rattle.rules_double.proofs.write_four.Statement.{statement}
 use Rattle.rules_double.proofs.write_four.Tie as tie
 
 exact : (c : tie.After-change-at4) → let a = c .before .before .before .before .before .before .args in
-    FourExact (a .n) (a .m) (ticksOf (now (a .series))) (a .i) (a .before) (c .before .before .before .change-at .result)
+    FourExact (a .n) (a .m) (ticksOf (now (a .series))) (a .i) (a .before)
+    (c .before .before .before .change-at .result)
     (c .before .before .change-at2 .result) (c .before .change-at3 .result) (c .change-at4 .result)
 exact c =
     let start = c .before .before .before .before .before .before in
