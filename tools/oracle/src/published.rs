@@ -1,6 +1,6 @@
-//! Published tables, each with its closes, its window and its figures to two decimals. The cells of a call must round to
-//! them. Both are of StockCharts' ChartSchool: "Moving Averages - Simple and Exponential" (10 days) and "Relative Strength
-//! Index (RSI)" (14 days).
+//! Published tables, each with its prices, its window and its figures to two decimals. The cells of a call must round to
+//! them. All are of StockCharts' ChartSchool: "Moving Averages - Simple and Exponential" (10 days), "Relative Strength
+//! Index (RSI)" (14 days) and "Average True Range (ATR)" (the column of true ranges).
 
 use crate::call::{Call, Value};
 use crate::catalogue::Function;
@@ -8,6 +8,8 @@ use crate::source;
 
 /// Half of a figure's last digit, and a little for the sum's own rounding.
 const TOLERANCE: f64 = 0.005_000_001;
+/// The same where two prices are printed to two decimals too.
+const TOLERANCE_OF_RANGES: f64 = 0.015_000_001;
 
 const AVERAGED: [f64; 30] = [
     22.2734, 22.1940, 22.0847, 22.1741, 22.1840, 22.1344, 22.2337, 22.4323, 22.2436, 22.2933, 22.1542, 22.3926,
@@ -32,18 +34,39 @@ const INDEX: [f64; 19] = [
     37.30, 33.08, 37.77,
 ];
 
+const HIGHS: [f64; 30] = [
+    48.70, 48.72, 48.90, 48.87, 48.82, 49.05, 49.20, 49.35, 49.92, 50.19, 50.12, 49.66, 49.88, 50.19, 50.36, 50.57,
+    50.65, 50.43, 49.63, 50.33, 50.29, 50.17, 49.32, 48.50, 48.32, 46.80, 47.80, 48.39, 48.66, 48.79,
+];
+const LOWS: [f64; 30] = [
+    47.79, 48.14, 48.39, 48.37, 48.24, 48.64, 48.94, 48.86, 49.50, 49.87, 49.20, 48.90, 49.43, 49.73, 49.26, 50.09,
+    50.30, 49.21, 48.98, 49.61, 49.20, 49.43, 48.08, 47.64, 41.55, 44.28, 47.31, 47.20, 47.90, 47.73,
+];
+/// The close before each bar; the first is not read.
+const CLOSES_BEFORE: [f64; 30] = [
+    0.00, 48.16, 48.61, 48.75, 48.63, 48.74, 49.03, 49.07, 49.32, 49.91, 50.13, 49.53, 49.50, 49.75, 50.03, 50.31,
+    50.52, 50.41, 49.34, 49.37, 50.23, 49.24, 49.93, 48.43, 48.18, 46.57, 45.41, 47.77, 47.72, 48.62,
+];
+const RANGES: [f64; 30] = [
+    0.91, 0.58, 0.51, 0.50, 0.58, 0.41, 0.26, 0.49, 0.60, 0.32, 0.93, 0.76, 0.45, 0.47, 1.10, 0.48, 0.35, 1.22, 0.65,
+    0.96, 1.09, 0.93, 1.85, 0.86, 6.77, 2.52, 2.39, 1.19, 0.94, 1.06,
+];
+
 /// The call of a function's table, whose last cells are its figures.
 pub fn call(function: &Function) -> Option<Call> {
-    let (closes, window, figures): (&[f64], usize, &[f64]) = match function.name {
-        "sma" => (&AVERAGED, 10, &SIMPLE),
-        "ema" => (&AVERAGED, 10, &EXPONENTIAL),
-        "wilder_rsi" => (&INDEXED, 14, &INDEX),
+    let (series, window, figures, tolerance): (Vec<&[f64]>, Option<usize>, &[f64], f64) = match function.name {
+        "sma" => (vec![&AVERAGED], Some(10), &SIMPLE, TOLERANCE),
+        "ema" => (vec![&AVERAGED], Some(10), &EXPONENTIAL, TOLERANCE),
+        "wilder_rsi" => (vec![&INDEXED], Some(14), &INDEX, TOLERANCE),
+        "true_range" => (vec![&HIGHS, &LOWS, &CLOSES_BEFORE], None, &RANGES, TOLERANCE_OF_RANGES),
         _ => return None,
     };
-    let call = function.call(vec![closes.to_vec()], vec![Value::Count(window)]);
+    let bars = series[0].len();
+    let series = series.into_iter().map(<[f64]>::to_vec).collect();
+    let call = function.call(series, window.map(Value::Count).into_iter().collect());
     let cells = source::expected(function, &call).cells.remove(0);
-    let last = &cells[closes.len() - figures.len()..];
-    let same = last.iter().zip(figures).all(|(cell, figure)| (f64::from_bits(*cell) - figure).abs() <= TOLERANCE);
+    let last = &cells[bars - figures.len()..];
+    let same = last.iter().zip(figures).all(|(cell, figure)| (f64::from_bits(*cell) - figure).abs() <= tolerance);
     assert!(same, "{}: the source does not give the published figures", function.name);
     Some(call)
 }
