@@ -1,10 +1,10 @@
 //! Calls at each edge that document 01 names, on values of the seed's making: the same edges with every seed.
 
 use crate::call::{Call, Value};
-use crate::catalogue::{Function, Role};
+use crate::catalogue::{Domain, Function, Role};
 use crate::generate::{ODD_PERIODS, ODD_REALS, ODD_WHOLE_PERIODS, ODD_WINDOWS, PERIOD_LIMIT, WINDOW_LIMIT, plain};
 use crate::rng::Rng;
-use crate::series::{DAMAGED, SERIES_LIMIT, damage, wide};
+use crate::series::{DAMAGED, SERIES_LIMIT, damage, near_ties, wide};
 
 pub fn edges(rng: &mut Rng, function: &Function) -> Vec<Call> {
     let mut calls = Vec::new();
@@ -16,6 +16,7 @@ pub fn edges(rng: &mut Rng, function: &Function) -> Vec<Call> {
     every_room(rng, function, &mut calls);
     unequal(rng, function, &mut calls);
     wide_windows(rng, function, &mut calls);
+    ties(rng, function, &mut calls);
     pairs_of_faults(rng, function, &mut calls);
     long(rng, function, &mut calls);
     calls
@@ -223,6 +224,17 @@ fn wide_windows(rng: &mut Rng, function: &Function, calls: &mut Vec<Call>) {
     for n in [63, 64, 65, 202, 204, 255, 256, 302, 402] {
         for _ in 0..3 {
             calls.push(plain(rng, function, 3 * n + 8, with_windows(function, n)));
+        }
+    }
+}
+
+/// Windows around those from which running sums decide, on hundredths with prices at their average or near it.
+fn ties(rng: &mut Rng, function: &Function, calls: &mut Vec<Call>) {
+    if function.series == 1 && function.domain == Domain::Accepted {
+        for n in [24, 39, 40, 41, 60, 100, 250] {
+            for series in near_ties(rng, 3 * n + 8, n) {
+                calls.push(function.call(vec![series], with_windows(function, n)));
+            }
         }
     }
 }
