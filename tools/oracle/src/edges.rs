@@ -1,10 +1,10 @@
 //! Calls at each edge that document 01 names, on values of the seed's making: the same edges with every seed.
 
 use crate::call::{Call, Value};
-use crate::catalogue::{Function, Role};
+use crate::catalogue::{Domain, Function, Role};
 use crate::generate::{ODD_PERIODS, ODD_REALS, ODD_WHOLE_PERIODS, ODD_WINDOWS, PERIOD_LIMIT, WINDOW_LIMIT, plain};
 use crate::rng::Rng;
-use crate::series::{DAMAGED, SERIES_LIMIT, damage, large, walk, wide};
+use crate::series::{DAMAGED, SERIES_LIMIT, damage, large, near_ties, walk, wide};
 use crate::ties::ties;
 
 pub fn edges(rng: &mut Rng, function: &Function) -> Vec<Call> {
@@ -20,6 +20,7 @@ pub fn edges(rng: &mut Rng, function: &Function) -> Vec<Call> {
     ticks_of_long_windows(rng, function, &mut calls);
     zeros_first(rng, function, &mut calls);
     multiples(rng, function, &mut calls);
+    at_the_average(rng, function, &mut calls);
     pairs_of_faults(rng, function, &mut calls);
     long(rng, function, &mut calls);
     ties(rng, function, &mut calls);
@@ -263,6 +264,17 @@ fn multiples(rng: &mut Rng, function: &Function, calls: &mut Vec<Call>) {
                 parameters[place] = Value::Real(multiple);
                 let series = (0..function.series).map(|_| large(rng, 40)).collect();
                 calls.push(function.call(series, parameters));
+            }
+        }
+    }
+}
+
+/// Windows around those from which running sums decide, on hundredths with prices at their average or near it.
+fn at_the_average(rng: &mut Rng, function: &Function, calls: &mut Vec<Call>) {
+    if function.series == 1 && function.domain == Domain::Accepted {
+        for n in [24, 39, 40, 41, 60, 100, 250] {
+            for series in near_ties(rng, 3 * n + 8, n) {
+                calls.push(function.call(vec![series], with_windows(function, n)));
             }
         }
     }

@@ -139,6 +139,37 @@ fn of_shape(rng: &mut Rng, shape: Shape, tick: f64, len: usize) -> Vec<f64> {
     (0..len).map(value).map(within_limits).collect()
 }
 
+/// Hundredths that come near a tie with the means of their last n means: flat, rising, a hundredth around a level, a
+/// level that falls far, and walks whose last price is such a mean, or lies a few units beside it.
+pub fn near_ties(rng: &mut Rng, len: usize, n: usize) -> Vec<Vec<f64>> {
+    let level = rng.between(-1_000_000, 1_000_000);
+    let line = |value: &mut dyn FnMut(i64) -> i64| -> Vec<f64> {
+        (0..len as i64).map(|bar| within_limits(value(bar) as f64 / 100.0)).collect()
+    };
+    let mut walk = level;
+    let walked = line(&mut |_| {
+        walk += rng.between(-40, 40);
+        walk
+    });
+    let tie = mean_of_means(&walked, n).to_bits();
+    let beside = |units: u64| [&walked[..len - 1], &[within_limits(f64::from_bits(tie + units - 2))]].concat();
+    let mut all: Vec<Vec<f64>> = (0..5).map(beside).collect();
+    all.push(line(&mut |_| level));
+    all.push(line(&mut |bar| level + bar));
+    all.push(line(&mut |_| level + rng.between(-1, 1)));
+    all.push(line(&mut |bar| if bar < n as i64 { 100_000_000_000 } else { level + rng.between(-40, 40) }));
+    all
+}
+
+/// What the last price has to be to be the mean of its last n means: the price `back` bars before it counts as often as
+/// windows of windows have it.
+fn mean_of_means(series: &[f64], n: usize) -> f64 {
+    let last = series.len() - 1;
+    let times = |back: usize| (back + 1).min(2 * n - 1 - back) as f64;
+    let others: f64 = (1..2 * n - 1).map(|back| series[last - back] * times(back)).sum();
+    others / (n * n - 1) as f64
+}
+
 /// An accepted value of any size.
 fn of_any_size(word: u64) -> f64 {
     let exponent = (word >> 53) % (1023 + 30);
