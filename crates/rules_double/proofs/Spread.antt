@@ -3,11 +3,11 @@
 use mathlib.Core.Path.{_≡_, refl, sym, ap, _∙_}
 use mathlib.Core.Bool.{Bool, true, false, cond}
 use mathlib.Core.List.{List}
-use Prim.Native.Nat.{ℕ, zero, suc, _+_, _-_, _*_, _^_, _<_, _≤_}
+use Prim.Native.Nat.{ℕ, zero, suc, _+_, _-_, _*_, _^_, _<_, _≤_, zero-le}
 use native.Mathlib.Nat.{add-zero, zero-add, mul-le-mul}
 use native.Mathlib.Omega.{arith}
 use borrow.Author.Tests.{lt-ltb, le-ltb}
-use lib.Dec.{ltb, lit<}
+use lib.Dec.{ltb}
 use lib.IntN.{ℤ, pos, negsuc, natAbs, _+ℤ_, _-ℤ_, _*ℤ_, +ℤ-assoc, +ℤ-idr}
 use lib.ListN.{length, set}
 use lib.Signed.{ltZ}
@@ -28,6 +28,7 @@ use Rattle.rounding_laws.proofs.Integers.{
   parts-times,
   total-slides,
 }
+use Rattle.rounding_laws.proofs.About.{zero-is}
 use Rattle.rounding_laws.proofs.Whole.{whole-value, add-whole, sub-whole, mul-whole}
 use Rattle.cells.specs.Line.{Line, plusZero, minusZero}
 use Rattle.cells.specs.Written.{Writing}
@@ -165,15 +166,17 @@ added : {x y : Float} (a b : ℤ) → x ≡ ofInt binary64 a → y ≡ ofInt bin
     → add binary64 x y ≡ ofInt binary64 (a +ℤ b)
 added a b p q h k = rw (p, q) (add-whole binary64 a b h k)
 
--- ---- four bars at once
+-- ---- every other bar
 
--- b and the sums of what the four bars from bar i on add are the spreads after each of them
-pub record FourExact (n m : ℕ) (t : ℕ → ℤ) (i : ℕ) (b c₀ c₁ c₂ c₃ : Float) : Type 0 where
-  pub first : add binary64 b c₀ ≡ ofInt binary64 (spread n m t (i + 1))
-  pub second : add binary64 b (add binary64 c₀ c₁) ≡ ofInt binary64 (spread n m t (i + 2))
-  pub third : add binary64 b (add binary64 (add binary64 c₀ c₁) c₂) ≡ ofInt binary64 (spread n m t (i + 3))
-  pub fourth : add binary64 b (add binary64 (add binary64 c₀ c₁) (add binary64 c₂ c₃))
-      ≡ ofInt binary64 (spread n m t (i + 4))
+-- p and q are whole numbers whose sum is the spread of the bars before bar i
+pub record InParts (n m : ℕ) (t : ℕ → ℤ) (i : ℕ) (p q : Float) : Type 0 where
+  pub old : ℤ
+  pub new : ℤ
+  pub sum : old +ℤ new ≡ spread n m t i
+  pub p-is : p ≡ ofInt binary64 old
+  pub q-is : q ≡ ofInt binary64 new
+  pub old-small : natAbs old ≤ 2 ^ 53
+  pub new-small : natAbs new ≤ 2 ^ 38
 
 -- ---- the spread
 
@@ -331,66 +334,45 @@ module _ {n m l : ℕ} {f : Line} {t : ℕ → ℤ} (o : BothFull n m l f t) whe
       rw (spread-next i h)
       (added (spread n m t i) (change n m t i) e p (spread-small i h (omega arith)) (omega (arith, change-small i h u)))
 
-  -- one bar more
-  further : (i k : ℕ) (z : ℤ) → m ≤ i → spread n m t (i + k) ≡ spread n m t i +ℤ z
-      → spread n m t (i + (k + 1)) ≡ spread n m t i +ℤ (z +ℤ change n m t (i + k))
-  further i k z h e =
-      let bar : i + (k + 1) ≡ i + k + 1 = omega arith in
-      rw (bar, spread-next (i + k) (omega arith), e) (+ℤ-assoc (spread n m t i) z (change n m t (i + k)))
+  -- the spread as it is, and 0
+  pub first-parts : {b : Float} → b ≡ ofInt binary64 (spread n m t m) → InParts n m t m b plusZero
+  first-parts e = record {
+    old = spread n m t m;
+    new = pos 0;
+    sum = +ℤ-idr (spread n m t m);
+    p-is = e;
+    q-is = sym (zero-is binary64);
+    old-small = spread-small m (omega arith) (o .full);
+    new-small = zero-le;
+  }
 
-  module _ (i : ℕ) (h : m ≤ i) (u : i + 4 ≤ l) {b c₀ c₁ c₂ c₃ : Float} (e : b ≡ ofInt binary64 (spread n m t i))
-      (e₀ : c₀ ≡ ofInt binary64 (change n m t i)) (e₁ : c₁ ≡ ofInt binary64 (change n m t (i + 1)))
-      (e₂ : c₂ ≡ ofInt binary64 (change n m t (i + 2))) (e₃ : c₃ ≡ ofInt binary64 (change n m t (i + 3))) where
-    abbrev d : ℕ → ℤ
-    d k = change n m t (i + k)
+  -- what bar i adds completes it
+  pub parts-next : (i : ℕ) {p q c : Float} → m ≤ i → i < l → InParts n m t i p q → c ≡ ofInt binary64 (change n m t i)
+      → add binary64 p (add binary64 q c) ≡ ofInt binary64 (spread n m t (i + 1))
+  parts-next i h u r e =
+      let d = change n m t i in
+      let small = change-small i h u in
+      let new = added (r .new) d (r .q-is) e (omega (arith, r .new-small)) (omega (arith, small)) in
+      added (r .old) (r .new +ℤ d) (r .p-is) new (r .old-small) (omega (arith, abs-add (r .new) d, r .new-small, small))
+      ∙ ap (ofInt binary64) (sym (+ℤ-assoc (r .old) (r .new) d) ∙ rw (spread-next i h, r .sum))
 
-    small : (k : ℕ) → k < 4 → natAbs (d k) ≤ 2 ^ 38
-    small k v = change-small (i + k) (omega arith) (omega arith)
+  -- the spread before bar i and what bar i adds are its parts before the next bar
+  pub next-parts : (i j : ℕ) {p q : Float} → (m ≤ i) × (i < l) × (i + 1 ≡ j) → p ≡ ofInt binary64 (spread n m t i)
+      → q ≡ ofInt binary64 (change n m t i) → InParts n m t j p q
+  next-parts i j (h, u, bar) e f = record {
+    old = spread n m t i;
+    new = change n m t i;
+    sum = rw (← bar) (sym (spread-next i h));
+    p-is = e;
+    q-is = f;
+    old-small = spread-small i h (omega arith);
+    new-small = change-small i h u;
+  }
 
-    before : natAbs (spread n m t i) ≤ 2 ^ 53
-    before = spread-small i h (omega arith)
-
-    abbrev two : ℤ
-    two = change n m t i +ℤ d 1
-
-    two-small : natAbs two ≤ 2 ^ 39
-    two-small = omega (arith, abs-add (change n m t i) (d 1), change-small i h (omega arith), small 1 (lit< tt))
-
-    two-exact : add binary64 c₀ c₁ ≡ ofInt binary64 two
-    two-exact = added (change n m t i) (d 1) e₀ e₁ (omega (arith, change-small i h (omega arith)))
-        (omega (arith, small 1 (lit< tt)))
-
-    after : (k : ℕ) (z : ℤ) {x : Float} → spread n m t (i + k) ≡ spread n m t i +ℤ z → x ≡ ofInt binary64 z
-        → natAbs z ≤ 2 ^ 53 → add binary64 b x ≡ ofInt binary64 (spread n m t (i + k))
-    after k z p q v = rw p (added (spread n m t i) z e q before v)
-
-    then-two : spread n m t (i + 2) ≡ spread n m t i +ℤ two
-    then-two = further i 1 (change n m t i) h (spread-next i h)
-
-    after-three : add binary64 b (add binary64 (add binary64 c₀ c₁) c₂) ≡ ofInt binary64 (spread n m t (i + 3))
-    after-three =
-        after 3 (two +ℤ d 2) (further i 2 two h then-two)
-        (added two (d 2) two-exact e₂ (omega (arith, two-small)) (omega (arith, small 2 (lit< tt))))
-        (omega (arith, abs-add two (d 2), two-small, small 2 (lit< tt)))
-
-    after-four : add binary64 b (add binary64 (add binary64 c₀ c₁) (add binary64 c₂ c₃))
-        ≡ ofInt binary64 (spread n m t (i + 4))
-    after-four =
-        let last = d 2 +ℤ d 3 in
-        let last-small : natAbs last ≤ 2 ^ 39 = omega (arith, abs-add (d 2) (d 3), small 2 (lit< tt), small 3 (lit< tt))
-        in
-        let last-exact = added (d 2) (d 3) e₂ e₃ (omega (arith, small 2 (lit< tt))) (omega (arith, small 3 (lit< tt)))
-        in
-        after 4 (two +ℤ last)
-        (further i 3 (two +ℤ d 2) h (further i 2 two h then-two)
-        ∙ ap (λ (z : ℤ). spread n m t i +ℤ z) (+ℤ-assoc two (d 2) (d 3)))
-        (added two last two-exact last-exact (omega (arith, two-small)) (omega (arith, last-small)))
-        (omega (arith, abs-add two last, two-small, last-small))
-
-    pub four-exact : FourExact n m t i b c₀ c₁ c₂ c₃
-    four-exact = record {
-      first = after-one i h (omega arith) e e₀;
-      second = after 2 two then-two two-exact (omega (arith, two-small));
-      third = after-three;
-      fourth = after-four;
-    }
+  -- two bars more
+  pub after-two : (i : ℕ) {b c d : Float} → m ≤ i → i + 2 ≤ l → b ≡ ofInt binary64 (spread n m t i)
+      → c ≡ ofInt binary64 (change n m t i) → d ≡ ofInt binary64 (change n m t (i + 1))
+      → add binary64 b (add binary64 c d) ≡ ofInt binary64 (spread n m t (i + 2))
+  after-two i h u e f g =
+      let bar : i + 2 ≡ i + 1 + 1 = omega arith in
+      rw bar (parts-next (i + 1) (omega arith) (omega arith) (next-parts i (i + 1) (omega arith) e f) g)

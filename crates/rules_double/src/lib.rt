@@ -21,8 +21,6 @@ ghost use Rattle.rules_double.specs.inner.Ticks.{
   TickRoom,
   OverTicks,
   Spread,
-  Fours,
-  Written,
 };
 ghost use Rattle.rounding.specs.Leaves.{signOf};
 ghost use Rattle.limits.specs.Limits.{Window};
@@ -109,52 +107,30 @@ fn first_spread(series: &[f64], n: usize, m: usize) -> f64
     short * ((m - n) as f64) - rest * (n as f64)
 }
 
-// Writes the positions from bar m up to `end`, and gives the spread of the bars before `end`.
-fn write_some(series: &[f64], n: usize, m: usize, first: f64, end: usize, out: &mut [f64]) -> f64
-    requires { ⌜ OverTicks n m (now series) × (m ≤ end) × (end ≤ length (now series)) ⌝ }
+// Writes the positions from bar m on, two bars a turn, from the spread of the first m bars. The spreads of every other
+// bar are a sum of their own, so that an addition waits for the one two bars before.
+fn slide_spreads(series: &[f64], n: usize, m: usize, first: f64, out: &mut [f64])
+    requires { ⌜ OverTicks n m (now series) ⌝ }
     requires { ⌜ Spread n m (now series) m «first» (now out) ⌝ }
-    ensures { λ r. ⌜ Written n m (now (series .entry)) end r (now (out .entry)) (now (out .exit)) ⌝ }
-{
-    let mut total = first;
-    let mut i = m;
-    while i < end {
-        total = total + change_at(series, n, m, i);
-        out[i] = side(total);
-        i += 1;
-    }
-    total
-}
-
-// Writes the positions of four bars from bar i on, and gives the spread of the bars before bar i + 4. One addition
-// waits for the spread before.
-fn write_four(series: &[f64], n: usize, m: usize, before: f64, i: usize, out: &mut [f64]) -> f64
-    requires { ⌜ OverTicks n m (now series) × (m ≤ i) × (i + 4 ≤ length (now series)) ⌝ }
-    requires { ⌜ Spread n m (now series) i «before» (now out) ⌝ }
-    ensures { λ r. ⌜ Written n m (now (series .entry)) (i + 4) r (now (out .entry)) (now (out .exit)) ⌝ }
-{
-    let one = change_at(series, n, m, i);
-    let two = one + change_at(series, n, m, i + 1);
-    let third = change_at(series, n, m, i + 2);
-    let four = two + (third + change_at(series, n, m, i + 3));
-    out[i] = side(before + one);
-    out[i + 1] = side(before + two);
-    out[i + 2] = side(before + (two + third));
-    out[i + 3] = side(before + four);
-    before + four
-}
-
-// Writes the positions from bar `from` on, where a multiple of four bars is left.
-fn write_by_four(series: &[f64], n: usize, m: usize, before: f64, from: usize, out: &mut [f64])
-    requires { ⌜ OverTicks n m (now series) × (m ≤ from) × Fours from (length (now series)) ⌝ }
-    requires { ⌜ Spread n m (now series) from «before» (now out) ⌝ }
     ensures { λ _. ⌜ Writing (length (now (series .entry))) (doubleLine n m (line (now (series .entry))))
         (now (out .entry)) (now (out .exit)) ⌝ }
 {
-    let mut total = before;
-    let mut i = from;
-    while i < series.len() {
-        total = write_four(series, n, m, total, i, out);
-        i += 4;
+    let mut even = first;
+    let mut odd = first;
+    let mut last = 0.0;
+    let mut i = m;
+    while i + 2 <= series.len() {
+        let one = change_at(series, n, m, i);
+        let two = change_at(series, n, m, i + 1);
+        even = even + (last + one);
+        odd = odd + (one + two);
+        last = two;
+        out[i] = side(even);
+        out[i + 1] = side(odd);
+        i += 2;
+    }
+    if i < series.len() {
+        out[i] = side(odd + change_at(series, n, m, i));
     }
 }
 
@@ -168,20 +144,21 @@ pub fn write_double_of_ticks(series: &[f64], n: usize, m: usize, out: &mut [f64]
     cells::fill_lead(out, m - 1, series.len(), 0.0);
     let first = first_spread(series, n, m);
     out[m - 1] = side(first);
-    let from = m + (series.len() - m) % 4;
-    let before = write_some(series, n, m, first, from, out);
-    write_by_four(series, n, m, before, from, out);
+    slide_spreads(series, n, m, first, out);
 }
 
-// Whether a call has cells and its prices are whole ticks: both windows are full, in order and not too long.
+// Whether a call has cells and its prices are whole ticks: both windows are full, in order and not too long. Where
+// prices have fractions the first 16 mostly show it.
 pub fn has_tick_cells(series: &[f64], n: usize, m: usize, out: usize) -> bool
     ensures { λ r. ⌜ r ≡ tickCells (now (series .entry)) n m out ⌝ }
 {
     if (n > 0) & (n < m) & checks::window_fits(series.len(), m, out) {
-        values::all_ticks(series)
-    } else {
-        false
+        let some = cells::smaller(series.len(), 16);
+        if values::all_ticks(&series[..some]) {
+            return values::all_ticks(series);
+        }
     }
+    false
 }
 
 // The answer of `double_sma_positions`.

@@ -63,12 +63,3 @@ pub record Spread (n m : ℕ) (s : List Float) (i : ℕ) (x : Float) (now : List
   pub is : x ≡ ofInt binary64 (spread n m (ticksOf s) i)
   pub room : length s ≤ length now
   pub before : Writing i (doubleLine n m (line s)) now now
-
--- they were written on, up to bar i
-pub record Written (n m : ℕ) (s : List Float) (i : ℕ) (x : Float) (old now : List Float) : Type 0 where
-  pub is : x ≡ ofInt binary64 (spread n m (ticksOf s) i)
-  pub cells : Writing i (doubleLine n m (line s)) old now
-
--- a multiple of four bars is left from bar i on
-abbrev pub Fours : ℕ → ℕ → Type 0
-Fours i l = (k : ℕ) × (i + 4 * k ≡ l)
