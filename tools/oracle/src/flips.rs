@@ -25,13 +25,14 @@ unsafe extern "C" {
 struct Flip {
     /// Where the operation's opcode stands, from `ORIGIN` on.
     place: isize,
-    /// The opcode, and the one that takes its place.
-    opcodes: (u8, u8),
+    opcode: u8,
     /// The exported functions that reach it.
     functions: Vec<String>,
     /// Symbol and instruction.
     words: String,
     noticed: bool,
+    /// Whether some call comes to the place, of the calls that do not notice.
+    reached: bool,
 }
 
 impl Flip {
@@ -42,11 +43,11 @@ impl Flip {
         let place = part().parse().expect("a place is a number");
         let opcode = u8::from_str_radix(part(), 16).expect("an opcode is two hexadecimal digits");
         let functions = part().split(',').map(str::to_owned).collect();
-        Flip { place, opcodes: (opcode, exchanged(opcode)), functions, words: part().to_owned(), noticed: false }
+        Flip { place, opcode, functions, words: part().to_owned(), noticed: false, reached: false }
     }
 
-    /// Puts the other opcode into this process's code.
-    fn make(&self) {
+    /// Puts another opcode into this process's code.
+    fn make(&self, other: u8) {
         const PAGE: usize = 4_096;
         const READ_WRITE_RUN: i32 = 7;
         let opcode = (&raw const ORIGIN).wrapping_offset(self.place).cast_mut();
@@ -54,11 +55,14 @@ impl Flip {
         // The page holds the library's code, of which no other part is changed; this process has no other thread.
         unsafe {
             assert_eq!(mprotect(page, PAGE, READ_WRITE_RUN), 0, "the code cannot be changed");
-            assert_eq!(opcode.read(), self.opcodes.0, "another instruction: {}", self.words);
-            opcode.write_volatile(self.opcodes.1);
+            assert_eq!(opcode.read(), self.opcode, "another instruction: {}", self.words);
+            opcode.write_volatile(other);
         }
     }
 }
+
+/// The opcode that no processor runs.
+const TRAP: u8 = 0x0b;
 
 /// + and - are exchanged, and * and /.
 fn exchanged(opcode: u8) -> u8 {
@@ -94,9 +98,9 @@ impl Calls {
         self.calls.iter().any(|(call, salt, expected)| trial.difference(call, *salt, expected).is_some())
     }
 
-    /// Whether one differs in a process of its own, in which the flip is made first. A crash is a difference, and so is
-    /// a process that does not end in time.
-    fn notice(&self, flip: &Flip, seconds: u32) -> bool {
+    /// Whether one differs in a process of its own, in which another opcode is put into the flip's place first. A crash
+    /// is a difference, and so is a process that does not end in time.
+    fn notice(&self, flip: &Flip, other: u8, seconds: u32) -> bool {
         const QUIET: i32 = 1;
         let mut status = 0;
         // The process runs one thread, and the one that is made from it ends here.
@@ -104,7 +108,7 @@ impl Calls {
             match fork() {
                 0 => {
                     alarm(seconds);
-                    flip.make();
+                    flip.make(other);
                     _exit(if self.differ() { 0 } else { QUIET })
                 }
                 process => assert!(process > 0 && waitpid(process, &mut status, 0) == process, "no process"),
@@ -115,7 +119,7 @@ impl Calls {
 }
 
 /// Tries each flip of the file with the calls of every function that reaches it, of those named or of all, until one
-/// differs. Prints the flips that none notices, and 'N flips, M noticed'.
+/// differs. Prints the flips that none notices, with those places to which no call comes, and 'N flips, M noticed'.
 pub fn run(file: &str, calls: usize, names: &[&str]) -> bool {
     let list = fs::read_to_string(file).unwrap_or_else(|error| panic!("{file}: {error}"));
     let mut flips: Vec<Flip> = list.lines().map(Flip::read).collect();
@@ -128,11 +132,13 @@ pub fn run(file: &str, calls: usize, names: &[&str]) -> bool {
         let seconds = 10 + 10 * start.elapsed().as_secs() as u32;
         let reached = |flip: &&mut Flip| !flip.noticed && flip.functions.iter().any(|name| name == function.name);
         for flip in flips.iter_mut().filter(reached) {
-            flip.noticed = calls.notice(flip, seconds);
+            flip.noticed = calls.notice(flip, exchanged(flip.opcode), seconds);
+            flip.reached |= !flip.noticed && calls.notice(flip, TRAP, seconds);
         }
     }
     for flip in flips.iter().filter(|flip| !flip.noticed) {
-        println!("not noticed: {} in {}", flip.words, flip.functions.join(" "));
+        let reached = if flip.reached { "" } else { ", reached by no call" };
+        println!("not noticed: {} in {}{reached}", flip.words, flip.functions.join(" "));
     }
     println!("{} flips, {} noticed", flips.len(), flips.iter().filter(|flip| flip.noticed).count());
     !flips.is_empty()

@@ -12,7 +12,7 @@ pub fn ties(rng: &mut Rng, function: &Function, calls: &mut Vec<Call>) {
     if function.domain == Domain::Accepted {
         patterns(function, calls);
     }
-    if function.domain == Domain::Accepted && function.series == 1 {
+    if function.name == "single_sma_positions" {
         averaged(rng, function, calls);
     }
     if function.name.ends_with("_positions") || function.name == "rolling_rank" {
@@ -61,7 +61,8 @@ fn patterns(function: &Function, calls: &mut Vec<Call>) {
 /// Whole ticks and hundredths in which at a bar n² times the price is the sum D of the window sums, or one beside it; the
 /// bar is the last, or others follow.
 fn averaged(rng: &mut Rng, function: &Function, calls: &mut Vec<Call>) {
-    for (n, want) in [13, 14, 15, 24, 60, 250].into_iter().flat_map(|n| [-1, 0, 1].map(|want| (n, want))) {
+    let windows = [13, 14, 15, 24, 60, 250, 1_022, 1_023, 2_000];
+    for (n, want) in windows.into_iter().flat_map(|n| [-1, 0, 1].map(|want| (n, want))) {
         for (one, after) in [(1.0, 0), (1.0, 12), (100.0, 0), (100.0, 12)] {
             let level = rng.between(-30_000, 30_000);
             let mut ticks: Vec<i64> = (0..2 * n + 3).map(|_| level + rng.between(-50, 50)).collect();
@@ -73,10 +74,17 @@ fn averaged(rng: &mut Rng, function: &Function, calls: &mut Vec<Call>) {
     }
 }
 
+/// Rules whose averages of averages may be taken by running sums, which round otherwise than sums afresh.
+const AVERAGED_TWICE: &[&str] = &["single_sma_positions", "single_ema_positions", "triple_sma_positions"];
+
 /// Series with a price at which the source's cell of that bar just changes: that price, the one next to it, and the
 /// hundredths around it; with bars after it too.
 fn at_changes(rng: &mut Rng, function: &Function, calls: &mut Vec<Call>) {
-    for (n, times) in [(2, 8), (3, 8), (5, 8), (13, 6), (24, 6), (60, 4), (250, 1)] {
+    let mut windows = vec![(2, 8), (3, 8), (5, 8), (13, 6), (24, 6), (60, 4), (250, 1)];
+    if AVERAGED_TWICE.contains(&function.name) {
+        windows.extend([(60, 4), (250, 4), (1_100, 2)]);
+    }
+    for (n, times) in windows {
         for _ in 0..times {
             let mut call = function.call(vec![changing(rng, function, 2 * n + 3)], with_windows(function, n));
             let multiple = function.roles.iter().position(|role| *role == Role::Multiple);
