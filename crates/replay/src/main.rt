@@ -125,7 +125,12 @@ fn words_after(head: &[u64; 18]) -> usize
         return 418;
     }
     if head[1] == 1 {
-        if replay_compare::is_within(head, 65537, 65537, 524296) {
+        if replay_compare::is_within(
+            head,
+            replay_record::OUTPUT_ROOM as u64,
+            replay_record::OUTPUT_ROOM as u64,
+            replay_record::WORK_ROOM as u64,
+        ) {
             return 1;
         }
     }

@@ -82,6 +82,6 @@ pub fn agrees(
         (replicate (workOf (now (head .entry))) untouched) (now (recorded .entry)) r ⌝ }
 {
     let room = head[14] as usize;
-    let mut work = [0.0; 524296];
+    let mut work = [0.0; replay_record::WORK_ROOM];
     with_work(head, first, second, third, recorded, &mut work[..room])
 }

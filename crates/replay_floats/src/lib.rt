@@ -6,7 +6,7 @@ ghost use mathlib.Core.Path.{_≡_};
 ghost use Prim.Native.Nat.{_≤_};
 ghost use Rattle.replay_words.specs.FloatWords.{floatWord};
 ghost use Rattle.replay_compare.specs.Compared.{OneOutput, Compared};
-ghost use Rattle.replay_record.specs.Head.{functionOf, outOf};
+ghost use Rattle.replay_record.specs.Head.{functionOf, outOf, outputRoom};
 ghost use Rattle.replay_floats.specs.Floats.{
   Plain,
   Rule,
@@ -129,13 +129,15 @@ pub fn floats_agree(
     recorded: &[u64],
     work: &mut [f64],
 ) -> bool
-    requires { ⌜ outOf (now head) ≤ 65537 ⌝ }
+    requires { ⌜ outOf (now head) ≤ outputRoom ⌝ }
     ensures { λ r. ⌜ (IsFloats (functionOf (now (head .entry))) → Compared (FloatsCalled (now (head .entry))
         (now (first .entry)) (now (second .entry)) (now (third .entry)) (now (work .entry))) (now (head .entry))
         (now (recorded .entry)) r) ⌝ }
 {
     let cells = head[11] as usize;
-    let mut out = [replay_words::floats::float_of(replay_record::UNTOUCHED); 65537];
+    let mut out = [replay_words::floats::float_of(
+        replay_record::UNTOUCHED,
+    ); replay_record::OUTPUT_ROOM];
     floats_left(
         head,
         replay_compare::asked::parameters_of(head),

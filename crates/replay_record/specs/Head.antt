@@ -50,13 +50,21 @@ barsOf h = firstOf h + secondOf h + thirdOf h
 abbrev pub cellsOf : List ℕ → ℕ
 cellsOf h = outOf h + upperOf h + lowerOf h
 
+-- how many cells may be lent to a recorded call: to an output one more than the longest series has, and of work eight
+-- times that
+abbrev pub outputRoom : ℕ
+outputRoom = 65537
+
+abbrev pub workRoom : ℕ
+workRoom = 524296
+
 -- the function has a number of the table, and no output and no work slice is longer than the longest
 pub record Rooms (h : List ℕ) : Type 0 where
   pub function : (0 < functionOf h) × (functionOf h < 25)
-  pub out : outOf h ≤ 65537
-  pub upper : upperOf h ≤ 65537
-  pub lower : lowerOf h ≤ 65537
-  pub work : workOf h ≤ 524296
+  pub out : outOf h ≤ outputRoom
+  pub upper : upperOf h ≤ outputRoom
+  pub lower : lowerOf h ≤ outputRoom
+  pub work : workOf h ≤ workRoom
 
 -- the function has a number of the table, and no series, output or work slice is longer than it may be
 pub record Within (bars cells room : ℕ) (h : List ℕ) : Type 0 where

@@ -13,6 +13,11 @@ pub const UNTOUCHED_SHORT: i32 = -987654321;
 
 pub const UNTOUCHED_PLACE: u64 = 0xffff_ffff_c521_974f;
 
+// How many cells may be lent to a recorded call: to an output, and of work.
+pub const OUTPUT_ROOM: usize = 65537;
+
+pub const WORK_ROOM: usize = 524296;
+
 // How often a call differs.
 pub fn misses(same: bool) -> u64
     ensures { λ r. ⌜ r ≡ cond same 0 1 ⌝ }

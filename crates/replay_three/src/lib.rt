@@ -77,9 +77,9 @@ pub fn three_agree(
     let two = head[12] as usize;
     let three = head[13] as usize;
     let untouched = replay_words::floats::float_of(replay_record::UNTOUCHED);
-    let mut middle = [untouched; 65537];
-    let mut upper = [untouched; 65537];
-    let mut lower = [untouched; 65537];
+    let mut middle = [untouched; replay_record::OUTPUT_ROOM];
+    let mut upper = [untouched; replay_record::OUTPUT_ROOM];
+    let mut lower = [untouched; replay_record::OUTPUT_ROOM];
     three_left(
         head,
         replay_compare::asked::parameters_of(head),

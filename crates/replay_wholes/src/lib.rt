@@ -4,7 +4,7 @@ use calls::Answer;
 use replay_compare::asked::Parameters;
 ghost use Prim.Native.Nat.{_≤_};
 ghost use Rattle.replay_compare.specs.Compared.{OneOutput, Compared};
-ghost use Rattle.replay_record.specs.Head.{functionOf, outOf};
+ghost use Rattle.replay_record.specs.Head.{functionOf, outOf, outputRoom};
 ghost use Rattle.replay_compare.specs.Wholes.{wholeWord};
 ghost use Rattle.replay_wholes.specs.Wholes.{
   IsShorts,
@@ -51,12 +51,12 @@ fn shorts_left(
 }
 
 pub fn shorts_agree(head: &[u64; 18], first: &[f64], recorded: &[u64], work: &mut [f64]) -> bool
-    requires { ⌜ outOf (now head) ≤ 65537 ⌝ }
+    requires { ⌜ outOf (now head) ≤ outputRoom ⌝ }
     ensures { λ r. ⌜ (IsShorts (functionOf (now (head .entry))) → Compared (ShortsCalled (now (head .entry))
         (now (first .entry)) (now (work .entry))) (now (head .entry)) (now (recorded .entry)) r) ⌝ }
 {
     let cells = head[11] as usize;
-    let mut out = [replay_record::UNTOUCHED_SHORT; 65537];
+    let mut out = [replay_record::UNTOUCHED_SHORT; replay_record::OUTPUT_ROOM];
     shorts_left(
         head,
         replay_compare::asked::parameters_of(head),
@@ -96,12 +96,12 @@ fn places_left(
 }
 
 pub fn places_agree(head: &[u64; 18], first: &[f64], recorded: &[u64], work: &mut [f64]) -> bool
-    requires { ⌜ outOf (now head) ≤ 65537 ⌝ }
+    requires { ⌜ outOf (now head) ≤ outputRoom ⌝ }
     ensures { λ r. ⌜ (IsPlaces (functionOf (now (head .entry))) → Compared (PlacesCalled (now (head .entry))
         (now (first .entry)) (now (work .entry))) (now (head .entry)) (now (recorded .entry)) r) ⌝ }
 {
     let cells = head[11] as usize;
-    let mut out = [replay_record::UNTOUCHED_PLACE; 65537];
+    let mut out = [replay_record::UNTOUCHED_PLACE; replay_record::OUTPUT_ROOM];
     places_left(
         head,
         replay_compare::asked::parameters_of(head),
@@ -141,12 +141,12 @@ fn wholes_left(
 }
 
 pub fn wholes_agree(head: &[u64; 18], first: &[f64], recorded: &[u64], work: &mut [f64]) -> bool
-    requires { ⌜ outOf (now head) ≤ 65537 ⌝ }
+    requires { ⌜ outOf (now head) ≤ outputRoom ⌝ }
     ensures { λ r. ⌜ (IsWholes (functionOf (now (head .entry))) → Compared (WholesCalled (now (head .entry))
         (now (first .entry)) (now (work .entry))) (now (head .entry)) (now (recorded .entry)) r) ⌝ }
 {
     let cells = head[11] as usize;
-    let mut out = [replay_record::UNTOUCHED_WHOLE; 65537];
+    let mut out = [replay_record::UNTOUCHED_WHOLE; replay_record::OUTPUT_ROOM];
     wholes_left(
         head,
         replay_compare::asked::parameters_of(head),

@@ -17,6 +17,8 @@ use Rattle.replay_record.specs.Head.{
   workOf,
   barsOf,
   cellsOf,
+  outputRoom,
+  workRoom,
   Within,
   Rooms,
 }
@@ -46,7 +48,7 @@ pub record Short (h : List ℕ) (n : ℕ) : Type 0 where
 
 pub record Long (h : List ℕ) (n : ℕ) : Type 0 where
   pub form : formOf h ≡ 1
-  pub within : Within 65537 65537 524296 h
+  pub within : Within outputRoom outputRoom workRoom h
   pub words : n ≡ 1
 
 pub data Given (h : List ℕ) (n : ℕ) : Type 0 where

@@ -1,13 +1,14 @@
 -- `agrees` meets its contract: the work slice that it lends is as long as the record says. Assumes nothing.
 use mathlib.Core.Path.{sym}
 use borrow.Author.Needs.{needs}
+use Rattle.replay_record.specs.Head.{workRoom}
 use Rattle.replay_compare.proofs.Comparing.{part-long}
 use Rattle.replay_calls.proofs.Work.{as-long}
 use Rattle.replay_calls.proofs.agrees.Statement.{statement}
 use Rattle.replay_calls.proofs.agrees.Tie as tie
 
 slice-work : tie.Need-slice-aggregate-with-work
-slice-work c = part-long 524296 _ _ (c .before .before .before .before .before .before .pre .work)
+slice-work c = part-long workRoom _ _ (c .before .before .before .before .before .before .pre .work)
 
 returns : tie.Need-returns
 returns c =

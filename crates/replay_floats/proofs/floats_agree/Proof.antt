@@ -1,5 +1,6 @@
 -- `floats_agree` meets its contract: the cells that it lends hold what they must before a call. Assumes nothing.
 use borrow.Author.Needs.{needs}
+use Rattle.replay_record.specs.Head.{outputRoom}
 use Rattle.replay_compare.proofs.Comparing.{part-long, take-replicate}
 use Rattle.replay_floats.proofs.floats_agree.Statement.{statement}
 use Rattle.replay_floats.proofs.floats_agree.Tie as tie
@@ -10,7 +11,7 @@ returns c =
     let p = left .before .before .before in
     let x = p .before in
     let room = x .before .before .before .before .before .before .before .pre in
-    rw (take-replicate 65537 _ _ room, x .float-of .ensures, p .parameters-of .ensures) at (left .floats-left .ensures)
+    rw (take-replicate outputRoom _ _ room, x .float-of .ensures, p .parameters-of .ensures) at (left .floats-left .ensures)
 
 pub floats-agree-spec : {M : Type 1} → statement M
 floats-agree-spec =
@@ -21,7 +22,7 @@ floats-agree-spec =
     (λ c κs. search needs)  -- parameters-of-requires
     (λ c. search needs)  -- array-borrow-prefix-out
     -- slice-aggregate-floats-left
-    (λ c. part-long 65537 _ _ (c .before .before .before .before .before .before .before .before .before .pre))
+    (λ c. part-long outputRoom _ _ (c .before .before .before .before .before .before .before .before .before .pre))
     (λ c κs. search needs)  -- floats-left-requires
     (λ c. search needs)  -- same-length
     returns

@@ -1,5 +1,6 @@
 -- `three_agree` meets its contract: the cells that it lends hold what they must before a call. Assumes nothing.
 use borrow.Author.Needs.{needs}
+use Rattle.replay_record.specs.Head.{outputRoom}
 use Rattle.replay_compare.proofs.Comparing.{part-long}
 use Rattle.replay_three.proofs.Lent.{three-lent}
 use Rattle.replay_three.proofs.three_agree.Statement.{statement}
@@ -11,19 +12,19 @@ returns c =
     let p = left .before .before .before .before .before in
     let x = p .before in
     let rooms = x .before .before .before .before .before .before .before .before .before .pre in
-    three-lent 65537 (p .parameters-of .ensures) (x .float-of .ensures) (rooms .out) (rooms .upper) (rooms .lower)
+    three-lent outputRoom (p .parameters-of .ensures) (x .float-of .ensures) (rooms .out) (rooms .upper) (rooms .lower)
     (left .three-left .ensures)
 
 slice-middle : tie.Need-slice-aggregate-three-left
-slice-middle c = part-long 65537 _ _ (c .before .before .before .before .before .before .before .before
+slice-middle c = part-long outputRoom _ _ (c .before .before .before .before .before .before .before .before
     .before .before .before .pre .out)
 
 slice-upper : tie.Need-slice-aggregate-three-left-2
-slice-upper c = part-long 65537 _ _ (c .before .before .before .before .before .before .before .before
+slice-upper c = part-long outputRoom _ _ (c .before .before .before .before .before .before .before .before
     .before .before .before .before .pre .upper)
 
 slice-lower : tie.Need-slice-aggregate-three-left-3
-slice-lower c = part-long 65537 _ _ (c .before .before .before .before .before .before .before .before
+slice-lower c = part-long outputRoom _ _ (c .before .before .before .before .before .before .before .before
     .before .before .before .before .before .pre .lower)
 
 pub three-agree-spec : {M : Type 1} → statement M

@@ -1,5 +1,6 @@
 -- `wholes_agree` meets its contract: the cells that it lends hold what they must before a call. Assumes nothing.
 use borrow.Author.Needs.{needs}
+use Rattle.replay_record.specs.Head.{outputRoom}
 use Rattle.replay_compare.proofs.Comparing.{part-long, take-replicate}
 use Rattle.replay_wholes.proofs.wholes_agree.Statement.{statement}
 use Rattle.replay_wholes.proofs.wholes_agree.Tie as tie
@@ -9,7 +10,7 @@ returns c =
     let left = c .before .before .before in
     let p = left .before .before .before in
     let room = p .before .before .before .before .before .pre in
-    rw (take-replicate 65537 _ _ room, p .parameters-of .ensures) at (left .wholes-left .ensures)
+    rw (take-replicate outputRoom _ _ room, p .parameters-of .ensures) at (left .wholes-left .ensures)
 
 pub wholes-agree-spec : {M : Type 1} → statement M
 wholes-agree-spec =
@@ -19,7 +20,7 @@ wholes-agree-spec =
     (λ c κs. search needs)  -- parameters-of-requires
     (λ c. search needs)  -- array-borrow-prefix-out
     -- slice-aggregate-wholes-left
-    (λ c. part-long 65537 _ _ (c .before .before .before .before .before .before .pre))
+    (λ c. part-long outputRoom _ _ (c .before .before .before .before .before .before .pre))
     (λ c κs. search needs)  -- wholes-left-requires
     (λ c. search needs)  -- same-length
     returns
