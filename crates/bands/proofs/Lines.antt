@@ -17,7 +17,7 @@ use Rattle.windows.specs.Window.{sumFrom, over}
 use Rattle.window_laws.proofs.Zeros.{sums-from-either, either-accepted, either-square}
 use Rattle.smoother_table.specs.Coefficients.{coefficients}
 use Rattle.smoother.proofs.Smoother.{causal-smooth}
-use Rattle.smoother.proofs.WarmUp.{nan-throughout}
+use Rattle.smoother.proofs.WarmUp.{nan-from-4, nan-throughout}
 use Rattle.deviations.specs.Deviation.{square, variance, deviation}
 use Rattle.deviations.proofs.Causal.{causal-deviation}
 use Rattle.outer_lines.proofs.Lines.{causal-upper, causal-lower, nan-upper, nan-lower}
@@ -86,6 +86,13 @@ unfolding bandsWidth deviation
 nan-width n m f h =
     nan-throughout (coefficients m) (bandsDeviation n f)
     (λ i l. rw (deviation-of-some n f (omega arith)) (before-bar (n - 1) nan _ i (omega arith)))
+
+-- of period 4 the cell at bar 2 is, which bar 4 reads
+pub nan-from-bar-4 : (n m : ℕ) (f : Line) → 4 ≤ n → (i : ℕ) → 4 ≤ i → bandsWidth n m f i ≡ nan
+unfolding bandsWidth deviation
+nan-from-bar-4 n m f h =
+    nan-from-4 (coefficients m) (bandsDeviation n f)
+    (rw (deviation-of-some n f (omega arith)) (before-bar (n - 1) nan _ 2 (omega arith)))
 
 -- both outer lines are NaN at every bar
 pub nan-bands : (n : ℕ) (k : Float) (m : ℕ) (f : Line) → 5 ≤ n → (i : ℕ)

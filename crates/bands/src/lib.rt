@@ -64,7 +64,7 @@ fn write_spread(close: &[f64], n: usize, out: &mut [f64])
 }
 
 // Writes the width of the bands at every bar to `widths`. The deviations are left in `spreads`.
-fn write_widths(close: &[f64], n: usize, m: usize, widths: &mut [f64], spreads: &mut [f64])
+fn write_each_width(close: &[f64], n: usize, m: usize, widths: &mut [f64], spreads: &mut [f64])
     requires { ⌜ Spreading n (now close) (length (now spreads)) ⌝ }
     requires { ⌜ (m ≤ longestPeriod) × (length (now close) ≤ length (now widths)) ⌝ }
     ensures { λ _. ⌜ Writing (length (now (close .entry))) (bandsWidth n m (line (now (close .entry))))
@@ -74,6 +74,36 @@ fn write_widths(close: &[f64], n: usize, m: usize, widths: &mut [f64], spreads: 
     let bars = close.len();
     write_spread(close, n, spreads);
     smoother::write_smooth(&spreads[..bars], m, widths);
+}
+
+// The same from period 4 on, where the deviation of bar 2 is NaN, and so is every width from bar 4 on.
+fn write_first_widths(close: &[f64], n: usize, m: usize, widths: &mut [f64], spreads: &mut [f64])
+    requires { ⌜ 4 ≤ n ⌝ }
+    requires { ⌜ Spreading n (now close) (length (now spreads)) ⌝ }
+    requires { ⌜ (m ≤ longestPeriod) × (length (now close) ≤ length (now widths)) ⌝ }
+    ensures { λ _. ⌜ Writing (length (now (close .entry))) (bandsWidth n m (line (now (close .entry))))
+        (now (widths .entry)) (now (widths .exit))
+        × Touched (length (now (close .entry))) (now (spreads .entry)) (now (spreads .exit)) ⌝ }
+{
+    let bars = close.len();
+    let some = cells::smaller(bars, 4);
+    write_each_width(&close[..some], n, m, widths, spreads);
+    cells::fill(&mut widths[some..], bars - some, 0.0 / 0.0);
+}
+
+// The same of any period.
+fn write_widths(close: &[f64], n: usize, m: usize, widths: &mut [f64], spreads: &mut [f64])
+    requires { ⌜ Spreading n (now close) (length (now spreads)) ⌝ }
+    requires { ⌜ (m ≤ longestPeriod) × (length (now close) ≤ length (now widths)) ⌝ }
+    ensures { λ _. ⌜ Writing (length (now (close .entry))) (bandsWidth n m (line (now (close .entry))))
+        (now (widths .entry)) (now (widths .exit))
+        × Touched (length (now (close .entry))) (now (spreads .entry)) (now (spreads .exit)) ⌝ }
+{
+    if n < 4 {
+        write_each_width(close, n, m, widths, spreads);
+    } else {
+        write_first_widths(close, n, m, widths, spreads);
+    }
 }
 
 // Writes the three lines. From period 5 on the outer lines are NaN throughout: see `nan-bands`.

@@ -1,4 +1,4 @@
--- `write_widths` meets its contract: the smoother reads the deviations. Assumes nothing.
+-- `write_each_width` meets its contract: the smoother reads the deviations. Assumes nothing.
 use mathlib.Core.Path.{sym}
 use native.Mathlib.Omega.{arith}
 use borrow.Author.Needs.{needs}
@@ -8,8 +8,8 @@ use Rattle.smoother_table.specs.Coefficients.{coefficients}
 use Rattle.smoother.specs.Smoother.{smooth}
 use Rattle.smoother.proofs.Smoother.{causal-smooth}
 use Rattle.bands.specs.Bands.{bandsWidth}
-use Rattle.bands.proofs.write_widths.Statement.{statement}
-use Rattle.bands.proofs.write_widths.Tie as tie
+use Rattle.bands.proofs.write_each_width.Statement.{statement}
+use Rattle.bands.proofs.write_each_width.Tie as tie
 
 slice-aggregate-write-smooth : tie.Need-slice-aggregate-write-smooth
 slice-aggregate-write-smooth c = sym (part-long (c .before .before .before .write-spread .ensures) (omega arith))
@@ -27,8 +27,8 @@ returns c =
     let smooth-it = through spread (omega arith) (smooth (coefficients _)) (causal-smooth _) in
     (smooth-it (cells .write-smooth .ensures), touched spread)
 
-pub write-widths-spec : {M : Type 1} → statement M
-write-widths-spec =
+pub write-each-width-spec : {M : Type 1} → statement M
+write-each-width-spec =
     tie.close
     (tie.spec
     (λ c κs. search needs)  -- write-spread-requires
