@@ -139,7 +139,7 @@ module _ {m n l : ℕ} {f : Line} (w : Windowed m n l f) (B : l ≤ 65536) where
       rw (from-bar (n - 1) plusZero _ i (omega arith)) (rw bar at r)
 
 -- 0.0 / n
-zero-over : (n : ℕ) → 0 < n → n ≤ 4096 → over n plusZero ≡ plusZero
+pub zero-over : (n : ℕ) → 0 < n → n ≤ 4096 → over n plusZero ≡ plusZero
 zero-over n N M =
     let whole : Whole binary64 (pos 0) n = record { some = N; size = omega arith; divisor = omega arith } in
     rw zero-is at (quotient-zero whole)

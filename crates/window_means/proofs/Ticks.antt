@@ -2,43 +2,35 @@
 use mathlib.Core.Path.{_≡_, refl, sym, _∙_}
 use mathlib.Core.Bool.{Bool, true, false, not}
 use mathlib.Core.List.{List}
-use Prim.Native.Nat.{ℕ, _+_, _-_, _<_, _≤_, _^_}
+use Prim.Native.Nat.{ℕ, _-_, _<_, _≤_}
 use native.Mathlib.Omega.{arith}
 use lib.Dec.{T, ltb, ltb→lt, nltb→le}
-use lib.IntN.{pos}
 use lib.ListN.{length}
-use lib.Ieee.{Float, binary64, fits, ofInt, div}
-use Rattle.rounding_laws.proofs.About.{zero-is}
-use Rattle.rounding_laws.proofs.Quotient.{Whole, quotient-zero}
+use lib.Ieee.{Float, binary64, fits}
 use Rattle.values.specs.Accepted.{tick, all}
 use Rattle.cells.specs.Line.{line, plusZero}
 use Rattle.cells.proofs.Line.{before-bar}
 use Rattle.limits.specs.Limits.{Window}
-use Rattle.windows.specs.Window.{mean, over}
+use Rattle.windows.specs.Window.{mean}
 use Rattle.windows.specs.inner.Runs.{runs}
+use Rattle.running_sums.specs.inner.Means.{runMeans}
+use Rattle.running_sums.proofs.Means.{zero-over}
 use Rattle.values.proofs.All.{and-parts}
 use Rattle.window_means.specs.inner.Ticks.{longTicks}
 use Rattle.exact_ticks.proofs.Exact.{mean-exact}
 use Rattle.exact_ticks.proofs.Runs.{run-exact}
 use Rattle.exact_ticks.proofs.TickMeans.{tick-line}
 
--- 0.0 / n
-zero-over : (n : ℕ) → Window n → over n plusZero ≡ plusZero
-zero-over n w =
-    let whole : Whole binary64 (pos 0) n =
-    record { some = w .some; size = omega arith; divisor = omega (arith, w .narrow) } in
-    rw zero-is at (quotient-zero whole)
-
 -- the mean at every bar is the running sum there over n
 pub run-mean : (s : List Float) (n i : ℕ) → ((j : ℕ) → T (fits binary64 (line s j))) → all tick s ≡ true → Window n
     → i < length s
-    → over n (runs n (line s) i) ≡ mean n (line s) i
+    → runMeans n (line s) i ≡ mean n (line s) i
 unfolding runs mean
 run-mean s n i floats ticks window l = go (ltb i (n - 1)) (ltb→lt i (n - 1)) (nltb→le i (n - 1))
   where
-    go : (t : Bool) → (T t → i < n - 1) → (T (not t) → n - 1 ≤ i) → over n (runs n (line s) i) ≡ mean n (line s) i
+    go : (t : Bool) → (T t → i < n - 1) → (T (not t) → n - 1 ≤ i) → runMeans n (line s) i ≡ mean n (line s) i
     go true p q = rw (before-bar (n - 1) plusZero _ i (p tt), before-bar (n - 1) plusZero _ i (p tt))
-        (zero-over n window)
+        (zero-over n (window .some) (window .narrow))
     go false p q =
         let w = tick-line s (λ j l. floats j) ticks in
         let h = q tt in

@@ -90,13 +90,7 @@ pub fn write_means_of_ticks(series: &[f64], n: usize, means: &mut [f64])
     ensures { λ _. ⌜ Writing (length (now (series .entry))) (mean n (line (now (series .entry)))) (now (means .entry))
         (now (means .exit)) ⌝ }
 {
-    windows::write_sums(series, n, means);
-    let count = n as f64;
-    let mut i = 0;
-    while i < series.len() {
-        means[i] = means[i] / count;
-        i += 1;
-    }
+    running_sums::write_means(series, n, means);
 }
 
 // Whether it pays to know that the prices are whole ticks, and they are: where the window is long, running sums are

@@ -1,61 +1,26 @@
--- `write_means_of_ticks` meets its contract: each turn divides a running sum that still stands. Assumes nothing.
-use mathlib.Core.Path.{_∙_, ap}
-use Prim.Native.Nat.{_-_, _≤_}
-use native.Mathlib.Omega.{arith}
+-- `write_means_of_ticks` meets its contract: on whole ticks the means by running sums are those summed afresh. Assumes
+-- nothing.
 use borrow.Author.Needs.{needs}
 use denote.Ref.{now}
-use lib.ListN.{length}
-use lib.Ieee.{nan}
-use Rattle.cells.specs.Line.{line}
-use Rattle.cells.proofs.Leads.{not-yet}
-use Rattle.cells.specs.Written.{Writing}
-use Rattle.cells.proofs.Written.{none-written, one-more, ends, read-back, then-written}
-use Rattle.windows.specs.Window.{over, mean}
-use Rattle.windows.proofs.Window.{count-is-float}
+use Rattle.cells.proofs.Written.{writing-same}
 use Rattle.window_means.proofs.Ticks.{run-mean}
 use Rattle.window_means.proofs.write_means_of_ticks.Statement.{statement}
 use Rattle.window_means.proofs.write_means_of_ticks.Tie as tie
 
-abbrev Inv-loop : tie.InvT-loop
-Inv-loop series n means₀ count i₀ means i = (i ≤ length series) × Writing i (mean n (line series)) means₀ means
-
-abbrev μ-loop : tie.MeasureT-loop
-μ-loop series n means₀ count i₀ means i = length series - i
-
-loop-again : tie.Need-loop-again Inv-loop μ-loop
-loop-again c =
-    let at = c .before .before in
-    let sums = at .before .before .before .before in
-    let known = sums .before .before .before in
-    let start = known .before in
-    let i = at .loop .i in
-    let sum-is = not-yet i (at .loop .inv .1) (omega arith)
-    ∙ read-back i nan (sums .write-sums .ensures) (omega arith) in
-    let cell = ap (over _) sum-is ∙ run-mean (now (start .args .series)) _ i (known .shared-slice-known .given)
-    (start .pre .1) (start .pre .0 .window) (omega arith) in
-    (omega arith, one-more (at .loop .inv .1) cell (omega arith))
-
-returns : tie.Need-returns Inv-loop μ-loop
+returns : tie.Need-returns
 returns c =
-    let sums = c .before .before .before .before .before in
-    then-written (sums .write-sums .ensures) (ends (c .before .loop .inv .1) (omega arith)) (omega arith)
+    let means = c .before .before in
+    let known = means .before .before .before in
+    let start = known .before in
+    writing-same (means .write-means .ensures)
+    (λ i l. run-mean (now (start .args .series)) _ i (known .shared-slice-known .given) (start .pre .1)
+    (start .pre .0 .window) l)
 
 pub write-means-of-ticks-spec : {M : Type 1} → statement M
 write-means-of-ticks-spec =
     tie.close
     (tie.spec
-    Inv-loop
-    μ-loop
-    (λ c κs. search needs)  -- write-sums-requires
-    (λ c. count-is-float _ (omega arith))  -- int-to-float-count
-    (λ c. (omega arith, none-written))  -- loop-holds
-    (λ c. search needs)  -- mul-means
-    (λ c. search needs)  -- slice-read-means
-    (λ c. search needs)  -- mul-means-2
-    (λ c. search needs)  -- slice-write-means
-    (λ c. search needs)  -- add-i
-    (λ c. search needs)  -- loop-less
-    loop-again
+    (λ c κs. search needs)  -- write-means-requires
     (λ c. search needs)  -- same-length
     returns
     )
