@@ -4,7 +4,7 @@
 use mathlib.Core.Path.{_≡_, refl, sym, ap, _∙_}
 use mathlib.Core.Logic.{_⊎_, inl, inr}
 use mathlib.Core.Bool.{Bool, true, false, not, true≢false, cond}
-use Prim.Native.Nat.{ℕ, _+_, _-_, _*_, _/_, _^_, _<_, _≤_, zero-le}
+use Prim.Native.Nat.{ℕ, zero, suc, _+_, _-_, _*_, _/_, _^_, _<_, _≤_, zero-le}
 use native.Mathlib.Nat.{
   le-refl,
   le-trans,
@@ -18,12 +18,12 @@ use native.Mathlib.Nat.{
 use native.Mathlib.Omega.{arith}
 use borrow.Author.Tests.{lt-ltb, ne-eqb}
 use lib.Dec.{T, ltb, ltb→lt, nltb→le, lit≤}
-use lib.IntN.{ℤ, pos, negsuc, negℤ, natAbs, _+ℤ_, _*ℤ_, negℤ-+ℤ, +ℤ-comm}
+use lib.IntN.{ℤ, pos, negsuc, negℤ, natAbs, _+ℤ_, _-ℤ_, _*ℤ_, negℤ-+ℤ, +ℤ-comm}
 use lib.Signed.{ltZ}
 use lib.Pow.{pow-pos, pow-add}
 use lib.Ieee.{Float, fin, Format, binary32, binary64, prec, emax, low, round, sum, add, sub, div, lt, eq, ofInt, fits}
 use lib.Ieee.Positive.{first-pos}
-use Rattle.rounding_laws.proofs.Value.{not-zero}
+use Rattle.rounding_laws.proofs.Value.{not-zero, sub-at}
 use Rattle.rounding.specs.Leaves.{plusOne, minusOne, negative, signOf}
 use Rattle.rounding.proofs.Signs.{sign-difference}
 use Rattle.rounding.specs.Nearest.{inUnits, signed, signedUnits, Number, distance}
@@ -160,7 +160,7 @@ size-of : {f : Format} {x : Float} {z : ℤ} {c e : ℕ} → About f x z c e
     → inUnits f x * c * 2 ≤ (natAbs z * 2 ^ prec f * 2 + e) * fine f
 size-of {f} {x} {z} {c} {e} a = let l = rw (fines f) at (size-near a .above-by) in omega arith
 
--- a sum is one fraction rounded
+-- a sum is one fraction rounded, and so is a difference
 pub record Rounds (f : Format) (x : Float) (z : ℤ) (c : ℕ) : Type 0 where
   pub sign : Bool
   pub count : ℕ
@@ -200,11 +200,11 @@ sum-rounds f false a true b c = apart f a b c (ltb a b) (ltb→lt a b) (nltb→l
 sum-rounds f true a false b c =
     rw (sum-turned f a b c, +ℤ-comm (negℤ (pos a)) (pos b)) (apart f b a c (ltb b a) (ltb→lt b a) (nltb→le b a))
 
-signed-back : (f : Format) (x : Float) → signed (negative x) (inUnits f x) ≡ signedUnits f x
+pub signed-back : (f : Format) (x : Float) → signed (negative x) (inUnits f x) ≡ signedUnits f x
 unfolding signedUnits
 signed-back f x = refl
 
-add-rounds : {f : Format} {x y : Float} → Number f x → Number f y
+pub add-rounds : {f : Format} {x y : Float} → Number f x → Number f y
     → Rounds f (add f x y) (signedUnits f x +ℤ signedUnits f y) (2 ^ low f)
 add-rounds {f} {x} {y} n m =
     let r = sum-rounds f (negative x) (inUnits f x) (negative y) (inUnits f y) (2 ^ low f) in
@@ -216,6 +216,26 @@ add-rounds {f} {x} {y} n m =
           ∙ rw (signed-back f x, signed-back f y);
     }
 
+signed-not : (s : Bool) (a : ℕ) → signed (not s) a ≡ negℤ (signed s a)
+signed-not true zero = refl
+signed-not true (suc a) = refl
+signed-not false a = refl
+
+pub sub-rounds : {f : Format} {x y : Float} → Number f x → Number f y
+    → Rounds f (sub f x y) (signedUnits f x -ℤ signedUnits f y) (2 ^ low f)
+sub-rounds {f} {x} {y} n m =
+    let a = inUnits f x in
+    let b = inUnits f y in
+    let r = sum-rounds f (negative x) a (not (negative y)) b (2 ^ low f) in
+    record {
+      sign = r .sign;
+      count = r .count;
+      is = sub-at x y (negative x) a (negative y) b (2 ^ low f) (pow-pos (low f)) (worth x n .value) (worth y m .value) f
+          ∙ r .is;
+      of = r .of
+          ∙ rw (signed-not (negative y) b, signed-back f x, signed-back f y);
+    }
+
 rounds-about : {f : Format} {x : Float} {z : ℤ} {c : ℕ} (i : ℕ) → Rounds f x z c → 0 < c → natAbs z < 2 ^ i * c
     → i ≤ emax f → About f x z c (2 ^ i * c)
 rounds-about {f} {x} {z} {c} i r C h l =
@@ -225,7 +245,7 @@ near-times : {a b e : ℕ} (c : ℕ) → Near a b e → Near (a * c) (b * c) (e 
 near-times {a} {b} {e} c n = let p = mul-le-mul-right c (n .above-by) in let q = mul-le-mul-right c (n .below-by) in
     omega arith
 
-near-over : {a b e : ℕ} (c : ℕ) → 0 < c → Near (a * c) (b * c) (e * c) → Near a b e
+pub near-over : {a b e : ℕ} (c : ℕ) → 0 < c → Near (a * c) (b * c) (e * c) → Near a b e
 near-over {a} {b} {e} c C n = record {
   above-by = le-of-mul-le-mul-right {k = c} (omega arith) C;
   below-by = le-of-mul-le-mul-right {k = c} (omega arith) C;

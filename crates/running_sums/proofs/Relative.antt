@@ -1,7 +1,7 @@
 -- The error of one operation relative to its exact result, in units. A sum or a difference is off by at most 2 ^ -prec
 -- of itself, also among the smallest numbers, where it is exact; a quotient by half a unit more. Assumes nothing.
 use mathlib.Core.Path.{_≡_, refl, ap, _∙_}
-use mathlib.Core.Bool.{Bool, true, false, not, cond}
+use mathlib.Core.Bool.{Bool, true, false, not}
 use Prim.Native.Nat.{ℕ, zero, suc, _+_, _-_, _*_, _/_, _^_, _<_, _≤_}
 use native.Mathlib.Nat.{
   le-refl,
@@ -18,10 +18,10 @@ use native.Mathlib.Nat.{
   le-of-mul-le-mul-right,
 }
 use native.Mathlib.Omega.{arith}
-use lib.Dec.{T, ltb, leb, lit≤, ltb→lt, nltb→le, leb→le, nleb→lt}
-use lib.IntN.{ℤ, pos, negsuc, negℤ, natAbs, _+ℤ_, _-ℤ_, _*ℤ_, negℤ-+ℤ, +ℤ-comm}
+use lib.Dec.{T, leb, lit≤, leb→le, nleb→lt}
+use lib.IntN.{ℤ, pos, negsuc, natAbs, _+ℤ_, _-ℤ_, _*ℤ_}
 use lib.Pow.{pow-pos}
-use lib.Ieee.{Float, fin, Format, binary32, binary64, prec, low, size, round, sum, add, sub, div, ofInt, fits}
+use lib.Ieee.{Float, fin, Format, binary32, binary64, prec, low, size, add, sub, div, ofInt, fits}
 use lib.Ieee.Scale.{grid, overflow}
 use Rattle.rounding.specs.Leaves.{one, negative, signOf}
 use Rattle.rounding.specs.Nearest.{signed, inUnits, signedUnits, Number}
@@ -33,26 +33,24 @@ use Rattle.rounding_laws.proofs.Integers.{
   Near,
   parts-add,
   parts-signed,
-  parts-same,
   parts-times,
   near-abs,
   abs-gap,
   abs-minus,
   parts-abs,
 }
-use Rattle.rounding_laws.proofs.Value.{sub-at}
-use Rattle.rounding_laws.proofs.Whole.{sum-turned}
 use Rattle.rounding_laws.proofs.Units.{
   Worth,
   worth,
   worth-number,
   worth-units,
-  worth-add,
   worth-div,
   abs-signed,
   abs-units,
   round-worth,
 }
+pub use Rattle.rounding_laws.proofs.About.{Rounds, add-rounds, sub-rounds}
+use Rattle.rounding_laws.proofs.About.{signed-back, near-over}
 use Rattle.rounding_laws.proofs.Error.{places, grid-near, grid-range, grid-relative}
 
 -- ---- a fraction rounded
@@ -140,13 +138,6 @@ pub off-near : {x : Float} {z : ℤ} {e : ℕ} → Off x z e
     → Near ((above (signedUnits binary64 x) + below z) * 2 ^ 53) ((above z + below (signedUnits binary64 x)) * 2 ^ 53) e
 off-near {x} {z} o = apart-near (signedUnits binary64 x) z (o .close)
 
--- a fraction of whole units, rounded: what a sum and a difference are
-pub record Rounds (x : Float) (z : ℤ) : Type 0 where
-  pub sign : Bool
-  pub count : ℕ
-  pub is : x ≡ round binary64 sign count (2 ^ 1074)
-  pub of : signed sign count ≡ z
-
 -- the largest numbers are farther off
 unfoldable pub roof : ℕ
 roof = 2 ^ 2097
@@ -165,7 +156,8 @@ signed-off true g a n =
     rw (abs-signed true a) (near-apart (signed true g) (signed true a) (rw (p .0, p .1, q .0, q .1) (omega arith)))
 signed-off false g a n = near-apart (pos g) (pos a) (omega arith)
 
-pub rounds-off : {x : Float} {z : ℤ} → Rounds x z → natAbs z < roof → Off x z (natAbs z)
+-- what is one fraction of whole units, rounded: a sum, or a difference
+pub rounds-off : {x : Float} {z : ℤ} → Rounds binary64 x z (2 ^ 1074) → natAbs z < roof → Off x z (natAbs z)
 rounds-off {x} {z} r h =
     let small = rw (← r .of, abs-signed (r .sign) (r .count)) at h in
     let w = round-worth binary64 (r .sign) (r .count) (2 ^ 1074) (few (r .count) small) in
@@ -177,72 +169,6 @@ rounds-off {x} {z} r h =
     })
 
 -- ---- sums and differences
-
-apart : (a b : ℕ) (t : Bool) → (T t → a < b) → (T (not t) → b ≤ a)
-    → Rounds (cond t (round binary64 true (b - a) (2 ^ 1074)) (round binary64 false (a - b) (2 ^ 1074)))
-    (pos a +ℤ negℤ (pos b))
-apart a b true h k =
-    let l : a < b = h tt in
-    let p = parts-signed true b in
-    let q = parts-signed true (b - a) in
-    record {
-      sign = true;
-      count = b - a;
-      is = refl;
-      of = parts-same (negℤ (pos (b - a))) (pos a +ℤ negℤ (pos b)) (omega (arith, parts-add (pos a) (negℤ (pos b))));
-    }
-apart a b false h k =
-    let l : b ≤ a = k tt in
-    let p = parts-signed true b in
-    record {
-      sign = false;
-      count = a - b;
-      is = refl;
-      of = parts-same (pos (a - b)) (pos a +ℤ negℤ (pos b)) (omega (arith, parts-add (pos a) (negℤ (pos b))));
-    }
-
-sum-rounds : (s : Bool) (a : ℕ) (t : Bool) (b : ℕ) → Rounds (sum binary64 s a t b (2 ^ 1074)) (signed s a +ℤ signed t b)
-unfolding sum
-sum-rounds false a false b = record { sign = false; count = a + b; is = refl; of = refl }
-sum-rounds true a true b = record { sign = true; count = a + b; is = refl; of = negℤ-+ℤ (pos a) (pos b) }
-sum-rounds false a true b = apart a b (ltb a b) (ltb→lt a b) (nltb→le a b)
-sum-rounds true a false b =
-    rw (sum-turned binary64 a b (2 ^ 1074), +ℤ-comm (negℤ (pos a)) (pos b))
-    (apart b a (ltb b a) (ltb→lt b a) (nltb→le b a))
-
-back : (x : Float) → signed (negative x) (inUnits binary64 x) ≡ signedUnits binary64 x
-unfolding signedUnits
-back x = refl
-
-turned : (s : Bool) (a : ℕ) → signed (not s) a ≡ negℤ (signed s a)
-turned true zero = refl
-turned true (suc a) = refl
-turned false a = refl
-
-module _ {x y : Float} (n : Number binary64 x) (m : Number binary64 y) where
-  pub add-rounds : Rounds (add binary64 x y) (signedUnits binary64 x +ℤ signedUnits binary64 y)
-  add-rounds =
-      let r = sum-rounds (negative x) (inUnits binary64 x) (negative y) (inUnits binary64 y) in
-      record {
-        sign = r .sign;
-        count = r .count;
-        is = worth-add (worth x n) (worth y m) ∙ r .is;
-        of = r .of ∙ rw (back x, back y);
-      }
-
-  pub sub-rounds : Rounds (sub binary64 x y) (signedUnits binary64 x -ℤ signedUnits binary64 y)
-  sub-rounds =
-      let a = inUnits binary64 x in
-      let b = inUnits binary64 y in
-      let r = sum-rounds (negative x) a (not (negative y)) b in
-      record {
-        sign = r .sign;
-        count = r .count;
-        is = sub-at x y (negative x) a (negative y) b (2 ^ 1074) (pow-pos 1074) (worth x n .value) (worth y m .value)
-            binary64
-            ∙ r .is;
-        of = r .of ∙ rw (turned (negative y) b, back x, back y);
-      }
 
 -- what is near a small number is small
 pub size-by : (v z : ℤ) {e q : ℕ} → Near (above v + below z) (above z + below v) e → natAbs z + e ≤ q → natAbs v ≤ q
@@ -302,20 +228,13 @@ sub-off {x} {y} q n m h l =
 
 -- ---- quotients
 
-over-units : (a b u e : ℕ) → 0 < u → Near (a * u) (b * u) (e * u) → Near a b e
-over-units a b u e U n = record {
-  above-by = le-of-mul-le-mul-right {k = u} (omega arith) U;
-  below-by = le-of-mul-le-mul-right {k = u} (omega arith) U;
-}
-
 -- a units over n
 pub share-off : (f : Format) (a n : ℕ) → 0 < n
     → Near (grid f a (n * 2 ^ low f) * n * 2 ^ prec f) (a * 2 ^ prec f) (a + n * 2 ^ (prec f - 1))
 share-off f a n N =
     let u = 2 ^ low f in
     let o = grid-off f a (n * u) (mul-pos N (pow-pos (low f))) in
-    over-units (grid f a (n * u) * n * 2 ^ prec f) (a * 2 ^ prec f) u (a + n * 2 ^ (prec f - 1)) (pow-pos (low f))
-    (omega arith)
+    near-over u (pow-pos (low f)) (omega arith)
 
 pub share-few : (a n : ℕ) → 0 < n → a < roof → grid binary64 a (n * 2 ^ 1074) < overflow binary64
 unfolding roof
@@ -343,7 +262,7 @@ div-off {x} n m N L h =
     let z = signed s g *ℤ pos n in
     let t = parts-times (signed s g) n in
     rw (worth-div (worth x m) n N L)
-    (worth-number w, rw (worth-units w, ← back x) (go s a g (share-off binary64 a n N)))
+    (worth-number w, rw (worth-units w, ← signed-back binary64 x) (go s a g (share-off binary64 a n N)))
   where
     go : (s : Bool) (a g : ℕ) → Near (g * n * 2 ^ 53) (a * 2 ^ 53) (a + n * 2 ^ 52)
         → natAbs (signed s g *ℤ pos n -ℤ signed s a) * 2 ^ 53 ≤ natAbs (signed s a) + n * 2 ^ 52
