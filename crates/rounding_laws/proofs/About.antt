@@ -230,7 +230,8 @@ sub-rounds {f} {x} {y} n m =
     record {
       sign = r .sign;
       count = r .count;
-      is = sub-at x y (negative x) a (negative y) b (2 ^ low f) (pow-pos (low f)) (worth x n .value) (worth y m .value) f
+      is = sub-at x y (negative x) a (negative y) b (2 ^ low f) (pow-pos (low f)) (worth x n .value)
+          (worth y m .value) f
           ∙ r .is;
       of = r .of
           ∙ rw (signed-not (negative y) b, signed-back f x, signed-back f y);

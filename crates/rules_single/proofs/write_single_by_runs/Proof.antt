@@ -1,6 +1,6 @@
 -- `write_single_by_runs` meets its contract: both averages, whether they decide every bar, and the positions over them.
 -- Assumes nothing.
-use mathlib.Core.Path.{_≡_, sym, _∙_}
+use mathlib.Core.Path.{sym, _∙_}
 use mathlib.Core.Bool.{true≢false}
 use native.Mathlib.Omega.{arith}
 use borrow.Author.Needs.{needs}
