@@ -30,7 +30,11 @@ write-each-width-requires c κs =
     let s = now (start .args .close) in
     let some = at-smaller .smaller .result in
     let row = first-long some s (few at-smaller) in (
-      record { period = p .0 .period; values = all-first accepted some s (p .0 .values); room = omega (arith, p .0 .room) },
+      record {
+        period = p .0 .period;
+        values = all-first accepted some s (p .0 .values);
+        room = omega (arith, p .0 .room);
+      },
       (p .1 .0, omega (arith, p .1 .1)),
     )
 

@@ -11,7 +11,8 @@ returns c =
     let p = left .before .before .before in
     let x = p .before in
     let room = x .before .before .before .before .before .before .before .pre in
-    rw (take-replicate outputRoom _ _ room, x .float-of .ensures, p .parameters-of .ensures) at (left .floats-left .ensures)
+    rw (take-replicate outputRoom _ _ room, x .float-of .ensures, p .parameters-of .ensures) at
+    (left .floats-left .ensures)
 
 pub floats-agree-spec : {M : Type 1} → statement M
 floats-agree-spec =
