@@ -22,7 +22,7 @@ use Rattle.averages_exponential.specs.Ema.{emaAlpha}
 use Rattle.rules_ema.specs.SingleEma.{emaOfMeans}
 
 -- the weight of a new bar lies from 0 to 1
-alpha-share : (n : ℕ) → (0 < n) × (n ≤ 2 ^ 12) → Within false 1 1 (emaAlpha n)
+pub alpha-share : (n : ℕ) → (0 < n) × (n ≤ 2 ^ 12) → Within false 1 1 (emaAlpha n)
 alpha-share n (N, M) =
     rw (div-at two (ofInt binary64 (pos (n + 1))) false 2 1 false (n + 1) 1 (lit< tt) (lit< tt) (omega arith)
     (refl, refl) (whole-value binary64 (pos (n + 1)) (omega arith)) binary64)

@@ -159,14 +159,14 @@ module _ (m g : ℕ) (n : Near (g * 2 ^ 31 * 2 ^ 53) (m * 2 ^ 53) (m + 2 ^ 31 * 
   part-least : m * 7 ≤ (g + 1) * 2 ^ 34
   part-least = let a = eighths m (g * 2 ^ 31) m (2 ^ 50) (pow-pos 50) (n .below-by) in omega arith
 
-margin-least : (m g e d t : ℕ) → m * 7 ≤ (g + 1) * 2 ^ 34 → 32 ≤ e → d * 2 ^ 53 ≤ g + e → g + e ≤ t + d
-    → (1 < t) × (m * 6 + 2 ^ 38 ≤ (t - 1) * 2 ^ 34)
+margin-least : (m g e d t : ℕ) → m * 7 ≤ (g + 1) * 2 ^ 34 → 2 ^ 40 ≤ e → d * 2 ^ 53 ≤ g + e → g + e ≤ t + d
+    → (1 < t) × (m * 6 + 2 ^ 60 ≤ (t - 1) * 2 ^ 34)
 margin-least m g e d t a b c h =
     let k : (g + e) * 7 ≤ t * 8 = omega arith in
-    let s : m * 6 + 2 ^ 38 + 2 ^ 34 ≤ t * 2 ^ 34 = far m g e t a b k in
+    let s : m * 6 + 2 ^ 60 + 2 ^ 34 ≤ t * 2 ^ 34 = far m g e t a b k in
     (omega arith, omega arith)
   where
-    far : (m g e t : ℕ) → m * 7 ≤ (g + 1) * 2 ^ 34 → 32 ≤ e → (g + e) * 7 ≤ t * 8 → m * 6 + 2 ^ 38 + 2 ^ 34 ≤ t * 2 ^ 34
+    far : (m g e t : ℕ) → m * 7 ≤ (g + 1) * 2 ^ 34 → 2 ^ 40 ≤ e → (g + e) * 7 ≤ t * 8 → m * 6 + 2 ^ 60 + 2 ^ 34 ≤ t * 2 ^ 34
     far m g e t a b k = omega arith
 
 -- 2 ^ -1000
@@ -177,7 +177,7 @@ least-plus : Plus least
 unfolding least negative fits
 least-plus = record { number = record { fit = tt; ends = tt }; sign = refl }
 
-least-size : (32 ≤ inUnits binary64 least) × (inUnits binary64 least ≤ most)
+least-size : (2 ^ 40 ≤ inUnits binary64 least) × (inUnits binary64 least ≤ most)
 unfolding least
 least-size = (lit≤ tt, lit≤ tt)
 
@@ -219,8 +219,8 @@ module _ {M : Float} (p : Plus M) (h : inUnits binary64 M ≤ most) where
         mul-one m,
       ) (round-worth binary64 false m (2 ^ 31 * 2 ^ 1074) (share-few m (2 ^ 31) (pow-pos 31) (omega arith)))
 
-  -- the margin is more than 6 · 2 ^ -34 of M
-  pub margin-wide : (u : ℕ) × Margin u (marginOf M) × (m * 6 + 2 ^ 38 ≤ u * 2 ^ 34)
+  -- the margin is more than 6 · 2 ^ -34 of M, and 2 ^ 26 units
+  pub margin-wide : (u : ℕ) × Margin u (marginOf M) × (m * 6 + 2 ^ 60 ≤ u * 2 ^ 34)
   unfolding least
   margin-wide =
       let l = inUnits binary64 least in

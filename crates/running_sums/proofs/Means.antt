@@ -3,10 +3,11 @@
 use mathlib.Core.Path.{_≡_, refl, ap}
 use mathlib.Core.Bool.{Bool, true, false, not}
 use Prim.Native.Nat.{ℕ, zero, suc, _+_, _-_, _*_, _^_, _<_, _≤_}
-use native.Mathlib.Nat.{le-refl, zero-mul, le-of-mul-le-mul-right, mul-le-mul-right}
+use native.Mathlib.Nat.{le-refl, le-trans, zero-mul, le-of-mul-le-mul-right, mul-le-mul-right}
 use native.Mathlib.Omega.{arith}
 use lib.Dec.{T, ltb, ltb→lt, nltb→le}
 use lib.IntN.{ℤ, pos, natAbs, _+ℤ_, _-ℤ_, _*ℤ_}
+use lib.Pow.{pow-pos}
 use lib.Ieee.{Float, binary64, fits}
 use Rattle.rounding.specs.Whole.{total}
 use Rattle.rounding.specs.Nearest.{signedUnits, Number}
@@ -22,7 +23,7 @@ use Rattle.windows.specs.inner.Runs.{runs}
 use Rattle.windows.proofs.Runs.{causal-runs}
 use Rattle.running_sums.specs.inner.Means.{runMeans}
 use Rattle.running_sums.proofs.Relative.{off-near, apart-near, near-apart, size-by, div-off, roof}
-use Rattle.running_sums.proofs.Sums.{Small, Windowed, Carried, values, slacks, fresh, running, carried-size}
+use Rattle.running_sums.proofs.Sums.{Small, Windowed, Carried, values, slacks, fresh, running, carried-size, carried-most}
 
 -- ---- 0.0
 
@@ -62,16 +63,18 @@ quotients x⁺ x⁻ y⁺ y⁻ q⁺ q⁻ r⁺ r⁻ n m e N a b c = record {
 }
 
 -- the size of a quotient by n
-quotient-size : (x q : ℤ) (n m : ℕ) → 0 < n → natAbs x ≤ 2 * (n * m)
-    → natAbs (q *ℤ pos n -ℤ x) * 2 ^ 53 ≤ 2 * (n * m) + n * 2 ^ 52 → natAbs q ≤ 3 * m + 1
+quotient-size : (x q : ℤ) (n m : ℕ) → 0 < n → natAbs x * 2 ^ 53 ≤ n * m * (2 ^ 53 + 2 ^ 19)
+    → natAbs (q *ℤ pos n -ℤ x) * 2 ^ 53 ≤ 2 * (n * m) + n * 2 ^ 52 → natAbs q * 2 ^ 33 ≤ m * (2 ^ 33 + 1) + 2 ^ 33
 quotient-size x q n m N a c =
     let s = size-by (q *ℤ pos n) x {q = natAbs x + natAbs (q *ℤ pos n -ℤ x)} (near-abs (q *ℤ pos n) x (le-refl _))
     (le-refl _) in
     let t = parts-times q n in
     let u = parts-abs (q *ℤ pos n) in
     let v = ap (λ (k : ℕ). k * n) (parts-abs q) in
-    let e : natAbs q * 2 ^ 53 ≤ m * 2 ^ 54 + m * 2 + 2 ^ 52 = le-of-mul-le-mul-right {k = n} (omega arith) N in
-    omega arith
+    go (natAbs q) (le-of-mul-le-mul-right {k = n} (omega arith) N)
+  where
+    go : (q : ℕ) → q * 2 ^ 53 ≤ m * (2 ^ 53 + 2 ^ 19 + 2) + 2 ^ 52 → q * 2 ^ 33 ≤ m * (2 ^ 33 + 1) + 2 ^ 33
+    go q h = omega arith
 
 -- ---- averages of sums that stand for a window's
 
@@ -90,9 +93,10 @@ module _ {m n l : ℕ} {f : Line} (w : Windowed m n l f) {i c : ℕ} {x : Float}
   pub average-number : Number binary64 (over n x)
   average-number = share .0
 
-  pub average-size : natAbs (signedUnits binary64 (over n x)) ≤ 3 * m + 1
+  -- hardly more than m
+  pub average-size : natAbs (signedUnits binary64 (over n x)) * 2 ^ 33 ≤ m * (2 ^ 33 + 1) + 2 ^ 33
   average-size = quotient-size (signedUnits binary64 x) (signedUnits binary64 (over n x)) n m (w .some)
-      (carried-size w r b h C) (share .1)
+      (carried-most w r b h C) (share .1)
 
 -- what the average of a running sum over cells that are off by d is off by
 abbrev pub spread : ℕ → ℕ → ℕ
@@ -162,27 +166,32 @@ at-every-bar P n i g h N M z a = go (ltb i (n - 1)) (ltb→lt i (n - 1)) (nltb�
         rw (← mean-of n i g refl full) (a full)
 
 -- both means are small
-module _ {m n l : ℕ} {g h : Line} (w : Windowed m n l g) (v : Windowed m n l h) (B : l ≤ 65536) where
+module _ {m n l : ℕ} {g h : Line} (w : Windowed m n l g) (v : Windowed m n l h) (B : l ≤ 65536) (m' : ℕ)
+    (M : m * (2 ^ 33 + 1) + 2 ^ 33 ≤ m' * 2 ^ 33) where
   both-small : (i : ℕ) → i < l
-      → let small : Float → Type 0 = λ x. Number binary64 x × (natAbs (signedUnits binary64 x) ≤ 3 * m + 1) in
+      → let small : Float → Type 0 = λ x. Number binary64 x × (natAbs (signedUnits binary64 x) ≤ m') in
       small (over n (runs n h i)) × small (mean n g i)
   both-small i H =
-      let small : Float → Type 0 = λ x. Number binary64 x × (natAbs (signedUnits binary64 x) ≤ 3 * m + 1) in
+      let small : Float → Type 0 = λ x. Number binary64 x × (natAbs (signedUnits binary64 x) ≤ m') in
       let zero : small plusZero = (zero-number, rw zero-units (omega arith)) in
       at-every-bar (λ x y. small x × small y) n i g h (w .some) (w .narrow) (zero, zero)
       (λ b. let r = run-carried v B i b H in
       let o = fresh w i b H in (
-        (average-number v r b (omega arith) (omega arith), average-size v r b (omega arith) (omega arith)),
-        (average-number w o b (omega arith) (omega arith), average-size w o b (omega arith) (omega arith)),
+        (average-number v r b (omega arith) (omega arith), fewer (average-size v r b (omega arith) (omega arith))),
+        (average-number w o b (omega arith) (omega arith), fewer (average-size w o b (omega arith) (omega arith))),
       ))
+    where
+      fewer : {k : ℕ} → k * 2 ^ 33 ≤ m * (2 ^ 33 + 1) + 2 ^ 33 → k ≤ m'
+      fewer h = le-of-mul-le-mul-right {k = 2 ^ 33} (le-trans h M) (pow-pos 33)
 
-  pub run-means-small : Small (3 * m + 1) l (runMeans n h)
+  pub run-means-small : Small m' l (runMeans n h)
   run-means-small = record { number = λ i H. both-small i H .0 .0; size = λ i H. both-small i H .0 .1 }
 
-  pub means-small : Small (3 * m + 1) l (mean n g)
+  pub means-small : Small m' l (mean n g)
   means-small = record { number = λ i H. both-small i H .1 .0; size = λ i H. both-small i H .1 .1 }
 
-  -- and close to each other
+-- and close to each other
+module _ {m n l : ℕ} {g h : Line} (w : Windowed m n l g) (v : Windowed m n l h) (B : l ≤ 65536) where
   pub run-means-near : (d : ℕ)
       → ((j : ℕ) → j < l → natAbs (signedUnits binary64 (h j) -ℤ signedUnits binary64 (g j)) * 2 ^ 53 ≤ d)
       → (i : ℕ) → i < l

@@ -2,14 +2,14 @@
 -- Assumes nothing.
 use mathlib.Core.Path.{_≡_}
 use Prim.Native.Nat.{ℕ, zero, suc, _+_, _-_, _*_, _^_, _<_, _≤_}
-use native.Mathlib.Nat.{add-comm, mul-le-mul-right, not-suc-le-zero}
+use native.Mathlib.Nat.{le-refl, add-comm, mul-le-mul-right, not-suc-le-zero}
 use native.Mathlib.Numerals.{suc-eq-add-one}
 use native.Mathlib.Omega.{arith}
 use lib.IntN.{ℤ, natAbs, _+ℤ_, _-ℤ_}
 use lib.Ieee.{Float, binary64}
 use Rattle.rounding.specs.Whole.{total}
 use Rattle.rounding.specs.Nearest.{signedUnits, Number}
-use Rattle.rounding_laws.proofs.Integers.{total-size, total-slides}
+use Rattle.rounding_laws.proofs.Integers.{near-abs, total-size, total-slides}
 use Rattle.cells.specs.Line.{Line, minusZero}
 use Rattle.cells.specs.Recur.{recur}
 use Rattle.windows.specs.Window.{sumFrom, windowSum, runningSum, addDifference}
@@ -21,6 +21,7 @@ use Rattle.running_sums.proofs.Relative.{
   off-size,
   add-off,
   sub-off,
+  size-by,
   roof,
 }
 
@@ -86,6 +87,14 @@ slacks m (suc p) c N M C =
     let d = mul-le-mul-right (p * m) M in
     omega arith
 
+slack-most : (m n c : ℕ) → 0 < n → n ≤ 4096 → c ≤ 65536 → slack m n c ≤ n * m * 2 ^ 19
+slack-most m n c N M C =
+    let a = mul-le-mul-right (n * m) M in
+    let b = mul-le-mul-right (n * m) C in
+    let d = mul-le-mul-right m C in
+    let e = mul-le-mul-right m N in
+    omega arith
+
 -- a line of numbers of at most m units, and a window
 pub record Windowed (m n l : ℕ) (f : Line) : Type 0 where
   pub small : Small m l f
@@ -141,3 +150,15 @@ module _ {m n l : ℕ} {f : Line} (w : Windowed m n l f) where
   carried-size {i} {c} r b h C =
       let t = window-units (w .small) (2 * (n * m)) (w .room) (i - n) n (omega arith) in
       off-size (2 * (n * m)) (r .off) (omega (arith, roomy m n c (w .some) (w .narrow) C))
+
+  -- which is hardly more than n * m
+  pub carried-most : {i c : ℕ} {x : Float} → Carried m n f i c x → n ≤ i → i ≤ l → c ≤ 65536
+      → natAbs (signedUnits binary64 x) * 2 ^ 53 ≤ n * m * (2 ^ 53 + 2 ^ 19)
+  carried-most {i} {c} {x} r b h C =
+      let v = signedUnits binary64 x in
+      let z = total (values f) (i - n) n in
+      let t = window-units (w .small) (2 * (n * m)) (w .room) (i - n) n (omega arith) in
+      let d = size-by v z {q = natAbs z + natAbs (v -ℤ z)} (near-abs v z (le-refl _)) (le-refl _) in
+      let k = r .off .close in
+      let s = slack-most m n c (w .some) (w .narrow) C in
+      omega arith

@@ -26,13 +26,17 @@ use Rattle.running_sums.proofs.Signs.{Margin, near-sign, near-some}
 use Rattle.running_sums.proofs.Bound.{Largest, largest-is, room-for, margin-wide}
 
 -- twice the error of both averagings is less than the margin
-wide-enough : (m u : ℕ) → m * 6 + 2 ^ 38 ≤ u * 2 ^ 34 → spread (3 * m + 1) (spread m 0) * 2 ≤ u * 2 ^ 53
+wide-enough : (m u : ℕ) → m * 6 + 2 ^ 60 ≤ u * 2 ^ 34 → spread (3 * m + 1) (spread m 0) * 2 ≤ u * 2 ^ 53
 wide-enough m u h =
-    let l : (m * 6 + 2 ^ 38) * 2 ^ 19 ≤ u * 2 ^ 34 * 2 ^ 19 = mul-le-mul-right (2 ^ 19) h in
+    let l : (m * 6 + 2 ^ 60) * 2 ^ 19 ≤ u * 2 ^ 34 * 2 ^ 19 = mul-le-mul-right (2 ^ 19) h in
     le-trans (go m) (le-trans l (omega arith))
   where
-    go : (m : ℕ) → spread (3 * m + 1) (spread m 0) * 2 ≤ (m * 6 + 2 ^ 38) * 2 ^ 19
+    go : (m : ℕ) → spread (3 * m + 1) (spread m 0) * 2 ≤ (m * 6 + 2 ^ 60) * 2 ^ 19
     go m = omega arith
+
+-- a mean is at most three times the largest cell and a unit
+thrice : (m : ℕ) → m * (2 ^ 33 + 1) + 2 ^ 33 ≤ (3 * m + 1) * 2 ^ 33
+thrice m = omega arith
 
 -- accepted prices, and a window
 module _ (s : List Float) (n : ℕ) (ok : all accepted s ≡ true) (floats : (j : ℕ) → T (fits binary64 (line s j)))
@@ -43,10 +47,10 @@ module _ (s : List Float) (n : ℕ) (ok : all accepted s ≡ true) (floats : (j 
   abbrev m : ℕ
   m = inUnits binary64 most
 
-  known : Largest (line s) (length s) most
+  pub known : Largest (line s) (length s) most
   known = largest-is s ok floats (length s) (le-refl _)
 
-  prices : Windowed m n (length s) (line s)
+  pub prices : Windowed m n (length s) (line s)
   prices =
       let r = room-for m n (known .low) (w .narrow) in
       let k : m ≤ m + 1 = omega arith in
@@ -59,10 +63,20 @@ module _ (s : List Float) (n : ℕ) (ok : all accepted s ≡ true) (floats : (j 
       omega (arith, mul-le-mul-left n k)
 
   runs-small : Windowed (3 * m + 1) n (length s) (runMeans n (line s))
-  runs-small = record { small = run-means-small prices prices B; some = w .some; narrow = w .narrow; room = room-twice }
+  runs-small = record {
+    small = run-means-small prices prices B (3 * m + 1) (thrice m);
+    some = w .some;
+    narrow = w .narrow;
+    room = room-twice;
+  }
 
   means-windowed : Windowed (3 * m + 1) n (length s) (mean n (line s))
-  means-windowed = record { small = means-small prices prices B; some = w .some; narrow = w .narrow; room = room-twice }
+  means-windowed = record {
+    small = means-small prices prices B (3 * m + 1) (thrice m);
+    some = w .some;
+    narrow = w .narrow;
+    room = room-twice;
+  }
 
   -- the law: both averages are numbers, and close
   twice-near : (i : ℕ) → i < length s
@@ -85,8 +99,8 @@ module _ (s : List Float) (n : ℕ) (ok : all accepted s ≡ true) (floats : (j 
   decided-twice i h e =
       let (apart, some) = and-parts (lt (marginOf most) _) (lt (marginOf most) _) e in
       let (u, g, k) = margin-wide (known .plus) (known .low) in
-      let a = run-means-small means-windowed runs-small B in
-      let b = means-small means-windowed runs-small B in
+      let a = run-means-small means-windowed runs-small B (3 * (3 * m + 1) + 1) (thrice (3 * m + 1)) in
+      let b = means-small means-windowed runs-small B (3 * (3 * m + 1) + 1) (thrice (3 * m + 1)) in
       let near = twice-near i h in
       let size = a .size i h in
       let price = known .small .size i h in
