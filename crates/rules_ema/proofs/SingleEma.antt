@@ -112,17 +112,19 @@ module _ (start n : ℕ) (f : Line) {l : ℕ} {out₀ mid work₀ rows : List Fl
     rest-finished p (h, e) =
         then-finished (touched-more (touched w) (omega arith)) (c .rest) (all-finished p e)
 
--- ---- the stages, where the means of l bars stand in the first part of a slice
+-- ---- the stages
+
+-- the mean of n cells of a line whose first l cells stand in the first part of a slice
+pub seed-of : (n : ℕ) (g : Line) {l : ℕ} {old mid : List Float} → Writing l g old mid → l ≤ length old → (start : ℕ)
+    {x : Float} → x ≡ mean n (line (take l mid)) start → start < l → x ≡ mean n g start
+seed-of n g w h start e k = e ∙ causal-mean n _ _ start (λ j m. part-is w h j (omega arith))
+
+-- where those are the means of l bars
 
 module _ (n : ℕ) (f : Line) {l : ℕ} {old mid : List Float} (w : Writing l (mean n f) old mid) (h : l ≤ length old) where
   -- the search among them
   pub start-found : {r : ℕ} → r ≡ firstUsable (length (take l mid)) (line (take l mid)) → r ≡ firstUsable l (mean n f)
   start-found e = e ∙ rw (part-long w h) (usable-same l _ _ (part-is w h))
-
-  -- the mean of n of them
-  pub seed-found : (start : ℕ) {x : Float} → x ≡ mean n (line (take l mid)) start → start < l
-      → x ≡ mean n (mean n f) start
-  seed-found start e k = e ∙ causal-mean n _ _ start (λ j m. part-is w h j (omega arith))
 
   -- the cells from the start that was found are the rule's
   pub found-finished : {r : ℕ} {now work₀ work₁ : List Float}

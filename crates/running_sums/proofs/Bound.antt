@@ -166,7 +166,8 @@ margin-least m g e d t a b c h =
     let s : m * 6 + 2 ^ 60 + 2 ^ 34 ≤ t * 2 ^ 34 = far m g e t a b k in
     (omega arith, omega arith)
   where
-    far : (m g e t : ℕ) → m * 7 ≤ (g + 1) * 2 ^ 34 → 2 ^ 40 ≤ e → (g + e) * 7 ≤ t * 8 → m * 6 + 2 ^ 60 + 2 ^ 34 ≤ t * 2 ^ 34
+    far : (m g e t : ℕ) → m * 7 ≤ (g + 1) * 2 ^ 34 → 2 ^ 40 ≤ e → (g + e) * 7 ≤ t * 8
+        → m * 6 + 2 ^ 60 + 2 ^ 34 ≤ t * 2 ^ 34
     far m g e t a b k = omega arith
 
 -- 2 ^ -1000

@@ -3,7 +3,7 @@
 use mathlib.Core.Path.{_≡_, refl, ap}
 use mathlib.Core.Bool.{Bool, true, false, not}
 use Prim.Native.Nat.{ℕ, zero, suc, _+_, _-_, _*_, _^_, _<_, _≤_}
-use native.Mathlib.Nat.{le-refl, le-trans, zero-mul, le-of-mul-le-mul-right, mul-le-mul-right}
+use native.Mathlib.Nat.{le-refl, le-trans, zero-mul, le-of-mul-le-mul-right}
 use native.Mathlib.Omega.{arith}
 use lib.Dec.{T, ltb, ltb→lt, nltb→le}
 use lib.IntN.{ℤ, pos, natAbs, _+ℤ_, _-ℤ_, _*ℤ_}
@@ -22,8 +22,18 @@ use Rattle.windows.specs.Window.{windowSum, over, mean}
 use Rattle.windows.specs.inner.Runs.{runs}
 use Rattle.windows.proofs.Runs.{causal-runs}
 use Rattle.running_sums.specs.inner.Means.{runMeans}
-use Rattle.running_sums.proofs.Relative.{off-near, apart-near, near-apart, size-by, div-off, roof}
-use Rattle.running_sums.proofs.Sums.{Small, Windowed, Carried, values, slacks, fresh, running, carried-size, carried-most}
+use Rattle.running_sums.proofs.Relative.{off-near, apart-near, near-apart, size-by, div-off}
+use Rattle.running_sums.proofs.Sums.{
+  Small,
+  Windowed,
+  Carried,
+  values,
+  slacks,
+  fresh,
+  running,
+  carried-size,
+  carried-most,
+}
 
 -- ---- 0.0
 

@@ -1,6 +1,6 @@
 -- A share of a number, rounded, and the sum of two shares that make up one: how far two such sums are apart whose
 -- numbers are close. Assumes nothing.
-use mathlib.Core.Path.{_≡_, refl, ap, _∙_}
+use mathlib.Core.Path.{_≡_, refl}
 use mathlib.Core.Bool.{Bool, true, false}
 use Prim.Native.Nat.{ℕ, _+_, _-_, _*_, _^_, _<_, _≤_}
 use native.Mathlib.Nat.{
@@ -14,11 +14,10 @@ use native.Mathlib.Nat.{
   le-of-mul-le-mul-right,
 }
 use native.Mathlib.Omega.{arith}
-use lib.Dec.{T, lit≤, lit<}
+use lib.Dec.{lit≤, lit<}
 use lib.IntN.{ℤ, pos, natAbs, _+ℤ_, _-ℤ_}
 use lib.Pow.{pow-pos}
-use lib.Ieee.{Float, binary64, unlike, up, down, add, sub, mul, fits}
-use lib.Ieee.Fits.{down-pos}
+use lib.Ieee.{Float, binary64, unlike, up, add, sub, mul, fits}
 use lib.Ieee.Scale.{grid, overflow}
 use Rattle.rounding.specs.Leaves.{negative, plusOne}
 use Rattle.rounding.specs.Nearest.{signed, inUnits, signedUnits, Number}
@@ -27,7 +26,6 @@ use Rattle.rounding_laws.proofs.Integers.{
   below,
   Near,
   near-abs,
-  parts-abs,
   parts-add,
   parts-minus,
   parts-same,
@@ -35,14 +33,11 @@ use Rattle.rounding_laws.proofs.Integers.{
   abs-add,
   abs-gap,
 }
-use Rattle.rounding_laws.proofs.Value.{shape, mul-at}
+use Rattle.rounding_laws.proofs.Value.{mul-at}
 use Rattle.rounding_laws.proofs.Units.{Worth, worth, worth-number, worth-units, round-worth, abs-signed, abs-units}
 use Rattle.rounding_laws.proofs.Error.{grid-range}
 use Rattle.running_sums.proofs.Relative.{
-  Off,
   apart-near,
-  near-apart,
-  off-near,
   size-by,
   rounds-off,
   add-rounds,
@@ -153,10 +148,12 @@ rest-of {a} {p} {r} h k =
     let c = rw (is, worth-units (k .worth)) at (o .close) in
     record { some = pow-pos 1074; both = go p r (2 ^ 1074) (h .part) (apart-near (pos r) (pos (2 ^ 1074 - p)) c) }
   where
-    go : (p r q : ℕ) → p ≤ q → Near ((r + 0) * 2 ^ 53) ((q - p + 0) * 2 ^ 53) (q - p) → (p + r) * 2 ^ 53 ≤ q * 2 ^ 53 + q
+    go : (p r q : ℕ) → p ≤ q → Near ((r + 0) * 2 ^ 53) ((q - p + 0) * 2 ^ 53) (q - p)
+        → (p + r) * 2 ^ 53 ≤ q * 2 ^ 53 + q
     go p r q h n = omega arith
 
-two-sizes : (t u q x y : ℕ) → t * q * 2 ^ 53 ≤ x * 2 ^ 53 + x + q * 2 ^ 52 → u * q * 2 ^ 53 ≤ y * 2 ^ 53 + y + q * 2 ^ 52
+two-sizes : (t u q x y : ℕ) → t * q * 2 ^ 53 ≤ x * 2 ^ 53 + x + q * 2 ^ 52
+    → u * q * 2 ^ 53 ≤ y * 2 ^ 53 + y + q * 2 ^ 52
     → (t + u) * 2 ^ 53 * q ≤ (x + y) * 2 ^ 53 + (x + y) + q * 2 ^ 53
 two-sizes t u q x y h k = omega arith
 
@@ -189,14 +186,15 @@ module _ {p r q : ℕ} (make : MakeUp p r q) where
       → natAbs v ≤ b → natAbs v' ≤ b → natAbs w ≤ b → natAbs w' ≤ b
       → Near ((above v + below v') * 2 ^ 56) ((above v' + below v) * 2 ^ 56) e
       → Near ((above w + below w') * 2 ^ 56) ((above w' + below w) * 2 ^ 56) e → e + 16 * b ≤ b * 2 ^ 53
-      → Near ((above t + below t' + (above u + below u')) * 2 ^ 56) ((above t' + below t + (above u' + below u)) * 2 ^ 56)
-      (e + 17 * b + 2 ^ 57)
+      → Near ((above t + below t' + (above u + below u')) * 2 ^ 56)
+      ((above t' + below t + (above u' + below u)) * 2 ^ 56) (e + 17 * b + 2 ^ 57)
   shares-near {b} {e} v t v' t' w u w' u' s s' z z' hv hv' hw hw' n m k =
       let x = product-near {b = b} v t v' t' s s' hv hv' n in
       let y = product-near {b = b} w u w' u' z z' hw hw' m in
       let both = mul-le-mul-right (e + 16 * b) (make .both) in
       let few = mul-le-mul-left q k in
-      let l : (p + r) * (e + 16 * b) ≤ q * (e + 17 * b) = le-of-mul-le-mul-right {k = 2 ^ 53} (omega arith) (pow-pos 53) in
+      let l : (p + r) * (e + 16 * b) ≤ q * (e + 17 * b) =
+      le-of-mul-le-mul-right {k = 2 ^ 53} (omega arith) (pow-pos 53) in
       record {
         above-by = le-of-mul-le-mul-right {k = q} (omega arith) (make .some);
         below-by = le-of-mul-le-mul-right {k = q} (omega arith) (make .some);

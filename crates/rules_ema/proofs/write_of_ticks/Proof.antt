@@ -3,6 +3,7 @@
 use mathlib.Core.Path.{refl, sym}
 use Prim.Native.Nat.{_-_, _*_}
 use native.Mathlib.Omega.{arith}
+use lib.ListN.{length}
 use borrow.Author.Needs.{needs}
 use denote.Ref.{now}
 use lib.Ieee.{ne, ofBits}
@@ -10,9 +11,11 @@ use Rattle.cells.specs.Line.{line}
 use Rattle.cells.proofs.Parts.{part-long}
 use Rattle.cells.proofs.Touched.{untouched, touched, touched-more}
 use Rattle.work_rows.proofs.Finished.{then-finished}
+use Rattle.windows.specs.Window.{mean}
+use Rattle.windows.proofs.Window.{causal-mean}
 use Rattle.window_means.proofs.Ticks.{known-ticks}
-use Rattle.rules_ema.proofs.SingleEma.{seed-found}
-use Rattle.rules_ema.proofs.Ticks.{head-long, head-means, early-finished}
+use Rattle.rules_ema.proofs.SingleEma.{seed-of}
+use Rattle.rules_ema.proofs.Head.{head-long, head-cells, early-line}
 use Rattle.rules_ema.proofs.write_of_ticks.Statement.{statement}
 use Rattle.rules_ema.proofs.write_of_ticks.Tie as tie
 
@@ -26,8 +29,8 @@ slice-aggregate-mean-at : tie.Need-slice-aggregate-mean-at
 slice-aggregate-mean-at c =
     let means = c .before .before .before .before .before in
     let a = means .before .before .before .before .before .before .before .args in
-    let stood = head-means (a .n) (2 * a .n - 1) (now (a .series)) (means .write-means-of-prices .ensures)
-    (omega arith) in
+    let stood = head-cells (mean (a .n)) (causal-mean (a .n)) (2 * a .n - 1) (now (a .series))
+    (means .write-means-of-prices .ensures) (omega arith) in
     sym (part-long stood (omega arith))
 
 mean-at-requires : tie.Need-mean-at-requires
@@ -35,8 +38,8 @@ mean-at-requires c κs =
     let means = c .before .before .before .before .before in
     let start = means .before .before .before .before .before .before .before in
     let a = start .args in
-    let stood = head-means (a .n) (2 * a .n - 1) (now (a .series)) (means .write-means-of-prices .ensures)
-    (omega arith) in
+    let stood = head-cells (mean (a .n)) (causal-mean (a .n)) (2 * a .n - 1) (now (a .series))
+    (means .write-means-of-prices .ensures) (omega arith) in
     let long = part-long stood (omega arith) in
     record { window = start .pre .0 .window; full = omega arith; inside = omega arith }
 
@@ -46,15 +49,15 @@ write-from-ticks-requires c κs =
     let means = at-seed .before .before .before .before .before .before in
     let start = means .before .before .before .before .before .before .before in
     let a = start .args in
-    let stood = head-means (a .n) (2 * a .n - 1) (now (a .series)) (means .write-means-of-prices .ensures)
-    (omega arith) in
+    let stood = head-cells (mean (a .n)) (causal-mean (a .n)) (2 * a .n - 1) (now (a .series))
+    (means .write-means-of-prices .ensures) (omega arith) in
     record {
       window = start .pre .0 .window;
       ticks = known-ticks (a .n) (now (a .series)) (start .pre .1) refl;
       room = search needs;
       full = omega arith;
       inside = omega arith;
-      first = seed-found (a .n) (line (now (a .series))) stood (omega arith) _ (at-seed .mean-at .ensures)
+      first = seed-of (a .n) (mean (a .n) (line (now (a .series)))) stood (omega arith) _ (at-seed .mean-at .ensures)
           (omega arith);
       rows = start .pre .0 .work-long;
     }
@@ -64,8 +67,8 @@ write-over-means-requires c κs =
     let means = c .before .before .before .before .before .before in
     let start = means .before .before .before .before .before .before .before in
     let a = start .args in
-    let stood = head-means (a .n) (2 * a .n - 1) (now (a .series)) (means .write-means-of-prices .ensures)
-    (omega arith) in
+    let stood = head-cells (mean (a .n)) (causal-mean (a .n)) (2 * a .n - 1) (now (a .series))
+    (means .write-means-of-prices .ensures) (omega arith) in
     (rw (stood .long) (start .pre .0), start .pre .1)
 
 returns : tie.Need-returns
@@ -76,18 +79,20 @@ returns c =
     let means = then .before .before .before .before in
     let start = means .before .before .before .before .before .before .before in
     let a = start .args in
-    let stood = head-means (a .n) (2 * a .n - 1) (now (a .series)) (means .write-means-of-prices .ensures)
-    (omega arith) in
-    early-finished (a .n) (line (now (a .series))) stood (then .if2 .taken) (cells .write-from-ticks .ensures)
-    (omega (arith, start .pre .0 .window .some, start .pre .0 .out-long))
+    let stood = head-cells (mean (a .n)) (causal-mean (a .n)) (2 * a .n - 1) (now (a .series))
+    (means .write-means-of-prices .ensures) (omega arith) in
+    let f = line (now (a .series)) in
+    let is = early-line (length (now (a .series))) (a .n) f (mean (a .n) f) stood refl (then .if2 .taken)
+    (omega (arith, start .pre .0 .window .some, start .pre .0 .out-long)) in
+    rw is (then-finished (touched-more (touched stood) (omega arith)) untouched (cells .write-from-ticks .ensures))
 
 returns-2 : tie.Need-returns-2
 returns-2 c =
     let cells = c .before .before .before .before in
     let means = cells .before .before .before .before .before .before .before in
     let a = means .before .before .before .before .before .before .before .args in
-    let stood = head-means (a .n) (2 * a .n - 1) (now (a .series)) (means .write-means-of-prices .ensures)
-    (omega arith) in
+    let stood = head-cells (mean (a .n)) (causal-mean (a .n)) (2 * a .n - 1) (now (a .series))
+    (means .write-means-of-prices .ensures) (omega arith) in
     then-finished (touched-more (touched stood) (omega arith)) untouched (cells .write-over-means .ensures)
 
 pub write-of-ticks-spec : {M : Type 1} → statement M

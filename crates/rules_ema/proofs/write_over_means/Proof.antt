@@ -9,7 +9,7 @@ use Rattle.cells.specs.Line.{line}
 use Rattle.cells.proofs.Parts.{part-long}
 use Rattle.cells.proofs.Written.{stands}
 use Rattle.windows.specs.Window.{mean}
-use Rattle.rules_ema.proofs.SingleEma.{usable-inside, start-found, seed-found, found-finished, none-finished}
+use Rattle.rules_ema.proofs.SingleEma.{usable-inside, start-found, seed-of, found-finished, none-finished}
 use Rattle.rules_ema.proofs.write_over_means.Statement.{statement}
 use Rattle.rules_ema.proofs.write_over_means.Tie as tie
 
@@ -31,7 +31,8 @@ mean-at-requires : tie.Need-mean-at-requires
 mean-at-requires c κs =
     let means = c .before .before .before .before .before .before in
     let long = part-long (means .write-means-by .ensures) (omega arith) in
-    record { window = means .before .before .before .before .before .pre .0 .window; full = omega arith; inside = omega arith }
+    let start = means .before .before .before .before .before in
+    record { window = start .pre .0 .window; full = omega arith; inside = omega arith }
 
 write-from-requires : tie.Need-write-from-requires
 write-from-requires c κs =
@@ -43,7 +44,7 @@ write-from-requires c κs =
     record {
       means = record { window = start .pre .0 .window; room = search needs; means = stands stood };
       inside = omega arith;
-      first = seed-found (a .n) (line (now (a .series))) stood (omega arith) _ (at-seed .mean-at .ensures)
+      first = seed-of (a .n) (mean (a .n) (line (now (a .series)))) stood (omega arith) _ (at-seed .mean-at .ensures)
           (omega arith);
       rows = start .pre .0 .work-long;
     }
@@ -76,7 +77,8 @@ write-over-means-spec =
     tie.close
     (tie.spec
     -- write-means-by-requires
-    (λ c κs. let pre = c .before .before .before .before .pre in (record { window = pre .0 .window; room = search needs }, pre .1))
+    (λ c κs. let pre = c .before .before .before .before .pre in
+    (record { window = pre .0 .window; room = search needs }, pre .1))
     (λ c. search needs)  -- slice-reshare-prefix-first-usable
     (λ c. let means = c .before .before .before in
     sym (part-long (means .write-means-by .ensures) (omega arith)))  -- slice-aggregate-first-usable

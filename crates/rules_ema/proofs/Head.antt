@@ -1,0 +1,48 @@
+-- The exponential rule where the first mean is not 0: then the means up to bar 2n - 2 are enough to start. Assumes
+-- nothing.
+use mathlib.Core.Path.{_≡_, _∙_}
+use mathlib.Core.Bool.{true, false}
+use mathlib.Core.List.{List}
+use Prim.Native.Nat.{ℕ, _+_, _-_, _*_, _<_, _≤_}
+use native.Mathlib.Omega.{arith}
+use lib.ListN.{length, take, length-take}
+use lib.Seq.{getD-take}
+use lib.Ieee.{Float, nan, eq}
+use Rattle.cells.specs.Line.{Line, line, plusZero, Causal}
+use Rattle.cells.proofs.Line.{before-bar}
+use Rattle.cells.specs.Written.{Writing}
+use Rattle.cells.proofs.Written.{read-back, writing-same, ends}
+use Rattle.cells.specs.Search.{nonZero}
+use Rattle.windows.specs.Window.{over, windowSum, mean}
+use Rattle.rules_ema.specs.SingleEma.{firstUsable, singleEmaFrom, singleEmaLine}
+use Rattle.rules_ema.proofs.SingleEma.{usable-found}
+
+pub head-long : (k : ℕ) (s : List Float) → k ≤ length s → length (take k s) ≡ k
+head-long k s h = rw length-take (omega arith)
+
+-- the cells of the first k bars
+pub head-cells : (F : Line → Line) → Causal F → (k : ℕ) (s : List Float) {old mid : List Float}
+    → Writing (length (take k s)) (F (line (take k s))) old mid → k ≤ length s → Writing k (F (line s)) old mid
+head-cells F causal k s w h =
+    writing-same (ends w (head-long k s h))
+    (λ i l. causal (line (take k s)) (line s) i (λ j m. getD-take k s j nan (omega arith)))
+
+-- no mean before bar n - 1 is usable
+none-early : (n : ℕ) (f : Line) (j : ℕ) → j < n - 1 → nonZero (mean n f j) ≡ false
+unfolding mean eq
+none-early n f j m = rw (before-bar (n - 1) plusZero (λ i. over n (windowSum n f i)) j m)
+
+starts-early : (l n : ℕ) (f : Line) → nonZero (mean n f (n - 1)) ≡ true → (0 < n) × (n ≤ l)
+    → firstUsable l (mean n f) ≡ n - 1
+starts-early l n f e (some, h) = usable-found (n - 1) l (mean n f) (none-early n f) e (omega arith)
+
+-- where the first mean is not 0, and stands in its cell, the rule's cells begin at bar 2n - 2
+pub early-line : (l n : ℕ) (f g : Line) {head : ℕ} {old mid : List Float} → Writing head g old mid
+    → g (n - 1) ≡ mean n f (n - 1) → nonZero (line mid (n - 1)) ≡ true
+    → (0 < n) × (head ≡ 2 * n - 1) × (head ≤ l) × (l ≤ length old) → singleEmaLine l n f ≡ singleEmaFrom (head - 1) n f
+unfolding singleEmaLine
+early-line l n f g {head} w same e (some, is, h, room) =
+    let cell = read-back (n - 1) nan w (omega arith) ∙ same in
+    let first = starts-early l n f (rw (← cell) e) (omega arith) in
+    let start : n - 1 + (n - 1) ≡ head - 1 = omega arith in
+    rw (first, start)
