@@ -15,11 +15,19 @@ use Rattle.rules_double.proofs.side.Tie as tie
 signed : (c : tie.Start) (s : Bool) → leb (2 ^ 63) (toBits binary64 (c .args .x)) ≡ s → one s ≡ signOf (c .args .x)
 signed c s e = rw (sign-is _ (c .pre), ← highest-bit _ (subst T (sym (c .good .0 .1)) tt) (c .pre), e)
 
+returns : tie.Need-returns
+unfolding ofBits neg
+returns c = signed (c .before) true (le-leb _ _ (c .if1 .taken))
+
+returns-2 : tie.Need-returns-2
+unfolding ofBits
+returns-2 c = signed (c .before) false (lt-leb _ _ (c .if1 .left))
+
 pub side-spec : {M : Type 1} → statement M
 side-spec =
     tie.close
     (tie.spec
     (λ c. subst (λ (t : Bool). T (not t)) (sym (c .pre)) tt)  -- float-to-bits-if1
-    (λ c. unfold ofBits neg in signed (c .before) true (le-leb _ _ (c .if1 .taken)))  -- returns
-    (λ c. unfold ofBits in signed (c .before) false (lt-leb _ _ (c .if1 .left)))  -- returns-2
+    returns
+    returns-2
     )
