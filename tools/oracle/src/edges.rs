@@ -10,6 +10,7 @@ use crate::ties::ties;
 pub fn edges(rng: &mut Rng, function: &Function) -> Vec<Call> {
     let mut calls = Vec::new();
     every_place_damaged(rng, function, &mut calls);
+    every_place_at_the_limit(rng, function, &mut calls);
     every_parameter(rng, function, &mut calls);
     all_small_windows(rng, function, &mut calls);
     every_period(rng, function, &mut calls);
@@ -68,6 +69,29 @@ fn every_place_damaged(rng: &mut Rng, function: &Function, calls: &mut Vec<Call>
                     call.series[series][place] = *odd;
                     calls.push(call);
                 }
+            }
+        }
+    }
+}
+
+/// The largest value that is accepted and the next number, of both signs, in every place of series so long that their
+/// values are tested several at a time: beside values of both signs and of one, and beside a parameter that is refused.
+fn every_place_at_the_limit(rng: &mut Rng, function: &Function, calls: &mut Vec<Call>) {
+    let largest = if function.domain == Domain::WholeTicks { DAMAGED[2] } else { DAMAGED[0] };
+    let refused = function.roles.iter().enumerate().map(|(place, role)| match role {
+        Role::Window | Role::WholePeriod => with_parameter(function, place, Value::Count(usize::MAX)),
+        _ => with_parameter(function, place, Value::Real(f64::INFINITY)),
+    });
+    let parameters: Vec<Vec<Value>> = std::iter::once(modest(function)).chain(refused.take(1)).collect();
+    for (len, at) in (0..function.series).flat_map(|at| (40..44).map(move |len| (len, at))) {
+        for (place, parameters) in (0..len).flat_map(|place| parameters.iter().map(move |p| (place, p))) {
+            for (turn, value) in [largest, -largest, largest.next_up(), -largest.next_up()].into_iter().enumerate() {
+                let mut series: Vec<Vec<f64>> = (0..function.series).map(|_| wide(rng, function.domain, len)).collect();
+                if (turn + place) % 4 == 0 {
+                    series.iter_mut().flatten().for_each(|x| *x = x.abs());
+                }
+                series[at][place] = value;
+                calls.push(function.call(series, parameters.clone()));
             }
         }
     }

@@ -46,18 +46,20 @@ impl Flip {
         Flip { place, opcode, functions, words: part().to_owned(), noticed: false, reached: false }
     }
 
-    /// Puts another opcode into this process's code.
-    fn make(&self, other: u8) {
+    /// Puts another opcode into this process's code, and says whether that went well.
+    fn make(&self, other: u8) -> bool {
         const PAGE: usize = 4_096;
         const READ_WRITE_RUN: i32 = 7;
         let opcode = (&raw const ORIGIN).wrapping_offset(self.place).cast_mut();
         let page = opcode.addr() / PAGE * PAGE;
         // The page holds the library's code, of which no other part is changed; this process has no other thread.
         unsafe {
-            assert_eq!(mprotect(page, PAGE, READ_WRITE_RUN), 0, "the code cannot be changed");
-            assert_eq!(opcode.read(), self.opcode, "another instruction: {}", self.words);
+            if mprotect(page, PAGE, READ_WRITE_RUN) != 0 || opcode.read() != self.opcode {
+                return false;
+            }
             opcode.write_volatile(other);
         }
+        true
     }
 }
 
@@ -101,19 +103,28 @@ impl Calls {
     /// Whether one differs in a process of its own, in which another opcode is put into the flip's place first. A crash
     /// is a difference, and so is a process that does not end in time.
     fn notice(&self, flip: &Flip, other: u8, seconds: u32) -> bool {
+        const NOTICED: i32 = 0;
         const QUIET: i32 = 1;
+        const NOT_MADE: i32 = 2;
         let mut status = 0;
         // The process runs one thread, and the one that is made from it ends here.
         unsafe {
             match fork() {
                 0 => {
                     alarm(seconds);
-                    flip.make(other);
-                    _exit(if self.differ() { 0 } else { QUIET })
+                    let made = flip.make(other);
+                    _exit(if !made {
+                        NOT_MADE
+                    } else if self.differ() {
+                        NOTICED
+                    } else {
+                        QUIET
+                    })
                 }
                 process => assert!(process > 0 && waitpid(process, &mut status, 0) == process, "no process"),
             }
         }
+        assert!(status != NOT_MADE << 8, "the code cannot be changed, or has another instruction: {}", flip.words);
         status != QUIET << 8
     }
 }

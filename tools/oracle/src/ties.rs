@@ -82,39 +82,50 @@ const AVERAGED_TWICE: &[&str] = &["single_sma_positions", "single_ema_positions"
 fn at_changes(rng: &mut Rng, function: &Function, calls: &mut Vec<Call>) {
     let mut windows = vec![(2, 8), (3, 8), (5, 8), (13, 6), (24, 6), (60, 4), (250, 1)];
     if AVERAGED_TWICE.contains(&function.name) {
-        windows.extend([(60, 4), (250, 4), (1_100, 2)]);
+        windows.extend([(60, 24), (250, 6), (1_100, 2)]);
     }
     for (n, times) in windows {
-        for _ in 0..times {
-            let mut call = function.call(vec![changing(rng, function, 2 * n + 3)], with_windows(function, n));
+        for turn in 0..times {
+            let len = 2 * n.max(120) + 3 + (turn + turn / 6) % 4;
+            let mut call = function.call(vec![changing(rng, function, turn, len)], with_windows(function, n));
             let multiple = function.roles.iter().position(|role| *role == Role::Multiple);
             if let Some(place) = multiple {
                 call.parameters[place] = Value::Real(rng.pick(&[0.25, 0.5, 0.7, 1.0]));
             }
             let answered = answer(function, &call).count > 0;
             for price in if answered { changes(function, &call) } else { Vec::new() } {
-                for after in [0, 12] {
-                    let mut call = function.call(call.series.clone(), call.parameters.clone());
-                    *call.series[0].last_mut().unwrap() = price;
-                    call.series[0].extend_from_within(..after.min(2 * n));
-                    calls.push(function.call(call.series, call.parameters));
+                for end in [len % 2, 12.min(2 * n)] {
+                    let mut series = call.series[0].clone();
+                    series[len - 1] = price;
+                    series.extend_from_within(len % 2..end);
+                    calls.push(function.call(vec![series], call.parameters.clone()));
                 }
             }
         }
     }
 }
 
-/// A walk in hundredths, or a series of any shape.
-fn changing(rng: &mut Rng, function: &Function, len: usize) -> Vec<f64> {
-    if rng.one_in(3) {
-        return series(rng, function.domain, len);
-    }
-    let mut hundredths = rng.between(-20_000, 20_000);
-    let mut step = || {
-        hundredths += rng.between(-9, 9);
-        hundredths as f64 / 100.0
+/// By turns a walk in hundredths, a series of any shape, zeros between prices below 0, of which the last price is one,
+/// and a walk in hundredths of 1e-300.
+fn changing(rng: &mut Rng, function: &Function, turn: usize, len: usize) -> Vec<f64> {
+    let mut walk = |from: i64, one: f64| -> Vec<f64> {
+        let mut hundredths = from;
+        let mut step = || {
+            hundredths += rng.between(-9, 9);
+            hundredths as f64 / one
+        };
+        (0..len).map(|_| step()).collect()
     };
-    (0..len).map(|_| step()).collect()
+    match turn % 6 {
+        2 => series(rng, function.domain, len),
+        3 => {
+            let mut prices = walk(-20_000, 100.0);
+            prices.iter_mut().rev().skip(1).step_by(2).for_each(|price| *price = 0.0);
+            prices
+        }
+        4 => walk(10_000, 1e302),
+        turn => walk([10_000, -10_000][turn % 2], 100.0),
+    }
 }
 
 /// The prices for the last bar of the call's series at which the source's last cell changes, one on either side, and the
