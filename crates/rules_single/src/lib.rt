@@ -94,7 +94,7 @@ fn write_single_of_ticks(series: &[f64], n: usize, out: &mut [f64], work: &mut [
 }
 
 // Writes each bar's position by running sums, if the window is long enough for that to pay and they decide every bar,
-// and says whether it did. Two rows of `work` may be used.
+// and says whether it did. One row of `work` is used.
 fn write_single_by_runs(series: &[f64], n: usize, out: &mut [f64], work: &mut [f64]) -> bool
     requires { ⌜ Priced 2 n (now series) (length (now out)) (length (now work)) ⌝ }
     ensures { λ r. ⌜ Decided r n (now (series .entry)) (now (out .entry)) (now (out .exit)) (now (work .entry))
