@@ -26,8 +26,8 @@ fn first_usable(means: &[f64]) -> usize
     }
 }
 
-// Writes each bar's position over the mean that stands in its cell, from the average's first bar and cell on, and clears
-// the bar's work cells while an average waits for the one before it.
+// Writes each bar's position over the mean that stands in its cell, from the average's first bar and cell on. Clears the
+// bar's work cells while an average waits for the one before it.
 fn write_from(series: &[f64], n: usize, start: usize, seed: f64, out: &mut [f64], work: &mut [f64])
     requires { ⌜ Started n (now series) start seed (now out) (length (now work)) ⌝ }
     ensures { λ _. ⌜ Finished (singleEmaFrom start n (line (now (series .entry)))) (length (now (series .entry)))
