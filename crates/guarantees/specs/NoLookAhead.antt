@@ -37,7 +37,7 @@ use Rattle.oscillator_bar.specs.Oscillator.{oscillatorAnswer, OscillatorCall}
 use Rattle.oscillator.proofs.Oscillator.{causal-oscillator}
 use Rattle.rules_single.specs.Single.{SingleCall}
 use Rattle.rules_single.proofs.Single.{causal-single}
-use Rattle.rules_double.specs.Double.{doubleAnswer, DoubleCall}
+use Rattle.rules_double_bar.specs.Double.{doubleAnswer, DoubleCall}
 use Rattle.rules_double.proofs.Double.{causal-double}
 use Rattle.rules_double.proofs.Open.{double-opened}
 use Rattle.rules_middle.specs.Middle.{MidCall}

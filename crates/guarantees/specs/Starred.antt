@@ -19,7 +19,7 @@ use Rattle.averages.specs.Sma.{smaLine}
 use Rattle.averages_exponential.specs.Ema.{emaLine}
 use Rattle.averages_ticks.specs.TickMean.{toTick, tickMeanLine}
 use Rattle.rules_single.specs.Single.{singleLine}
-use Rattle.rules_double.specs.Double.{runningMean, doubleLine, doubleAnswer}
+use Rattle.rules_double_bar.specs.Double.{runningMean, doubleLine, doubleAnswer}
 use Rattle.cells.specs.Shown.{firstCells, num}
 use Rattle.rules_bands_bar.specs.Answer.{bandAnswer}
 use Rattle.rules_bands_bar.specs.BollReverse.{bollReverseLine, bandSignals, turnedBands}

@@ -1,37 +1,17 @@
 // The double rule: how its answer is found and its cells are written.
 use calls::Answer;
 use calls::Refusal;
-use limits::LONGEST_WINDOW;
 ghost use mathlib.Core.Path.{_≡_};
-ghost use mathlib.Core.Bool.{false};
-ghost use Prim.Native.Nat.{_+_, _<_, _≤_};
+ghost use Prim.Native.Nat.{_<_, _≤_};
 ghost use lib.ListN.{length};
-ghost use lib.Ieee.{binary64, ofInt, isNan};
 ghost use Rattle.cells.specs.Line.{line};
 ghost use Rattle.cells.specs.Written.{Writing};
 ghost use Rattle.windows.specs.Window.{addThenSubtract};
 ghost use Rattle.windows.specs.inner.Sums.{Running};
-ghost use Rattle.rules_double.specs.Double.{doubleLine, doubleAnswer};
-ghost use Rattle.rules_double.specs.inner.Stages.{Started, crossing};
-ghost use Rattle.rules_double.specs.inner.Ticks.{
-  ticksOf,
-  spread,
-  change,
-  tickCells,
-  TickRoom,
-  OverTicks,
-  Spread,
-};
-ghost use Rattle.rounding.specs.Leaves.{signOf};
+ghost use Rattle.rules_double_bar.specs.Double.{doubleLine, doubleAnswer};
+ghost use Rattle.rules_double_bar.specs.inner.Stages.{Started};
+ghost use Rattle.rules_double_bar.specs.inner.Ticks.{tickCells, TickRoom, OverTicks, Spread};
 ghost use Rattle.limits.specs.Limits.{Window};
-
-// The sign of the short average less the long one, from the sums of n and of m prices.
-fn cross(short: f64, n: usize, long: f64, m: usize) -> f64
-    requires { ⌜ Window n × Window m ⌝ }
-    ensures { λ r. ⌜ r ≡ crossing n m short long ⌝ }
-{
-    rounding::sign(short / (n as f64) - long / (m as f64))
-}
 
 // The running sum of the n bars before bar i.
 fn running_sum(series: &[f64], n: usize, i: usize) -> f64
@@ -57,12 +37,12 @@ fn write_crossings(series: &[f64], n: usize, m: usize, out: &mut [f64])
     let mut long = running_sum(series, m, m);
     let mut i = m - 1;
     while i + 1 < series.len() {
-        out[i] = cross(short, n, long, m);
+        out[i] = rules_double_bar::cross(short, n, long, m);
         i += 1;
         short = short + series[i] - series[i - n];
         long = long + series[i] - series[i - m];
     }
-    out[i] = cross(short, n, long, m);
+    out[i] = rules_double_bar::cross(short, n, long, m);
 }
 
 // Writes each bar's position.
@@ -75,36 +55,6 @@ pub fn write_double(series: &[f64], n: usize, m: usize, out: &mut [f64])
     if first < series.len() {
         write_crossings(series, n, m, out);
     }
-}
-
-// 1.0 with the sign of a number.
-fn side(x: f64) -> f64
-    requires { ⌜ isNan «x» ≡ false ⌝ }
-    ensures { λ r. ⌜ r ≡ signOf «x» ⌝ }
-{
-    if f64::to_bits(x) >= 0x8000_0000_0000_0000 {
-        -1.0
-    } else {
-        1.0
-    }
-}
-
-// What bar i adds to the spread of whole ticks.
-fn change_at(series: &[f64], n: usize, m: usize, i: usize) -> f64
-    requires { ⌜ OverTicks n m (now series) × (m ≤ i) × (i < length (now series)) ⌝ }
-    ensures { λ r. ⌜ r ≡ ofInt binary64 (change n m (ticksOf (now (series .entry))) i) ⌝ }
-{
-    series[i] * ((m - n) as f64) - series[i - n] * (m as f64) + series[i - m] * (n as f64)
-}
-
-// The spread of the first m bars.
-fn first_spread(series: &[f64], n: usize, m: usize) -> f64
-    requires { ⌜ OverTicks n m (now series) ⌝ }
-    ensures { λ r. ⌜ r ≡ ofInt binary64 (spread n m (ticksOf (now (series .entry))) m) ⌝ }
-{
-    let short = windows::sum_at(series, n, m - 1);
-    let rest = windows::sum_at(series, m - n, m - n - 1);
-    short * ((m - n) as f64) - rest * (n as f64)
 }
 
 // Writes the positions from bar m on, two bars a turn, from the spread of the first m bars. The spreads of every other
@@ -120,17 +70,17 @@ fn slide_spreads(series: &[f64], n: usize, m: usize, first: f64, out: &mut [f64]
     let mut last = 0.0;
     let mut i = m;
     while i + 2 <= series.len() {
-        let one = change_at(series, n, m, i);
-        let two = change_at(series, n, m, i + 1);
+        let one = rules_double_bar::change_at(series, n, m, i);
+        let two = rules_double_bar::change_at(series, n, m, i + 1);
         even = even + (last + one);
         odd = odd + (one + two);
         last = two;
-        out[i] = side(even);
-        out[i + 1] = side(odd);
+        out[i] = rules_double_bar::side(even);
+        out[i + 1] = rules_double_bar::side(odd);
         i += 2;
     }
     if i < series.len() {
-        out[i] = side(odd + change_at(series, n, m, i));
+        out[i] = rules_double_bar::side(odd + rules_double_bar::change_at(series, n, m, i));
     }
 }
 
@@ -142,8 +92,8 @@ pub fn write_double_of_ticks(series: &[f64], n: usize, m: usize, out: &mut [f64]
         (now (out .entry)) (now (out .exit)) ⌝ }
 {
     cells::fill_lead(out, m - 1, series.len(), 0.0);
-    let first = first_spread(series, n, m);
-    out[m - 1] = side(first);
+    let first = rules_double_bar::first_spread(series, n, m);
+    out[m - 1] = rules_double_bar::side(first);
     slide_spreads(series, n, m, first, out);
 }
 

@@ -1,5 +1,1 @@
-pub mod Bounds
-pub mod Head
-pub mod Runs
-pub mod SingleEma
 pub mod Ticks

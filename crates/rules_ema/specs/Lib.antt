@@ -1,4 +1,3 @@
 -- The exponential rule: what it answers and writes, and small cases.
 pub mod Cases
-pub mod SingleEma
 pub mod inner

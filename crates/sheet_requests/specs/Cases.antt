@@ -10,7 +10,7 @@ use Rattle.cells.specs.Recur.{recur}
 use Rattle.windows.specs.Window.{sumFrom, windowSum, mean, runningSum}
 use Rattle.extremes.specs.Extreme.{pickFrom, extreme}
 use Rattle.rules_single.specs.Single.{singleLine}
-use Rattle.rules_double.specs.Double.{runningMean, doubleLine, doubleAnswer}
+use Rattle.rules_double_bar.specs.Double.{runningMean, doubleLine, doubleAnswer}
 use Rattle.rules_middle.specs.Middle.{midLine}
 use Rattle.sheet_columns.specs.inner.Text.{bytes}
 use Rattle.sheet_columns.specs.Read.{number, readField, signed, readPrice}

@@ -11,7 +11,7 @@ use lib.ListN.{length, take, drop, length-drop}
 use lib.Seq.{take-all, length-take-le}
 use lib.Ieee.{Float}
 use Rattle.values.specs.Accepted.{tick, all}
-use Rattle.rules_double.specs.inner.Ticks.{tickCells}
+use Rattle.rules_double_bar.specs.inner.Ticks.{tickCells}
 use Rattle.rules_double.proofs.has_tick_cells.Statement.{statement}
 use Rattle.rules_double.proofs.has_tick_cells.Tie as tie
 

@@ -12,8 +12,8 @@ use Rattle.cells.proofs.Leads.{still}
 use Rattle.work_rows.specs.inner.Finished.{Finished}
 use Rattle.work_rows.proofs.Finished.{one-finished}
 use Rattle.windows.proofs.Window.{count-is-float}
-use Rattle.rules_ema.specs.SingleEma.{emaOfMeans, singleEmaFrom}
-use Rattle.rules_ema.proofs.SingleEma.{first-average, next-average, position-at, lead-finished, rest-finished}
+use Rattle.rules_ema_runs.specs.SingleEma.{emaOfMeans, singleEmaFrom}
+use Rattle.rules_ema_runs.proofs.SingleEma.{first-average, next-average, position-at, lead-finished, rest-finished}
 use Rattle.rules_ema.proofs.write_from.Statement.{statement}
 use Rattle.rules_ema.proofs.write_from.Tie as tie
 

@@ -14,8 +14,8 @@ use Rattle.work_rows.proofs.Finished.{one-finished}
 use Rattle.windows.specs.Window.{addDifference}
 use Rattle.windows.specs.inner.Sums.{Running}
 use Rattle.windows.proofs.Window.{count-is-float, next-running}
-use Rattle.rules_ema.specs.SingleEma.{emaOfMeans, singleEmaFrom}
-use Rattle.rules_ema.proofs.SingleEma.{first-average, next-average, position-at, lead-finished, rest-finished}
+use Rattle.rules_ema_runs.specs.SingleEma.{emaOfMeans, singleEmaFrom}
+use Rattle.rules_ema_runs.proofs.SingleEma.{first-average, next-average, position-at, lead-finished, rest-finished}
 use Rattle.rules_ema.proofs.Ticks.{fresh-running, running-mean}
 use Rattle.rules_ema.proofs.write_from_ticks.Statement.{statement}
 use Rattle.rules_ema.proofs.write_from_ticks.Tie as tie

@@ -14,8 +14,8 @@ use Rattle.work_rows.proofs.Finished.{then-finished}
 use Rattle.windows.specs.Window.{mean}
 use Rattle.windows.proofs.Window.{causal-mean}
 use Rattle.window_means.proofs.Ticks.{known-ticks}
-use Rattle.rules_ema.proofs.SingleEma.{seed-of}
-use Rattle.rules_ema.proofs.Head.{head-long, head-cells, early-line}
+use Rattle.rules_ema_runs.proofs.SingleEma.{seed-of}
+use Rattle.rules_ema_runs.proofs.Head.{head-long, head-cells, early-line}
 use Rattle.rules_ema.proofs.write_of_ticks.Statement.{statement}
 use Rattle.rules_ema.proofs.write_of_ticks.Tie as tie
 

@@ -2,8 +2,8 @@
 use native.Mathlib.Omega.{arith}
 use borrow.Author.Needs.{needs}
 use Rattle.windows.proofs.Window.{count-is-float}
-use Rattle.rules_double.proofs.cross.Statement.{statement}
-use Rattle.rules_double.proofs.cross.Tie as tie
+use Rattle.rules_double_bar.proofs.cross.Statement.{statement}
+use Rattle.rules_double_bar.proofs.cross.Tie as tie
 
 pub cross-spec : {M : Type 1} → statement M
 cross-spec =

@@ -2,9 +2,9 @@
 use native.Mathlib.Omega.{arith}
 use borrow.Author.Needs.{needs}
 use Rattle.windows.proofs.Window.{count-is-float}
-use Rattle.rules_double.proofs.Spread.{change-exact}
-use Rattle.rules_double.proofs.change_at.Statement.{statement}
-use Rattle.rules_double.proofs.change_at.Tie as tie
+use Rattle.rules_double_bar.proofs.Spread.{change-exact}
+use Rattle.rules_double_bar.proofs.change_at.Statement.{statement}
+use Rattle.rules_double_bar.proofs.change_at.Tie as tie
 
 returns : tie.Need-returns
 returns c =

@@ -8,8 +8,8 @@ use lib.Ieee.{binary64, ofBits, toBits, neg}
 use Rattle.rounding.specs.Leaves.{one, signOf}
 use Rattle.rounding.proofs.Signs.{sign-is}
 use Rattle.rounding.proofs.Patterns.{highest-bit}
-use Rattle.rules_double.proofs.side.Statement.{statement}
-use Rattle.rules_double.proofs.side.Tie as tie
+use Rattle.rules_double_bar.proofs.side.Statement.{statement}
+use Rattle.rules_double_bar.proofs.side.Tie as tie
 
 -- the test of the highest bit said s
 signed : (c : tie.Start) (s : Bool) → leb (2 ^ 63) (toBits binary64 (c .args .x)) ≡ s → one s ≡ signOf (c .args .x)

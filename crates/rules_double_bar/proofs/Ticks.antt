@@ -15,7 +15,7 @@ use Rattle.cells.proofs.Line.{from-bar}
 use Rattle.exact_ticks.proofs.Exact.{TickLine, Slides, running-exact, window-size, window-whole}
 use Rattle.windows.specs.Window.{windowTotal, addThenSubtract}
 use Rattle.exact_ticks.proofs.Errors.{products}
-use Rattle.rules_double.specs.Double.{runningMean, doubleLine}
+use Rattle.rules_double_bar.specs.Double.{runningMean, doubleLine}
 
 -- the new price added, and then the old one subtracted
 subtract-slides : Slides addThenSubtract

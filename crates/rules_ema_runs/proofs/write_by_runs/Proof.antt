@@ -12,11 +12,11 @@ use Rattle.cells.proofs.Parts.{part-long}
 use Rattle.cells.proofs.Touched.{untouched, touched, touched-more}
 use Rattle.running_sums.specs.inner.Means.{runMeans}
 use Rattle.running_sums.proofs.Means.{causal-run-means}
-use Rattle.rules_ema.proofs.SingleEma.{seed-of}
-use Rattle.rules_ema.proofs.Head.{head-long, head-cells, early-line}
-use Rattle.rules_ema.proofs.Runs.{first-run-mean, then-tried, not-tried}
-use Rattle.rules_ema.proofs.write_by_runs.Statement.{statement}
-use Rattle.rules_ema.proofs.write_by_runs.Tie as tie
+use Rattle.rules_ema_runs.proofs.SingleEma.{seed-of}
+use Rattle.rules_ema_runs.proofs.Head.{head-long, head-cells, early-line}
+use Rattle.rules_ema_runs.proofs.Runs.{first-run-mean, then-tried, not-tried}
+use Rattle.rules_ema_runs.proofs.write_by_runs.Statement.{statement}
+use Rattle.rules_ema_runs.proofs.write_by_runs.Tie as tie
 
 write-means-requires : tie.Need-write-means-requires
 write-means-requires c κs =

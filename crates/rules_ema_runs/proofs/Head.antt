@@ -14,8 +14,8 @@ use Rattle.cells.specs.Written.{Writing}
 use Rattle.cells.proofs.Written.{read-back, writing-same, ends}
 use Rattle.cells.specs.Search.{nonZero}
 use Rattle.windows.specs.Window.{over, windowSum, mean}
-use Rattle.rules_ema.specs.SingleEma.{firstUsable, singleEmaFrom, singleEmaLine}
-use Rattle.rules_ema.proofs.SingleEma.{usable-found}
+use Rattle.rules_ema_runs.specs.SingleEma.{firstUsable, singleEmaFrom, singleEmaLine}
+use Rattle.rules_ema_runs.proofs.SingleEma.{usable-found}
 
 pub head-long : (k : ℕ) (s : List Float) → k ≤ length s → length (take k s) ≡ k
 head-long k s h = rw length-take (omega arith)

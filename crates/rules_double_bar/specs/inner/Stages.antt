@@ -8,7 +8,7 @@ use Rattle.cells.specs.Line.{line}
 use Rattle.cells.specs.Written.{Writing}
 use Rattle.rounding.specs.Leaves.{signOf}
 use Rattle.windows.specs.Window.{over}
-use Rattle.rules_double.specs.Double.{doubleLine}
+use Rattle.rules_double_bar.specs.Double.{doubleLine}
 use Rattle.limits.specs.Limits.{Window}
 
 -- ---- two averages

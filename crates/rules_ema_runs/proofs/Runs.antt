@@ -46,10 +46,10 @@ use Rattle.running_sums.proofs.Signs.{Margin, near-sign}
 use Rattle.running_sums.proofs.Bound.{Largest, room-for, margin-wide}
 use Rattle.running_sums.proofs.Twice.{known, prices}
 use Rattle.running_sums.proofs.Shares.{Share, MakeUp, rest-of, Close, blend-close}
-use Rattle.rules_ema.specs.SingleEma.{emaOfMeans, singleEmaFrom}
-use Rattle.rules_ema.specs.inner.Runs.{Tried}
-use Rattle.rules_ema.proofs.SingleEma.{first-average, next-average, position-at}
-use Rattle.rules_ema.proofs.Bounds.{alpha-share}
+use Rattle.rules_ema_runs.specs.SingleEma.{emaOfMeans, singleEmaFrom}
+use Rattle.rules_ema_runs.specs.inner.Runs.{Tried}
+use Rattle.rules_ema_runs.proofs.SingleEma.{first-average, next-average, position-at}
+use Rattle.rules_ema_runs.proofs.Bounds.{alpha-share}
 
 -- ---- the weights
 

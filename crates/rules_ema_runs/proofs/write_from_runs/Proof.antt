@@ -12,11 +12,11 @@ use Rattle.cells.proofs.Touched.{touched, touched-more, touched-then}
 use Rattle.work_rows.specs.inner.Finished.{Finished}
 use Rattle.work_rows.proofs.Finished.{one-finished}
 use Rattle.windows.proofs.Window.{count-is-float}
-use Rattle.rules_ema.specs.SingleEma.{singleEmaFrom}
-use Rattle.rules_ema.proofs.SingleEma.{lead-finished, rest-finished}
-use Rattle.rules_ema.proofs.Runs.{BesideOf, first-beside, next-beside, decided-at, all-tried, not-tried}
-use Rattle.rules_ema.proofs.write_from_runs.Statement.{statement}
-use Rattle.rules_ema.proofs.write_from_runs.Tie as tie
+use Rattle.rules_ema_runs.specs.SingleEma.{singleEmaFrom}
+use Rattle.rules_ema_runs.proofs.SingleEma.{lead-finished, rest-finished}
+use Rattle.rules_ema_runs.proofs.Runs.{BesideOf, first-beside, next-beside, decided-at, all-tried, not-tried}
+use Rattle.rules_ema_runs.proofs.write_from_runs.Statement.{statement}
+use Rattle.rules_ema_runs.proofs.write_from_runs.Tie as tie
 
 abbrev Inv-loop : tie.InvT-loop
 Inv-loop series n start seed d out₀ work₀ bars alpha count sum₀ average₀ i₀ out work sum average i =

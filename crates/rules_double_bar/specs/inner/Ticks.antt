@@ -14,7 +14,7 @@ use Rattle.cells.specs.Line.{Line, line}
 use Rattle.cells.specs.Written.{Writing}
 use Rattle.exact_ticks.proofs.Exact.{TickLine}
 use Rattle.limits.specs.Limits.{Window}
-use Rattle.rules_double.specs.Double.{doubleLine}
+use Rattle.rules_double_bar.specs.Double.{doubleLine}
 
 -- ---- the decision
 

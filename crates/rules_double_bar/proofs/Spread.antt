@@ -39,9 +39,9 @@ use Rattle.exact_ticks.proofs.Errors.{products}
 use Rattle.exact_ticks.proofs.Exact.{TickLine, sum-whole, window-size}
 use Rattle.exact_ticks.proofs.Runs.{size-times}
 use Rattle.windows.specs.Window.{sumFrom, windowSum}
-use Rattle.rules_double.specs.Double.{doubleLine}
-use Rattle.rules_double.specs.inner.Ticks.{spread, change, BothFull}
-use Rattle.rules_double.proofs.Ticks.{double-exact}
+use Rattle.rules_double_bar.specs.Double.{doubleLine}
+use Rattle.rules_double_bar.specs.inner.Ticks.{spread, change, BothFull}
+use Rattle.rules_double_bar.proofs.Ticks.{double-exact}
 
 -- ---- integers
 

@@ -35,7 +35,7 @@ use Rattle.windows.specs.Window.{mean}
 use Rattle.windows.proofs.Window.{causal-mean}
 use Rattle.averages_exponential.specs.Blend.{blend}
 use Rattle.averages_exponential.specs.Ema.{emaAlpha}
-use Rattle.rules_ema.specs.SingleEma.{firstUsable, emaOfMeans, singleEmaFrom, singleEmaLine}
+use Rattle.rules_ema_runs.specs.SingleEma.{firstUsable, emaOfMeans, singleEmaFrom, singleEmaLine}
 
 -- ---- the search
 

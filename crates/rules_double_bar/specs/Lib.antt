@@ -1,0 +1,3 @@
+-- What the two-average rule is.
+pub mod Double
+pub mod inner

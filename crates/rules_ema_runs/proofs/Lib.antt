@@ -1,0 +1,4 @@
+pub mod Bounds
+pub mod Head
+pub mod Runs
+pub mod SingleEma
