@@ -160,7 +160,8 @@ fn write_from_runs(
             break true;
         }
         sum = sum + (series[i] - series[i - n]);
-        average = averages_exponential::blended(alpha, average, sum / count);
+        let mean = sum / count;
+        average = averages_exponential::blended(alpha, average, mean);
     }
 }
 
