@@ -1,5 +1,4 @@
 -- `sum_tested` meets its contract: the loop sums the first bars, and tests each. Assumes nothing.
-use mathlib.Core.Path.{_≡_}
 use Prim.Native.Nat.{_-_, _≤_}
 use native.Mathlib.Omega.{arith}
 use borrow.Author.Needs.{needs}
