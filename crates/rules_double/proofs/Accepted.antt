@@ -1,20 +1,19 @@
 -- Whole ticks are accepted values. Assumes nothing.
 use mathlib.Core.Path.{_≡_, refl, sym, ap, subst, _∙_}
-use mathlib.Core.Bool.{Bool, true, false, not, _&&_, _||_, true≢false}
+use mathlib.Core.Bool.{true, false, true≢false}
 use mathlib.Core.List.{List, [], _∷_}
-use Prim.Native.Nat.{ℕ, suc, _+_, _*_, _^_, _<_, _≤_, suc-le-suc}
-use native.Mathlib.Nat.{zero-lt-suc}
+use Prim.Native.Nat.{ℕ, suc, _+_, _*_, _^_, _<_, _≤_}
 use native.Mathlib.Omega.{arith}
 use borrow.Author.Tests.{lt-ltb, ne-eqb}
-use lib.Dec.{T, ltb, eqb}
+use lib.Dec.{T}
 use lib.IntN.{ℤ, pos}
-use lib.ListN.{length, getD}
+use lib.ListN.{getD}
 use lib.Ieee.{Float, nan, inf, fin, binary64, up, down, lt, eq, le, whole, fits, ofBits, toBits}
 use lib.Ieee.Bits.{ofBits-toBits}
 use lib.Ieee.Fits.{down-pos}
 use Rattle.rounding_laws.proofs.Bounds.{le-plus, le-minus}
 use Rattle.values.specs.Accepted.{within, accepted, tick, all}
-use Rattle.values.proofs.All.{and-parts, and-true}
+use Rattle.values.proofs.All.{and-parts}
 
 -- a number within 2 ^ 24 is within 2 ^ 30
 module _ (m : ℕ) (e : ℤ) where

@@ -13,7 +13,7 @@ use lib.ListN.{length, set}
 use lib.Signed.{ltZ}
 use lib.Ieee.{Float, nan, inf, fin, binary64, add, sub, mul, ofInt, isNan}
 use lib.Ieee.Exact.{HasValue}
-use Rattle.rounding.specs.Leaves.{one, plusOne, minusOne, signOf}
+use Rattle.rounding.specs.Leaves.{plusOne, minusOne, signOf}
 use Rattle.rounding.specs.Whole.{total, isNegative}
 use Rattle.rounding.proofs.Signs.{sign-round}
 use Rattle.rounding_laws.proofs.Integers.{
@@ -36,7 +36,7 @@ use Rattle.cells.specs.inner.Leads.{Led}
 use Rattle.cells.proofs.Leads.{up-to-bar}
 use Rattle.cells.proofs.Written.{one-more, ends}
 use Rattle.exact_ticks.proofs.Errors.{products}
-use Rattle.exact_ticks.proofs.Exact.{TickLine, sum-whole, window-size}
+use Rattle.exact_ticks.proofs.Exact.{sum-whole, window-size}
 use Rattle.exact_ticks.proofs.Runs.{size-times}
 use Rattle.windows.specs.Window.{sumFrom, windowSum}
 use Rattle.rules_double_bar.specs.Double.{doubleLine}
