@@ -1,5 +1,5 @@
-//! Whether `compare` would notice a wrong library. A flip is one f64 operation of the library's code exchanged for
-//! another. Each is made in the memory of a process of its own, which then makes the calls of `compare`.
+//! Whether `compare` would notice a wrong library. A flip is one f64 operation or comparison of the library's code
+//! exchanged for another. Each is made in the memory of a process of its own, which then makes the calls of `compare`.
 
 use crate::call::{Call, Expected};
 use crate::catalogue::{self, Function};
@@ -21,11 +21,14 @@ unsafe extern "C" {
     fn _exit(status: i32) -> !;
 }
 
-/// One operation to exchange: a line of the list that tools/mutate makes.
+/// One instruction to exchange: a line of the list that tools/mutate makes.
 struct Flip {
-    /// Where the operation's opcode stands, from `ORIGIN` on.
+    /// Where the instruction stands, from `ORIGIN` on.
     place: isize,
-    opcode: u8,
+    /// Which of its bytes is exchanged, and for what.
+    at: isize,
+    old: u8,
+    new: u8,
     /// The exported functions that reach it.
     functions: Vec<String>,
     /// Symbol and instruction.
@@ -36,45 +39,50 @@ struct Flip {
 }
 
 impl Flip {
-    /// From 'place opcode functions symbol instruction', the functions with commas between them.
+    /// From 'place at old new functions symbol instruction', the functions with commas between them.
     fn read(line: &str) -> Flip {
-        let mut parts = line.splitn(4, ' ');
-        let mut part = || parts.next().unwrap_or_else(|| panic!("a flip without all its parts: {line}"));
-        let place = part().parse().expect("a place is a number");
-        let opcode = u8::from_str_radix(part(), 16).expect("an opcode is two hexadecimal digits");
-        let functions = part().split(',').map(str::to_owned).collect();
-        Flip { place, opcode, functions, words: part().to_owned(), noticed: false, reached: false }
+        let parts: Vec<&str> = line.splitn(6, ' ').collect();
+        let [place, at, old, new, functions, words] = parts[..] else { panic!("a flip without all its parts: {line}") };
+        let byte = |digits| u8::from_str_radix(digits, 16).expect("a byte is two hexadecimal digits");
+        Flip {
+            place: place.parse().expect("a place is a number"),
+            at: at.parse().expect("a place in an instruction is a number"),
+            old: byte(old),
+            new: byte(new),
+            functions: functions.split(',').map(str::to_owned).collect(),
+            words: words.to_owned(),
+            noticed: false,
+            reached: false,
+        }
     }
 
-    /// Puts another opcode into this process's code, and says whether that went well.
-    fn make(&self, other: u8) -> bool {
+    /// Puts the other instruction into this process's code, or one that no processor runs, and says whether that went
+    /// well.
+    fn make(&self, change: Change) -> bool {
         const PAGE: usize = 4_096;
         const READ_WRITE_RUN: i32 = 7;
-        let opcode = (&raw const ORIGIN).wrapping_offset(self.place).cast_mut();
-        let page = opcode.addr() / PAGE * PAGE;
-        // The page holds the library's code, of which no other part is changed; this process has no other thread.
+        const NO_INSTRUCTION: u8 = 0x06;
+        let first = (&raw const ORIGIN).wrapping_offset(self.place).cast_mut();
+        let byte = first.wrapping_offset(self.at);
+        let (page, end) = (first.addr() / PAGE * PAGE, byte.addr() + 1);
+        // The pages hold the library's code, of which no other part is changed; this process has no other thread.
         unsafe {
-            if mprotect(page, PAGE, READ_WRITE_RUN) != 0 || opcode.read() != self.opcode {
+            if mprotect(page, end - page, READ_WRITE_RUN) != 0 || byte.read() != self.old {
                 return false;
             }
-            opcode.write_volatile(other);
+            match change {
+                Change::Exchange => byte.write_volatile(self.new),
+                Change::Trap => first.write_volatile(NO_INSTRUCTION),
+            }
         }
         true
     }
 }
 
-/// The opcode that no processor runs.
-const TRAP: u8 = 0x0b;
-
-/// + and - are exchanged, and * and /.
-fn exchanged(opcode: u8) -> u8 {
-    match opcode {
-        0x58 => 0x5c,
-        0x5c => 0x58,
-        0x59 => 0x5e,
-        0x5e => 0x59,
-        _ => panic!("{opcode:x} is no operation to exchange"),
-    }
+#[derive(Clone, Copy)]
+enum Change {
+    Exchange,
+    Trap,
 }
 
 /// The calls of one function, with what each must leave.
@@ -100,9 +108,9 @@ impl Calls {
         self.calls.iter().any(|(call, salt, expected)| trial.difference(call, *salt, expected).is_some())
     }
 
-    /// Whether one differs in a process of its own, in which another opcode is put into the flip's place first. A crash
-    /// is a difference, and so is a process that does not end in time.
-    fn notice(&self, flip: &Flip, other: u8, seconds: u32) -> bool {
+    /// Whether one differs in a process of its own, in which the flip's instruction is changed first. A crash is a
+    /// difference, and so is a process that does not end in time.
+    fn notice(&self, flip: &Flip, change: Change, seconds: u32) -> bool {
         const NOTICED: i32 = 0;
         const QUIET: i32 = 1;
         const NOT_MADE: i32 = 2;
@@ -112,7 +120,7 @@ impl Calls {
             match fork() {
                 0 => {
                     alarm(seconds);
-                    let made = flip.make(other);
+                    let made = flip.make(change);
                     _exit(if !made {
                         NOT_MADE
                     } else if self.differ() {
@@ -143,8 +151,8 @@ pub fn run(file: &str, calls: usize, names: &[&str]) -> bool {
         let seconds = 10 + 10 * start.elapsed().as_secs() as u32;
         let reached = |flip: &&mut Flip| !flip.noticed && flip.functions.iter().any(|name| name == function.name);
         for flip in flips.iter_mut().filter(reached) {
-            flip.noticed = calls.notice(flip, exchanged(flip.opcode), seconds);
-            flip.reached |= !flip.noticed && calls.notice(flip, TRAP, seconds);
+            flip.noticed = calls.notice(flip, Change::Exchange, seconds);
+            flip.reached |= !flip.noticed && calls.notice(flip, Change::Trap, seconds);
         }
     }
     for flip in flips.iter().filter(|flip| !flip.noticed) {
