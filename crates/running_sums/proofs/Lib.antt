@@ -1,8 +1,9 @@
+pub mod Bound
+pub mod Far
+pub mod Means
 pub mod Relative
 pub mod Shares
-pub mod Sums
-pub mod Means
 pub mod Signs
-pub mod Bound
+pub mod Slides
+pub mod Sums
 pub mod Twice
-pub mod Far

@@ -1,56 +1,71 @@
--- `write_means` meets its contract: each turn divides a running sum that still stands. Assumes nothing.
-use mathlib.Core.Path.{_∙_, ap}
-use Prim.Native.Nat.{_-_, _≤_}
+-- `write_means` meets its contract: the lead, the first mean, and the running means after it. Assumes nothing.
+use mathlib.Core.Path.{_∙_}
 use native.Mathlib.Omega.{arith}
 use borrow.Author.Needs.{needs}
-use lib.ListN.{length}
-use lib.Ieee.{nan}
+use denote.Ref.{now}
+use lib.ListN.{length-set}
+use lib.Ieee.{ofBits}
 use Rattle.cells.specs.Line.{line}
-use Rattle.cells.proofs.Leads.{not-yet}
-use Rattle.cells.specs.Written.{Writing}
-use Rattle.cells.proofs.Written.{none-written, one-more, ends, read-back, then-written}
-use Rattle.windows.specs.Window.{over}
-use Rattle.windows.proofs.Window.{count-is-float}
-use Rattle.running_sums.specs.inner.Means.{runMeans}
+use Rattle.cells.proofs.Written.{stands, then-written, ends}
+use Rattle.windows.proofs.Window.{first-running, count-is-float}
+use Rattle.running_sums.proofs.Slides.{lead-means, first-means}
 use Rattle.running_sums.proofs.write_means.Statement.{statement}
 use Rattle.running_sums.proofs.write_means.Tie as tie
 
-abbrev Inv-loop : tie.InvT-loop
-Inv-loop series n means₀ count i₀ means i = (i ≤ length series) × Writing i (runMeans n (line series)) means₀ means
+slide-means-requires : tie.Need-slide-means-requires
+unfolding ofBits
+slide-means-requires c κs =
+    let at-sum = c .before .before in
+    let at-lead = at-sum .before .before .before .before in
+    let start = at-lead .before .before .before .before in
+    let f = line (now (start .args .series)) in
+    let lead = at-lead .fill-lead .ensures in
+    let sum = at-sum .sum-at .ensures in
+    record {
+      window = start .pre .window;
+      inside = omega arith;
+      room = simp length-set (omega arith);
+      cells =
+          stands (first-means f (start .pre .window) lead sum (omega arith));
+      running = first-running _ sum (omega arith);
+    }
 
-abbrev μ-loop : tie.MeasureT-loop
-μ-loop series n means₀ count i₀ means i = length series - i
-
-loop-again : tie.Need-loop-again Inv-loop μ-loop
-loop-again c =
-    let at = c .before .before in
-    let sums = at .before .before .before .before in
-    let i = at .loop .i in
-    let sum-is = not-yet i (at .loop .inv .1) (omega arith)
-    ∙ read-back i nan (sums .write-sums .ensures) (omega arith) in
-    (omega arith, one-more (at .loop .inv .1) (ap (over _) sum-is) (omega arith))
-
-returns : tie.Need-returns Inv-loop μ-loop
+returns : tie.Need-returns
+unfolding ofBits
 returns c =
-    let sums = c .before .before .before .before .before in
-    then-written (sums .write-sums .ensures) (ends (c .before .loop .inv .1) (omega arith)) (omega arith)
+    let at-slide = c .before .before in
+    let at-sum = at-slide .before .before .before in
+    let at-lead = at-sum .before .before .before .before in
+    let start = at-lead .before .before .before .before in
+    let f = line (now (start .args .series)) in
+    let lead = at-lead .fill-lead .ensures in
+    let sum = at-sum .sum-at .ensures in
+    then-written (first-means f (start .pre .window) lead sum (omega arith))
+    (at-slide .slide-means .ensures) (omega arith)
+
+returns-2 : tie.Need-returns-2
+unfolding ofBits
+returns-2 c =
+    let at-lead = c .before .before .before in
+    let start = at-lead .before .before .before .before in
+    let f = line (now (start .args .series)) in
+    ends (lead-means f (start .pre .window) (at-lead .fill-lead .ensures)) (omega arith)
 
 pub write-means-spec : {M : Type 1} → statement M
 write-means-spec =
     tie.close
     (tie.spec
-    Inv-loop
-    μ-loop
-    (λ c κs. search needs)  -- write-sums-requires
-    (λ c. count-is-float _ (omega arith))  -- int-to-float-count
-    (λ c. (omega arith, none-written))  -- loop-holds
+    (λ c. search needs)  -- sub-fill-lead
+    (λ c κs. search needs)  -- fill-lead-requires
+    (λ c. search needs)  -- sub-sum-at
+    (λ c κs. search needs)  -- sum-at-requires
+    (λ c. count-is-float _ (omega arith))  -- int-to-float-means
+    (λ c. search needs)  -- sub-means
     (λ c. search needs)  -- mul-means
-    (λ c. search needs)  -- slice-read-means
-    (λ c. search needs)  -- mul-means-2
     (λ c. search needs)  -- slice-write-means
-    (λ c. search needs)  -- add-i
-    (λ c. search needs)  -- loop-less
-    loop-again
-    (λ c. search needs)  -- same-length
+    slide-means-requires
+    (λ c. c .before .before .slide-means .ensures .long ∙ simp length-set (omega arith))  -- same-length
     returns
+    (λ c. search needs)  -- same-length-2
+    returns-2
     )
