@@ -92,6 +92,7 @@ module _ (high low close : List Float) (n : ℕ) (k : Float) (a b c work : ℕ) 
         record {
           some = nonzero n (or-parts (eqb n 0) _ (q .some-periods) .0);
           narrow = leb-true _ _ (and-parts (leb n longestPeriod) true (q .short-periods) .0);
+          values = p .0 .values;
           second = p .0 .second;
           third = p .0 .third;
           out-long = p .0 .out-long;

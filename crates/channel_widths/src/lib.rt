@@ -27,7 +27,7 @@ pub fn write_widths(
         × Touched (length (now (high .entry))) (now (lower .entry)) (now (lower .exit)) ⌝ }
 {
     let bars = high.len();
-    true_range::write_ranges(high, low, close, upper);
+    true_range::write_ranges(high, low, close, 1, upper);
     averages_wilder::write_average(&upper[..bars], n, lower);
     smoother::write_smooth(&lower[..bars], n / 2, upper);
 }

@@ -44,9 +44,9 @@ module _ (s t u : List Float) (out work : ℕ) (next : Answer) {r : Answer}
   pub three-passed : 0 < countOf r → Three s t u out (work ∷ []) × (next ≡ Cells (countOf r))
   three-passed h =
       let p = passed (checked accepted (s ∷ t ∷ u ∷ []) (out ∷ []) (work ∷ [])) next e h in
-      (checked-three-room accepted s t u out (work ∷ []) _ (p .0) .0, p .1)
+      (checked-three-room s t u out (work ∷ []) _ (p .0) .0, p .1)
 
   pub three-clearable : clearedOf r (8 * length s) ≤ work
   three-clearable =
       passed-clearable (checked accepted (s ∷ t ∷ u ∷ []) (out ∷ []) (work ∷ [])) next (length s) e
-      (λ k p. checked-three-room accepted s t u out (work ∷ []) k p .0 .work-long .0)
+      (λ k p. checked-three-room s t u out (work ∷ []) k p .0 .work-long .0)

@@ -9,7 +9,7 @@ use borrow.Author.Tests.{leb-true, leb-false, le-leb, lt-leb, eqb-true, eq-eqb}
 use lib.Dec.{leb, eqb}
 use lib.ListN.{length}
 use lib.Ieee.{Float}
-use Rattle.values.specs.Accepted.{all}
+use Rattle.values.specs.Accepted.{accepted, all}
 use Rattle.values.proofs.All.{and-true}
 use Rattle.calls.specs.declared.Refusal.{Refusal}
 use Rattle.calls.specs.declared.Refusal.the-variants.{
@@ -94,14 +94,14 @@ checked-three ok s t u outputs work =
     (in-turn (slices (length s ∷ length t ∷ length u ∷ []) outputs work) (all ok s) (all ok t) (all ok u) _ _ _)
 
 -- that is so of three series that were checked, and the count is that length
-pub checked-three-room : (ok : Float → Bool) (s t u : List Float) (out : ℕ) (work : List ℕ) (k : ℕ)
-    → checked ok (s ∷ t ∷ u ∷ []) (out ∷ []) work ≡ Cells k
+pub checked-three-room : (s t u : List Float) (out : ℕ) (work : List ℕ) (k : ℕ)
+    → checked accepted (s ∷ t ∷ u ∷ []) (out ∷ []) work ≡ Cells k
     → Three s t u out work × (Cells (length s) ≡ Cells k)
-checked-three-room ok s t u out work k e =
+checked-three-room s t u out work k e =
     let lengths = slices (length s ∷ length t ∷ length u ∷ []) (out ∷ []) work in
-    let last = andThen lengths (unless (all ok u) ValueNotAccepted (Cells (length u))) in
-    let later = andThen last (unless (all ok t) ValueNotAccepted (Cells (length t))) in
-    let one = andThen-cells later _ k (sym (checked-three ok s t u (out ∷ []) work) ∙ e) in
+    let last = andThen lengths (unless (all accepted u) ValueNotAccepted (Cells (length u))) in
+    let later = andThen last (unless (all accepted t) ValueNotAccepted (Cells (length t))) in
+    let one = andThen-cells later _ k (sym (checked-three accepted s t u (out ∷ []) work) ∙ e) in
     let two = andThen-cells last _ _ (one .0) in
     let three = andThen-cells lengths _ _ (two .0) in
     let a = unless-cells (leb (length s) longestSeries) _ _ _
@@ -113,10 +113,15 @@ checked-three-room ok s t u out work k e =
     let room = unless-cells (leb (length s) out) _ _ _ (third .1) in
     let beside = unless-cells (all (λ room. leb (8 * length s) room) work) _ _ _ (room .1) in (
       record {
+        values = (
+          unless-cells (all accepted s) _ _ _ (one .1) .0,
+          unless-cells (all accepted t) _ _ _ (two .1) .0,
+          unless-cells (all accepted u) _ _ _ (three .1) .0,
+        );
         second = eqb-true _ _ (second .0);
         third = eqb-true _ _ (third .0);
         out-long = leb-true _ _ (room .0);
         work-long = at-least (8 * length s) work (beside .0);
       },
-      unless-cells (all ok s) _ _ k (one .1) .1,
+      unless-cells (all accepted s) _ _ k (one .1) .1,
     )

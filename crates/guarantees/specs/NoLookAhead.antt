@@ -273,8 +273,8 @@ pub true-range-no-look-ahead : {high low before high′ low′ before′ out₀ 
     → TrueRangeCall high′ low′ before′ out₀′ (Cells (length high′)) out₁′
     → EqualCells nan out₁ out₁′ b
 true-range-no-look-ahead h l e c c′ =
-    let room = checked-three-room accepted _ _ _ _ [] _ (sym (c .answer)) .0 .out-long in
-    let room′ = checked-three-room accepted _ _ _ _ [] _ (sym (c′ .answer)) .0 .out-long in
+    let room = checked-three-room _ _ _ _ [] _ (sym (c .answer)) .0 .out-long in
+    let room′ = checked-three-room _ _ _ _ [] _ (sym (c′ .answer)) .0 .out-long in
     three-agree h l e (causal-ranges causal-given) room room′ c c′
 
 -- the channel, in each of its three outputs

@@ -1,22 +1,19 @@
 -- The call of `ultimate_oscillator`: what is known where its cells are due, and its cells from the two rows. Assumes
 -- nothing.
 use mathlib.Core.Path.{_≡_, sym, _∙_}
-use mathlib.Core.Bool.{Bool, true}
 use mathlib.Core.List.{List, [], _∷_}
 use Prim.Native.Nat.{ℕ, _+_, _*_, _<_, _≤_}
 use native.Mathlib.Omega.{arith}
 use lib.Dec.{T}
 use lib.ListN.{length}
 use lib.Ieee.{Float, binary64, fits}
-use Rattle.values.specs.Accepted.{accepted, all}
+use Rattle.values.specs.Accepted.{accepted}
 use Rattle.calls.specs.declared.Answer.{Answer}
 use Rattle.calls.specs.declared.Answer.the-variants.{Cells}
-use Rattle.calls.specs.Answer.{andThen, unless, countOf, clearedOf, checked, slices, windowed}
-use Rattle.calls.specs.declared.Refusal.the-variants.{ValueNotAccepted}
+use Rattle.calls.specs.Answer.{countOf, clearedOf, checked, windowed}
 use Rattle.calls.proofs.Call.{AllBars}
-use Rattle.calls.proofs.Room.{asked, unless-cells, andThen-cells, same-count}
-use Rattle.checks.proofs.Three.{checked-three}
-use Rattle.checks.proofs.Passed.{passed, three-passed, three-clearable}
+use Rattle.calls.proofs.Room.{asked, andThen-cells, same-count}
+use Rattle.checks.proofs.Passed.{three-passed, three-clearable}
 use Rattle.cells.specs.Line.{Line, line, minusZero}
 use Rattle.cells.specs.Written.{Writing}
 use Rattle.cells.proofs.Written.{writing-same}
@@ -27,22 +24,6 @@ use Rattle.oscillator_bar.specs.Oscillator.{pressures, weighedShares, oscillato
 use Rattle.oscillator.specs.inner.Rows.{Ready}
 use Rattle.oscillator.proofs.Oscillator.{shares-either, from-rows}
 use Rattle.oscillator.proofs.Zeros.{Plain, plain-values, either-pressures, either-ranges}
-
--- the values of three series that were checked
-three-values : (ok : Float → Bool) (s t u : List Float) (outputs work : List ℕ) (k : ℕ)
-    → checked ok (s ∷ t ∷ u ∷ []) outputs work ≡ Cells k
-    → (all ok s ≡ true) × (all ok t ≡ true) × (all ok u ≡ true)
-three-values ok s t u outputs work k e =
-    let lengths = slices (length s ∷ length t ∷ length u ∷ []) outputs work in
-    let last = andThen lengths (unless (all ok u) ValueNotAccepted (Cells (length u))) in
-    let later = andThen last (unless (all ok t) ValueNotAccepted (Cells (length t))) in
-    let one = andThen-cells later _ k (sym (checked-three ok s t u outputs work) ∙ e) in
-    let two = andThen-cells last _ _ (one .0) in
-    let three = andThen-cells lengths _ _ (two .0) in (
-      unless-cells (all ok s) _ _ _ (one .1) .0,
-      unless-cells (all ok t) _ _ _ (two .1) .0,
-      unless-cells (all ok u) _ _ _ (three .1) .0,
-    )
 
 module _ (high low close : List Float) (n m k out work : ℕ) where
   abbrev due : Answer
@@ -73,7 +54,7 @@ module _ (high low close : List Float) (n m k out work : ℕ) where
       record {
         lows = p .0 .second;
         closes = p .0 .third;
-        values = three-values accepted high low close (out ∷ []) (work ∷ []) _ (passed due rest e h .0);
+        values = p .0 .values;
         short = a .each .0;
         medium = a .each .1 .0;
         long = a .each .1 .1 .0;

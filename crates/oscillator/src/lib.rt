@@ -44,7 +44,11 @@ fn write_pressures(low: &[f64], close: &[f64], out: &mut [f64])
 {
     let mut i = 0;
     while i < close.len() {
-        out[i] = oscillator_bar::pressure_of(low[i], close[i], true_range::close_before(close, i));
+        out[i] = oscillator_bar::pressure_of(
+            low[i],
+            close[i],
+            true_range::close_before(close, 1, i),
+        );
         i += 1;
     }
 }
@@ -296,7 +300,7 @@ fn write_oscillator(
 {
     let bars = high.len();
     write_pressures(low, close, work);
-    true_range::write_ranges(high, low, close, &mut work[bars..]);
+    true_range::write_ranges(high, low, close, 1, &mut work[bars..]);
     write_from_rows(work, bars, n, m, k, out);
 }
 

@@ -1,5 +1,5 @@
--- Laws of signs: the sign of a number, of what is rounded and of a difference. Assumes nothing.
-use mathlib.Core.Bool.{Bool, true, false, cond, true≢false}
+-- Laws of signs: the sign of a number, of what is rounded and of a difference, which are numbers. Assumes nothing.
+use mathlib.Core.Bool.{Bool, true, false, not, _&&_, Bool·beq, cond, true≢false}
 use mathlib.Core.Path.{_≡_, refl, sym, ap, _∙_}
 use Prim.Native.Nat.{ℕ, zero, suc, _+_, _-_, _*_, _^_, _<_}
 use native.Mathlib.Nat.{le-of-lt, lt-of-lt-of-le, le-add-right, mul-pos}
@@ -24,6 +24,47 @@ unfolding signOf isNan
 sign-of-nan nan n = refl
 sign-of-nan (inf s) n = absurd (true≢false (sym n))
 sign-of-nan (fin s m e) n = absurd (true≢false (sym n))
+
+-- ---- what is rounded has its own sign, and is a number
+
+odd-plain : (s : Bool) (q k : ℕ) → (negative (odd 54 s q k 1074) ≡ s) × (isNan (odd 54 s q k 1074) ≡ false)
+unfolding odd negative isNan
+odd-plain s zero k = (refl, refl)
+odd-plain s (suc q) k = (refl, refl)
+
+units-plain : (s : Bool) (q k : ℕ) → (negative (units binary64 s q k) ≡ s) × (isNan (units binary64 s q k) ≡ false)
+unfolding units negative isNan
+units-plain s q k = go (ltb (q * 2 ^ k) (2 ^ 2098))
+  where
+    go : (t : Bool) → (negative (cond t (odd 54 s q k 1074) (inf s)) ≡ s)
+        × (isNan (cond t (odd 54 s q k 1074) (inf s)) ≡ false)
+    go true = odd-plain s q k
+    go false = (refl, refl)
+
+pub round-plain : (s : Bool) (a c : ℕ) → (negative (round binary64 s a c) ≡ s) × (isNan (round binary64 s a c) ≡ false)
+round-plain s a c = rw (round-is binary64 s a c) (units-plain s _ _)
+
+sum-number : (s : Bool) (a : ℕ) (t : Bool) (b c : ℕ) → isNan (sum binary64 s a t b c) ≡ false
+unfolding sum
+sum-number s a t b c = go (Bool·beq s t) (ltb a b)
+  where
+    go : (p q : Bool)
+        → isNan (cond p (round binary64 s (a + b) c)
+        (cond q (round binary64 t (b - a) c) (round binary64 (s && ltb b a) (a - b) c)))
+        ≡ false
+    go true q = round-plain s (a + b) c .1
+    go false true = round-plain t (b - a) c .1
+    go false false = round-plain (s && ltb b a) (a - b) c .1
+
+-- and so is the difference of two numbers
+pub difference-number : (x y : Float) → T (finite x) → T (finite y) → isNan (sub binary64 x y) ≡ false
+unfolding sub isNan
+difference-number nan y p q = absurd p
+difference-number (inf s) y p q = absurd p
+difference-number (fin s m e) nan p q = absurd q
+difference-number (fin s m e) (inf t) p q = absurd q
+difference-number (fin s m e) (fin t n d) p q = sum-number s (m * up e * down d) (not t) (n * up d * down e)
+    (down e * down d)
 
 -- ---- the sign of a difference
 

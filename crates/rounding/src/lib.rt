@@ -1,5 +1,6 @@
 // The leaves: numbers taken apart and rounded, each equal to one definition for every f64.
 ghost use mathlib.Core.Path.{_≡_};
+ghost use mathlib.Core.Bool.{false};
 ghost use lib.Ieee.{isNan};
 ghost use Rattle.rounding.specs.Leaves.{magnitudeOf, signOf, roundToWhole};
 
@@ -16,6 +17,14 @@ pub fn magnitude(x: f64) -> f64
 {
     let opposite = 0.0 - x;
     if opposite < x { x } else { opposite }
+}
+
+// The same for a number, by its bits: all but the highest, the sign.
+pub fn magnitude_of_number(x: f64) -> f64
+    requires { ⌜ isNan x ≡ false ⌝ }
+    ensures { λ r. ⌜ r ≡ magnitudeOf x ⌝ }
+{
+    f64::from_bits(f64::to_bits(x) % 0x8000_0000_0000_0000)
 }
 
 // 1.0 with the sign of x, and NaN for NaN.

@@ -20,13 +20,14 @@ use Rattle.rounding.specs.Nearest.{inUnits, Number}
 use Rattle.rounding_laws.proofs.Multiples.{made-some}
 use Rattle.rounding_laws.proofs.Units.{worth}
 use Rattle.rounding.specs.Leaves.{negative}
+use Rattle.rounding.proofs.Signs.{round-plain}
 use Rattle.extremes.proofs.Order.{lt-between}
 use Rattle.cells.specs.Line.{plusZero}
 use Rattle.rounding_root.specs.Root.{sqrtOf}
 use Rattle.rounding_root.proofs.Squares.{square-le}
 use Rattle.rounding_root.specs.Meaning.{Nearer, NearestRoot}
 use Rattle.rounding_root.proofs.Meaning.{nearest-root}
-use Rattle.rounding_order.proofs.Rounded.{not-below, round-plain}
+use Rattle.rounding_order.proofs.Rounded.{not-below}
 use Rattle.rounding_order.proofs.Outward.{product-above, no-parts}
 
 -- x is a number, not below 0, and y is not below x; y may be infinite, or a NaN

@@ -51,6 +51,7 @@ use lib.Ieee.Scale.{round-same}
 use Rattle.rounding_laws.proofs.Value.{add-at, mul-at, lt-at}
 use Rattle.rounding_laws.proofs.Whole.{sum-turned}
 use Rattle.rounding.specs.Leaves.{negative}
+use Rattle.rounding.proofs.Signs.{round-plain}
 use Rattle.cells.specs.Line.{plusZero}
 
 -- ---- the opposite number
@@ -91,24 +92,7 @@ neg-order (fin false m e) (fin true n d) = rw (add-comm (m * up e * down d) (n *
 neg-order (fin true m e) (fin false n d) = refl
 neg-order (fin true m e) (fin true n d) = refl
 
--- ---- what is rounded has its own sign, and is a number
-
-odd-plain : (s : Bool) (q k : ℕ) → (negative (odd 54 s q k 1074) ≡ s) × (isNan (odd 54 s q k 1074) ≡ false)
-unfolding odd negative isNan
-odd-plain s zero k = (refl, refl)
-odd-plain s (suc q) k = (refl, refl)
-
-units-plain : (s : Bool) (q k : ℕ) → (negative (units binary64 s q k) ≡ s) × (isNan (units binary64 s q k) ≡ false)
-unfolding units negative isNan
-units-plain s q k = go (ltb (q * 2 ^ k) (2 ^ 2098))
-  where
-    go : (t : Bool) → (negative (cond t (odd 54 s q k 1074) (inf s)) ≡ s)
-        × (isNan (cond t (odd 54 s q k 1074) (inf s)) ≡ false)
-    go true = odd-plain s q k
-    go false = (refl, refl)
-
-pub round-plain : (s : Bool) (a c : ℕ) → (negative (round binary64 s a c) ≡ s) × (isNan (round binary64 s a c) ≡ false)
-round-plain s a c = rw (round-is binary64 s a c) (units-plain s _ _)
+-- ---- signs
 
 -- what has no sign is not below what has one
 signs-order : (x y : Float) → negative x ≡ false → negative y ≡ true → lt x y ≡ false

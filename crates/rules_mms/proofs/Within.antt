@@ -17,7 +17,7 @@ use Rattle.rounding_laws.proofs.Bounds.{AtMost, sub-at-most, at-most-number}
 use Rattle.rounding_laws.proofs.Value.{sub-at, mul-at, div-at}
 use Rattle.rounding_order.proofs.Itself.{number-less-itself}
 use Rattle.rounding_order.proofs.Outward.{lt-self, sub-inside-first, no-parts}
-use Rattle.rounding_order.proofs.Rounded.{round-plain}
+use Rattle.rounding.proofs.Signs.{round-plain}
 use Rattle.rounding_order.proofs.Within.{Within, within-whole, FromMinusOneToOne, in-unit}
 use Rattle.cells.specs.Line.{Line, plusZero, minusZero}
 use Rattle.cells.proofs.Line.{from-bar}

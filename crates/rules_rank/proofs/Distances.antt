@@ -29,7 +29,7 @@ use Rattle.rounding_laws.proofs.Integers.{gap}
 use Rattle.rounding_laws.proofs.Value.{sub-at, lt-at}
 use Rattle.rounding.specs.Leaves.{negative, magnitudeOf}
 use Rattle.rounding.specs.Literals.{tenToMinus}
-use Rattle.values.specs.Accepted.{accepted}
+use Rattle.rounding.proofs.Signs.{round-plain}
 use Rattle.values.proofs.All.{and-parts}
 use Rattle.extremes.proofs.Order.{lt-between}
 use Rattle.rounding_order.proofs.Compared.{either-way, le-is}
@@ -54,29 +54,6 @@ units-size s q k = go (ltb (q * 2 ^ k) (2 ^ 2098))
 
 round-size : (s : Bool) (a b : ℕ) → magnitudeOf (round binary64 s a b) ≡ round binary64 false a b
 round-size s a b = ap magnitudeOf (round-is binary64 s a b) ∙ units-size s _ _ ∙ sym (round-is binary64 false a b)
-
--- a rounded number is no NaN, and keeps its sign
-abbrev Signed : Bool → Float → Type 0
-Signed s x = (isNan x ≡ false) × (negative x ≡ s)
-
-odd-signed : (s : Bool) (q k : ℕ) → Signed s (odd 54 s q k 1074)
-unfolding odd isNan negative
-odd-signed s zero k = (refl, refl)
-odd-signed s (suc q) k = (refl, refl)
-
-units-signed : (s : Bool) (q k : ℕ) → Signed s (units binary64 s q k)
-unfolding units isNan negative
-units-signed s q k = go (ltb (q * 2 ^ k) (2 ^ 2098))
-  where
-    go : (t : Bool) → Signed s (cond t (odd 54 s q k 1074) (inf s))
-    go true = odd-signed s q k
-    go false = (refl, refl)
-
-round-signed : (s : Bool) (a b : ℕ) → Signed s (round binary64 s a b)
-round-signed s a b = rw (round-is binary64 s a b) (units-signed s _ _)
-
-round-number : (s : Bool) (a b : ℕ) → isNan (round binary64 s a b) ≡ false
-round-number s a b = round-signed s a b .0
 
 -- what a number a with the sign s has above 0, and below it
 abbrev plus : Bool → ℕ → ℕ
@@ -138,8 +115,8 @@ shorter d g c bound C h e =
     let small = round binary64 false g c in
     let large = round binary64 false d c in
     let less = round-mono binary64 g c d c C C (mul-le-mul-right c h) in
-    let order = not-below small large (round-number false g c) (round-number false d c) less in
-    either-way _ (λ z. true≢false (sym e ∙ lt-between false large small bound (round-number false g c) order z))
+    let order = not-below small large (round-plain false g c .1) (round-plain false d c .1) less in
+    either-way _ (λ z. true≢false (sym e ∙ lt-between false large small bound (round-plain false g c .1) order z))
 
 -- ---- three numbers on one scale
 
@@ -282,12 +259,12 @@ minus-below (fin true m d) e = rw near-is (minus-plus m d 0xabcc77118461d (negsu
 
 minus-not : (g c : ℕ) → le (tenToMinus 8) (round binary64 true g c) ≡ false
 minus-not g c =
-    let r = round-signed true g c in
-    rw (le-is (tenToMinus 8) (round binary64 true g c) near-number (r .0), minus-below (round binary64 true g c) (r .1))
+    let r = round-plain true g c in
+    rw (le-is (tenToMinus 8) (round binary64 true g c) near-number (r .1), minus-below (round binary64 true g c) (r .0))
 
 zero-not : (g c : ℕ) → g ≡ 0 → 0 < c → le (tenToMinus 8) (round binary64 false g c) ≡ false
 zero-not g c e C =
-    rw (e, le-is (tenToMinus 8) (round binary64 false 0 c) near-number (round-number false 0 c), at-zero c C)
+    rw (e, le-is (tenToMinus 8) (round binary64 false 0 c) near-number (round-plain false 0 c .1), at-zero c C)
 
 -- v less x, where x is below v: v is a and x is b, with their signs
 more : (s t : Bool) (a b c : ℕ) → plus t b + minus s a < plus s a + minus t b
@@ -341,15 +318,6 @@ well-below-is v x z X = go (ltb (lower C p r) (upper C p r)) refl
         let d = round binary64 false (gap (lower C p r) (upper C p r)) (s .c) in
         let above = more (r .sign) (p .sign) (r .count) (p .count) (s .c) (ltb-true _ _ e) in
         rw (order-is C p r ∙ e, size-is C p r, less, above)
-        (le-is (tenToMinus 8) d near-number (round-number false _ (s .c)))
+        (le-is (tenToMinus 8) d near-number (round-plain false _ (s .c) .1))
     go false e =
         rw (order-is C p r ∙ e, less) (no-more (r .sign) (p .sign) (r .count) (p .count) (s .c) C (ltb-false _ _ e))
-
--- ---- an accepted value
-
-pub accepted-finite : (x : Float) → accepted x ≡ true → finite x ≡ true
-unfolding accepted le lt eq
-accepted-finite nan e = absurd (true≢false (sym e))
-accepted-finite (inf true) e = absurd (true≢false (sym e))
-accepted-finite (inf false) e = absurd (true≢false (sym e))
-accepted-finite (fin s m d) e = refl

@@ -21,12 +21,8 @@ use Rattle.rules_rank.specs.Sorted.{cellsFrom, Rearranged, none, keep, s
 use Rattle.rounding_order.proofs.Outward.{lt-self}
 use Rattle.rounding_order.proofs.Compared.{either-way}
 use Rattle.rounding_order.proofs.Enclosed.{neither-way}
-use Rattle.rules_rank.proofs.Distances.{
-  number,
-  below-with,
-  first-near,
-  accepted-finite,
-}
+use Rattle.values.proofs.Numbers.{accepted-finite}
+use Rattle.rules_rank.proofs.Distances.{number, below-with, first-near}
 
 -- how many pass
 abbrev pub countIn : (Float → Bool) → List Float → ℕ

@@ -29,7 +29,8 @@ use Rattle.checks.proofs.Due.{some-due, clearable-then, room-then}
 use Rattle.rounding_order.proofs.Outward.{lt-self}
 use Rattle.rules_rank.specs.RollingRank.{wellBelow, rollingRankLine, rollingRankAnswer}
 use Rattle.rules_rank.specs.inner.Rows.{RankRoom}
-use Rattle.rules_rank.proofs.Distances.{accepted-finite, well-below-is}
+use Rattle.values.proofs.Numbers.{accepted-finite}
+use Rattle.rules_rank.proofs.Distances.{well-below-is}
 
 -- 0 before the first whole window
 pub rolling-before : (w : ℕ) (f : Line) (i : ℕ) → i < w - 1 → rollingRankLine w f i ≡ 0

@@ -1,13 +1,18 @@
 -- True range: the close before a bar as the code finds it, and no look-ahead. Assumes nothing.
 use mathlib.Core.Path.{_≡_, refl}
-use Prim.Native.Nat.{ℕ, zero, suc, _-_, _<_}
-use native.Mathlib.Nat.{le-refl}
+use mathlib.Core.List.{List, []}
+use Prim.Native.Nat.{ℕ, zero, suc, _-_, _<_, _≤_}
+use native.Mathlib.Nat.{le-refl, sub-zero}
 use native.Mathlib.Omega.{arith}
+use lib.ListN.{length}
 use lib.Ieee.{Float}
-use Rattle.cells.specs.Line.{Line, Same, Causal}
+use Rattle.values.proofs.Numbers.{values-apart}
+use Rattle.cells.specs.Line.{Line, line, Same, Causal}
+use Rattle.checks.specs.inner.Three.{Three}
 use Rattle.true_range.specs.declared.CloseBefore.{CloseBefore}
 use Rattle.true_range.specs.declared.CloseBefore.the-variants.{Unknown, Known}
 use Rattle.true_range.specs.TrueRange.{trueRange, trueRanges, givenBefore, closeBefore}
+use Rattle.true_range.specs.inner.Ranging.{Numbers, backBy}
 
 -- that of bar 0 is unknown
 pub before-first : (before : Line) (i : ℕ) → i ≡ 0 → Unknown ≡ givenBefore before i
@@ -25,6 +30,26 @@ pub range-at : (high low : Line) (before : ℕ → CloseBefore) (i : ℕ) {b : C
     → x ≡ trueRange (high i) (low i) b → b ≡ before i → x ≡ trueRanges high low before i
 unfolding trueRanges
 range-at high low before i e f = rw (e, f)
+
+-- high and low less the close before are numbers, where all values are accepted
+pub numbers-at : (high low close : List Float) {out : ℕ} {back : ℕ} (i : ℕ) {b : CloseBefore}
+    → Three high low close out [] → back ≤ 1 → i < length high
+    → b ≡ givenBefore (backBy back (line close)) i → Numbers (line high i) (line low i) b
+unfolding givenBefore
+numbers-at high low close zero t k h e = rw e tt
+numbers-at high low close {back = back} (suc i) t k h e =
+    let there : suc i - back < length close = rw (t .third) (omega arith) in
+    rw e (
+      values-apart high close (suc i) (suc i - back) (t .values .0) (t .values .2) h there,
+      values-apart low close (suc i) (suc i - back) (t .values .1) (t .values .2) (rw (t .second) h) there,
+    )
+
+-- the close before stands at the bar itself
+pub at-the-bar : (high low close : Line) (i : ℕ)
+    → trueRanges high low (givenBefore (backBy 0 close)) i ≡ trueRanges high low (givenBefore close) i
+unfolding trueRanges givenBefore
+at-the-bar high low close zero = refl
+at-the-bar high low close (suc i) = rw (sub-zero (suc i))
 
 -- ---- no look-ahead
 

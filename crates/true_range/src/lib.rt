@@ -2,12 +2,12 @@
 use calls::Answer;
 ghost use mathlib.Core.Path.{_≡_};
 ghost use mathlib.Core.List.{[]};
-ghost use Prim.Native.Nat.{_<_};
+ghost use Prim.Native.Nat.{_<_, _≤_};
 ghost use lib.ListN.{length};
 ghost use Rattle.cells.specs.Line.{line};
 ghost use Rattle.checks.specs.inner.Three.{Three};
-ghost use Rattle.true_range.specs.TrueRange.{trueRange, givenBefore, closeBefore, TrueRangeCall};
-ghost use Rattle.true_range.specs.inner.Ranging.{Ranged};
+ghost use Rattle.true_range.specs.TrueRange.{trueRange, givenBefore, TrueRangeCall};
+ghost use Rattle.true_range.specs.inner.Ranging.{Numbers, backBy, Ranged};
 
 // The close before a bar.
 pub enum CloseBefore {
@@ -16,61 +16,39 @@ pub enum CloseBefore {
 }
 
 // The true range of a bar.
-pub fn range_of(high: f64, low: f64, before: CloseBefore) -> f64
+fn range_of(high: f64, low: f64, before: CloseBefore) -> f64
+    requires { ⌜ Numbers high low before ⌝ }
     ensures { λ r. ⌜ r ≡ trueRange high low before ⌝ }
 {
     let CloseBefore::Known(close) = before else {
         return high - low;
     };
-    let above = rounding::magnitude(high - close);
-    let below = rounding::magnitude(low - close);
+    let above = rounding::magnitude_of_number(high - close);
+    let below = rounding::magnitude_of_number(low - close);
     extremes::larger_of(extremes::larger_of(high - low, above), below)
 }
 
-// The close before bar i, which stands at the bar itself.
-pub fn given_before(before: &[f64], i: usize) -> CloseBefore
-    requires { ⌜ i < length (now before) ⌝ }
-    ensures { λ r. ⌜ r ≡ givenBefore (line (now (before .entry))) i ⌝ }
+// The close before bar i, which stands `back` bars before it: 0 or 1.
+pub fn close_before(close: &[f64], back: usize, i: usize) -> CloseBefore
+    requires { ⌜ (i < length (now close)) × (back ≤ 1) ⌝ }
+    ensures { λ r. ⌜ r ≡ givenBefore (backBy back (line (now (close .entry)))) i ⌝ }
 {
     if i == 0 {
         return CloseBefore::Unknown;
     }
-    CloseBefore::Known(before[i])
+    CloseBefore::Known(close[i - back])
 }
 
-// The close before bar i, which stands at the bar before.
-pub fn close_before(close: &[f64], i: usize) -> CloseBefore
-    requires { ⌜ i < length (now close) ⌝ }
-    ensures { λ r. ⌜ r ≡ closeBefore (line (now (close .entry))) i ⌝ }
-{
-    if i == 0 {
-        return CloseBefore::Unknown;
-    }
-    CloseBefore::Known(close[i - 1])
-}
-
-// Writes the true range of every bar, with the close before at the bar itself.
-fn write_true_range(high: &[f64], low: &[f64], close_prev: &[f64], out: &mut [f64])
-    requires { ⌜ Three (now high) (now low) (now «close_prev») (length (now out)) [] ⌝ }
-    ensures { λ _. ⌜ Ranged (now (high .entry)) (now (low .entry)) (givenBefore (line (now («close_prev» .entry))))
-        (now (out .entry)) (now (out .exit)) ⌝ }
+// Writes the true range of every bar. The close before a bar stands at the bar itself (back 0) or at the bar before
+// (back 1).
+pub fn write_ranges(high: &[f64], low: &[f64], close: &[f64], back: usize, out: &mut [f64])
+    requires { ⌜ Three (now high) (now low) (now close) (length (now out)) [] × (back ≤ 1) ⌝ }
+    ensures { λ _. ⌜ Ranged (now (high .entry)) (now (low .entry))
+        (givenBefore (backBy back (line (now (close .entry))))) (now (out .entry)) (now (out .exit)) ⌝ }
 {
     let mut i = 0;
     while i < high.len() {
-        out[i] = range_of(high[i], low[i], given_before(close_prev, i));
-        i += 1;
-    }
-}
-
-// The same with the closes of the bars themselves.
-pub fn write_ranges(high: &[f64], low: &[f64], close: &[f64], out: &mut [f64])
-    requires { ⌜ Three (now high) (now low) (now close) (length (now out)) [] ⌝ }
-    ensures { λ _. ⌜ Ranged (now (high .entry)) (now (low .entry)) (closeBefore (line (now (close .entry))))
-        (now (out .entry)) (now (out .exit)) ⌝ }
-{
-    let mut i = 0;
-    while i < high.len() {
-        out[i] = range_of(high[i], low[i], close_before(close, i));
+        out[i] = range_of(high[i], low[i], close_before(close, back, i));
         i += 1;
     }
 }
@@ -84,6 +62,6 @@ pub fn true_range(high: &[f64], low: &[f64], close_prev: &[f64], out: &mut [f64]
     if let Answer::Refused(_) = due {
         return due;
     }
-    write_true_range(high, low, close_prev, out);
+    write_ranges(high, low, close_prev, 0, out);
     Answer::Cells(high.len())
 }

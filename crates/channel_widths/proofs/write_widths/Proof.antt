@@ -13,6 +13,19 @@ use Rattle.channel_widths.proofs.Stages.{averaged}
 use Rattle.channel_widths.proofs.write_widths.Statement.{statement}
 use Rattle.channel_widths.proofs.write_widths.Tie as tie
 
+write-ranges-requires : tie.Need-write-ranges-requires
+write-ranges-requires c κs =
+    let pre = c .before .before .before .before .before .before .pre in (
+      record {
+        values = pre .values;
+        second = pre .second;
+        third = pre .third;
+        out-long = search needs;
+        work-long = tt;
+      },
+      omega arith,
+    )
+
 write-average-requires : tie.Need-write-average-requires
 write-average-requires c κs =
     let row = part-long (c .before .before .before .before .write-ranges .ensures) (omega arith) in
@@ -49,7 +62,7 @@ pub write-widths-spec : {M : Type 1} → statement M
 write-widths-spec =
     tie.close
     (tie.spec
-    (λ c κs. search needs)  -- write-ranges-requires
+    write-ranges-requires
     (λ c. search needs)  -- slice-reshare-prefix-write-average
     -- slice-aggregate-write-average
     (λ c. sym (part-long (c .before .before .before .write-ranges .ensures) (omega arith)))

@@ -5,11 +5,13 @@ use Prim.Native.Nat.{ℕ, _<_, _≤_}
 use lib.ListN.{length}
 use lib.Ieee.{Float}
 use Rattle.limits.specs.Limits.{longestPeriod}
+use Rattle.checks.specs.inner.Three.{ValuesOfThree}
 
--- a smoother period of at least 1, three series of one length, and outputs that have room
+-- a smoother period of at least 1, three series of one length with accepted values, and outputs that have room
 pub record Ready (n : ℕ) (high low close : List Float) (out : ℕ) : Type 0 where
   pub some : 0 < n
   pub narrow : n ≤ longestPeriod
+  pub values : ValuesOfThree high low close
   pub second : length low ≡ length high
   pub third : length close ≡ length high
   pub out-long : length high ≤ out

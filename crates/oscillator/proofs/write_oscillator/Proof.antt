@@ -9,6 +9,13 @@ use Rattle.oscillator.proofs.Calls.{oscillator-cells}
 use Rattle.oscillator.proofs.write_oscillator.Statement.{statement}
 use Rattle.oscillator.proofs.write_oscillator.Tie as tie
 
+write-ranges-requires : tie.Need-write-ranges-requires
+write-ranges-requires c κs =
+    let pre = c .before .before .before .before .before .before .before .before .before .before .pre in (
+      record { values = pre .values; second = pre .lows; third = pre .closes; out-long = search needs; work-long = tt },
+      omega arith,
+    )
+
 returns : tie.Need-returns
 returns c =
     let cells = c .before .before in
@@ -34,7 +41,7 @@ write-oscillator-spec =
     (λ c. search needs)  -- sub-write-ranges
     (λ c. search needs)  -- part-write-ranges-start
     (λ c. search needs)  -- part-write-ranges-end
-    (λ c κs. search needs)  -- write-ranges-requires
+    write-ranges-requires
     (λ c κs. search needs)  -- write-from-rows-requires
     (λ c. search needs)  -- same-length
     (λ c. search needs)  -- same-length-2

@@ -1,12 +1,11 @@
 -- What the functions under `ultimate_oscillator` ask of each other. Assumes nothing.
 use mathlib.Core.Path.{_≡_}
-use mathlib.Core.Bool.{true}
 use mathlib.Core.List.{List, [], _∷_}
 use Prim.Native.Nat.{ℕ, _+_, _-_, _*_, _<_, _≤_, max, min}
 use lib.ListN.{length}
 use lib.Ieee.{Float}
 use Rattle.limits.specs.Limits.{Window}
-use Rattle.values.specs.Accepted.{accepted, all}
+use Rattle.checks.specs.inner.Three.{ValuesOfThree}
 use Rattle.cells.specs.Line.{Line, line, minusZero}
 use Rattle.cells.specs.Written.{Writing}
 use Rattle.windows.specs.declared.Lanes.{Lanes}
@@ -16,7 +15,7 @@ use Rattle.oscillator_bar.specs.Oscillator.{ratio, weighed, weighedShares}
 pub record Ready (high low close : List Float) (n m k out work : ℕ) : Type 0 where
   pub lows : length low ≡ length high
   pub closes : length close ≡ length high
-  pub values : (all accepted high ≡ true) × (all accepted low ≡ true) × (all accepted close ≡ true)
+  pub values : ValuesOfThree high low close
   pub short : Window n
   pub medium : Window m
   pub long : Window k

@@ -17,8 +17,8 @@ returns-2 c =
       at-above .before .before .before2 .given .1,
       c .larger-of2 .ensures,
       at-first .larger-of .ensures,
-      at-below .magnitude2 .ensures,
-      at-above .magnitude .ensures,
+      at-below .magnitude-of-number2 .ensures,
+      at-above .magnitude-of-number .ensures,
     )
 
 pub range-of-spec : {M : Type 1} → statement M
@@ -28,8 +28,10 @@ range-of-spec =
     (λ c. search needs)  -- enum-known-before
     enum-told
     (λ c. unfold trueRange in rw (c .enum-told .given .1))  -- returns
-    (λ c κs. search needs)  -- magnitude-requires
-    (λ c κs. search needs)  -- magnitude-requires-2
+    -- magnitude-of-number-requires
+    (λ c κs. rw (c .before .before2 .given .1) at (c .before .before .before .pre) .0)
+    -- magnitude-of-number-requires-2
+    (λ c κs. rw (c .before .before .before2 .given .1) at (c .before .before .before .before .pre) .1)
     (λ c κs. search needs)  -- larger-of-requires
     (λ c κs. search needs)  -- larger-of-requires-2
     returns-2

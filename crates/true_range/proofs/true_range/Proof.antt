@@ -2,12 +2,15 @@
 -- Assumes nothing.
 use mathlib.Core.Path.{_≡_, sym, _∙_}
 use mathlib.Core.List.{[]}
+use native.Mathlib.Omega.{arith}
 use borrow.Author.Needs.{needs}
 use denote.Ref.{now}
 use lib.ListN.{length}
 use Rattle.checks.specs.inner.Three.{Three}
 use Rattle.checks.proofs.Three.{checked-three-room}
 use Rattle.calls.proofs.Call.{refused, counted}
+use Rattle.cells.proofs.Written.{writing-same}
+use Rattle.true_range.proofs.TrueRange.{at-the-bar}
 use Rattle.calls.specs.declared.Answer.the-variants.{Cells}
 use Rattle.true_range.proofs.true_range.Statement.{statement}
 use Rattle.true_range.proofs.true_range.Tie as tie
@@ -18,7 +21,7 @@ room : (c : tie.After-enum-told2)
     Three (now (a .high)) (now (a .low)) (now (a .close-prev)) (length (now (a .out))) []
     × (Cells (length (now (a .high))) ≡ c .before .before .check-three .result)
 room c =
-    let found = checked-three-room _ _ _ _ _ _ _
+    let found = checked-three-room _ _ _ _ _ _
     (sym (c .before .before .check-three .ensures) ∙ c .enum-told2 .given .1) in
     (found .0, found .1 ∙ sym (c .enum-told2 .given .1))
 
@@ -26,7 +29,8 @@ returns-2 : tie.Need-returns-2
 returns-2 c =
     let at-write = c .before .before in
     let passed = at-write .before .before in
-    counted (room passed .1 ∙ passed .before .before .check-three .ensures) (at-write .write-true-range .ensures)
+    counted (room passed .1 ∙ passed .before .before .check-three .ensures)
+    (writing-same (at-write .write-ranges .ensures) (λ i l. at-the-bar _ _ _ i))
 
 pub true-range-spec : {M : Type 1} → statement M
 true-range-spec =
@@ -36,7 +40,7 @@ true-range-spec =
     (λ c. search needs)  -- enum-told
     (λ c. refused (c .before .before .check-three .ensures) (c .enum-told .given .1))  -- returns
     (λ c. search needs)  -- enum-told-2
-    (λ c κs. room (c .before) .0)  -- write-true-range-requires
+    (λ c κs. (room (c .before) .0, omega arith))  -- write-ranges-requires
     (λ c. search needs)  -- same-length
     returns-2
     )

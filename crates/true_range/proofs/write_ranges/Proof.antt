@@ -6,17 +6,25 @@ use borrow.Author.Needs.{needs}
 use Rattle.cells.specs.Line.{line}
 use Rattle.cells.specs.Written.{Writing}
 use Rattle.cells.proofs.Written.{none-written, one-more, ends}
-use Rattle.true_range.specs.TrueRange.{trueRanges, closeBefore}
-use Rattle.true_range.proofs.TrueRange.{range-at}
+use Rattle.true_range.specs.TrueRange.{trueRanges, givenBefore}
+use Rattle.true_range.specs.inner.Ranging.{backBy}
+use Rattle.true_range.proofs.TrueRange.{range-at, numbers-at}
 use Rattle.true_range.proofs.write_ranges.Statement.{statement}
 use Rattle.true_range.proofs.write_ranges.Tie as tie
 
 abbrev Inv-loop : tie.InvT-loop
-Inv-loop high low close out₀ i₀ out i =
-    (i ≤ length high) × Writing i (trueRanges (line high) (line low) (closeBefore (line close))) out₀ out
+Inv-loop high low close back out₀ i₀ out i =
+    (i ≤ length high)
+    × Writing i (trueRanges (line high) (line low) (givenBefore (backBy back (line close)))) out₀ out
 
 abbrev μ-loop : tie.MeasureT-loop
-μ-loop high low close out₀ i₀ out i = length high - i
+μ-loop high low close back out₀ i₀ out i = length high - i
+
+range-of-requires : tie.Need-range-of-requires Inv-loop μ-loop
+range-of-requires c κs =
+    let at = c .before .before .before .before in
+    let pre = at .before .before .before .before .before .pre in
+    numbers-at _ _ _ (at .loop .i) (pre .0) (pre .1) (omega arith) (c .close-before .ensures)
 
 loop-again : tie.Need-loop-again Inv-loop μ-loop
 loop-again c =
@@ -37,7 +45,7 @@ write-ranges-spec =
     (λ c. search needs)  -- mul-range-of-2
     (λ c. search needs)  -- shared-slice-read-range-of-2
     (λ c κs. search needs)  -- close-before-requires
-    (λ c κs. search needs)  -- range-of-requires
+    range-of-requires
     (λ c. search needs)  -- mul-out
     (λ c. search needs)  -- slice-write-out
     (λ c. search needs)  -- add-i
