@@ -11,16 +11,18 @@ ghost use Rattle.mean_ranges.specs.inner.Ranges.{Ranges};
 ghost use Rattle.cells.specs.inner.Touched.{Touched};
 ghost use Rattle.checks.specs.inner.Due.{Priced};
 
-// The sign of a mean less half of highest plus lowest, 0 if either is 0.
+// The sign of a mean less half of highest plus lowest, 0 if either is 0. The sign is taken first, so that a loop takes
+// several bars at a time.
 fn against_middle(average: f64, high: f64, low: f64) -> f64
     ensures { λ r. ⌜ r ≡ againstMiddle average high low ⌝ }
 {
+    let side = rounding::sign(average - (high + low) / 2.0);
     if high == 0.0 {
         0.0
     } else if low == 0.0 {
         0.0
     } else {
-        rounding::sign(average - (high + low) / 2.0)
+        side
     }
 }
 

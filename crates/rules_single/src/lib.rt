@@ -15,15 +15,13 @@ ghost use Rattle.cells.specs.inner.Touched.{Touched};
 ghost use Rattle.checks.specs.inner.Due.{Priced};
 ghost use Rattle.window_means.specs.inner.Ticks.{longTicks};
 
-// The sign of a price less its average, 0 where that average is 0.0.
+// The sign of a price less its average, 0 where that average is 0.0. The sign is taken first, so that a loop takes
+// several bars at a time.
 fn against_mean(price: f64, average: f64) -> f64
     ensures { λ r. ⌜ r ≡ againstMean price average ⌝ }
 {
-    if average == 0.0 {
-        0.0
-    } else {
-        rounding::sign(price - average)
-    }
+    let side = rounding::sign(price - average);
+    if average == 0.0 { 0.0 } else { side }
 }
 
 // Writes each bar's position over the average that stands in its cell.

@@ -3,7 +3,8 @@ use mathlib.Core.Bool.{Bool, true, false, _&&_, true≢false}
 use mathlib.Core.List.{List, [], _∷_}
 use mathlib.Core.Path.{_≡_, refl, sym}
 use Prim.Native.Nat.{ℕ, zero, suc, _+_, _<_, _≤_}
-use native.Mathlib.Nat.{not-suc-le-zero, le-of-suc-le-suc}
+use native.Mathlib.Nat.{not-suc-le-zero, le-of-suc-le-suc, zero-lt-suc}
+use native.Mathlib.Omega.{arith}
 use native.Mathlib.Numerals.{add-one}
 use lib.ListN.{length, getD, drop, drop-of-length-le}
 use lib.Seq.{drop-cons}
@@ -13,6 +14,10 @@ use Rattle.values.specs.Accepted.{all}
 pub and-true : (t : Bool) → t && true ≡ t
 and-true true = refl
 and-true false = refl
+
+pub and-assoc : (a b c : Bool) → a && (b && c) ≡ a && b && c
+and-assoc true b c = refl
+and-assoc false b c = refl
 
 pub and-parts : (t u : Bool) → t && u ≡ true → (t ≡ true) × (u ≡ true)
 and-parts true u e = (refl, e)
@@ -31,3 +36,9 @@ module _ (p : Float → Bool) (s : List Float) (i : ℕ) where
 
   pub all-none : length s ≤ i → all p (drop i s) ≡ true
   all-none h = rw (drop-of-length-le s h)
+
+-- where two tests agree on every element, they agree on all
+pub all-same : (p q : Float → Bool) (s : List Float)
+    → ((i : ℕ) → i < length s → p (getD s i nan) ≡ q (getD s i nan)) → all p s ≡ all q s
+all-same p q [] h = refl
+all-same p q (x ∷ s) h = rw (h zero (zero-lt-suc (length s)), all-same p q s (λ i l. h (suc i) (omega arith)))

@@ -11,7 +11,7 @@ ghost use lib.ListN.{length};
 ghost use lib.Ieee.{binary64, toBits};
 ghost use Rattle.values.specs.Accepted.{within, accepted, tick, finite, all};
 ghost use Rattle.rounding.specs.Leaves.{magnitudeOf};
-ghost use Rattle.values.specs.inner.Quick.{capped, NoneAbove, EachUpTo, BitsOf};
+ghost use Rattle.values.specs.inner.Quick.{capped, NoneAbove, BitsOf};
 ghost use Rattle.values.specs.inner.Fraction.{comesBack};
 ghost use Rattle.limits.specs.Limits.{valuePower};
 ghost use Rattle.cells.specs.Line.{line};
@@ -139,19 +139,26 @@ fn is_tick_size(x: f64) -> bool
     (size <= LARGEST_TICK) & is_whole(size)
 }
 
-// Whether every number of s, where each lies from 0.0 to 2^24, is a whole tick. All are looked at, so that the loop
-// takes several at a time.
-fn all_whole(s: &[f64]) -> bool
-    requires { ⌜ EachUpTo 24 (now s) ⌝ }
-    ensures { λ r. ⌜ r ≡ all tick (now (s .entry)) ⌝ }
+// What one pass over a series finds: the bits of its numbers together, and whether each comes back from beside 2^52.
+struct Gathered {
+    bits: u64,
+    whole: bool,
+}
+
+// All numbers are looked at, so that the loop takes several at a time.
+fn gather(s: &[f64]) -> Gathered
+    ensures { λ r. ⌜ BitsOf (line (now (s .entry))) 0 (length (now (s .entry))) (r .bits)
+        × (r .whole ≡ all comesBack (now (s .entry))) ⌝ }
 {
+    let mut bits = 0;
     let mut whole = true;
     let mut i = 0;
     while i < s.len() {
+        bits = bits | f64::to_bits(cap(s[i]));
         whole = whole & is_whole(s[i]);
         i += 1;
     }
-    whole
+    Gathered { bits, whole }
 }
 
 // Whether every number of s is a whole tick, of either sign. All are looked at, so that the loop takes several at a
@@ -179,8 +186,9 @@ pub fn all_ticks(s: &[f64]) -> bool
         return true;
     }
     if is_tick(s[0]) {
-        if bits_together(s, 0, s.len()) <= LARGEST_TICK_BITS {
-            return all_whole(s);
+        let found = gather(s);
+        if found.bits <= LARGEST_TICK_BITS {
+            return found.whole;
         }
         return each_tick(s);
     }

@@ -11,13 +11,10 @@ use lib.ListN.{length, take, drop, length-drop}
 use lib.Seq.{take-all, length-take-le}
 use lib.Ieee.{Float}
 use Rattle.values.specs.Accepted.{tick, all}
+use Rattle.values.proofs.All.{and-assoc}
 use Rattle.rules_double_bar.specs.inner.Ticks.{tickCells}
 use Rattle.rules_double.proofs.has_tick_cells.Statement.{statement}
 use Rattle.rules_double.proofs.has_tick_cells.Tie as tie
-
-and-assoc : (a b c : Bool) → a && (b && c) ≡ a && b && c
-and-assoc true b c = refl
-and-assoc false b c = refl
 
 -- all pass where the first k do and the others
 in-two : (p : Float → Bool) (k : ℕ) (s : List Float) → all p s ≡ all p (take k s) && all p (drop k s)

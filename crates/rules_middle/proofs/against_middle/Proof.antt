@@ -11,5 +11,5 @@ against-middle-spec =
     (λ c κs. search needs)  -- sign-requires
     (λ c. unfold ofBits in rw (c .if1 .taken))  -- returns
     (λ c. unfold ofBits in rw (c .before .if1 .left, c .if2 .taken))  -- returns-2
-    (λ c. unfold ofBits in rw (c .before .before .if1 .left, c .before .if2 .left, c .sign .ensures))  -- returns-3
+    (λ c. unfold ofBits in rw (c .before .if1 .left, c .if2 .left, c .before .before .sign .ensures))  -- returns-3
     )

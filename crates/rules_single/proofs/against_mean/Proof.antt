@@ -10,5 +10,5 @@ against-mean-spec =
     (tie.spec
     (λ c κs. search needs)  -- sign-requires
     (λ c. unfold ofBits in rw (c .if1 .taken))  -- returns
-    (λ c. unfold ofBits in rw (c .before .if1 .left, c .sign .ensures))  -- returns-2
+    (λ c. unfold ofBits in rw (c .if1 .left, c .before .sign .ensures))  -- returns-2
     )

@@ -1,20 +1,27 @@
 -- `all_ticks` meets its contract: the first number decides, or the quick test, or each number is tested. Assumes
 -- nothing.
-use mathlib.Core.Path.{sym}
+use mathlib.Core.Path.{sym, _∙_}
 use native.Mathlib.Omega.{arith}
 use borrow.Author.Needs.{needs}
 use denote.Ref.{now}
+use lib.ListN.{length}
 use Rattle.values.specs.Accepted.{tick}
-use Rattle.values.proofs.All.{all-next, all-none}
-use Rattle.values.proofs.Quick.{quick-up-to, bits-above}
+use Rattle.values.specs.inner.Fraction.{comesBack}
+use Rattle.values.proofs.All.{all-next, all-none, all-same}
+use Rattle.values.proofs.Fraction.{whole-tick}
+use Rattle.values.proofs.Quick.{quick-up-to, bits-first}
 use Rattle.values.proofs.all_ticks.Statement.{statement}
 use Rattle.values.proofs.all_ticks.Tie as tie
 
-all-whole-requires : tie.Need-all-whole-requires
-all-whole-requires c κs =
-    let known = c .before .before .before .before in
-    quick-up-to (now (known .before .before .before .args .s)) (bits-above _ _ _ (c .before .bits-together .ensures))
-    (known .shared-slice-known2 .given) 24 (omega arith) (omega arith)
+returns-2 : tie.Need-returns-2
+returns-2 c =
+    let at-gather = c .before .before in
+    let known = at-gather .before .before .before in
+    let s = now (known .before .before .before .args .s) in
+    let found = at-gather .gather .ensures in
+    let none = bits-first s (length s) (found .0) in
+    let each = quick-up-to s none (known .shared-slice-known2 .given) 24 (omega arith) (omega arith) in
+    found .1 ∙ all-same comesBack tick s (λ i h. whole-tick _ (each i h))
 
 returns-4 : tie.Need-returns-4
 returns-4 c = rw (
@@ -31,9 +38,8 @@ all-ticks-spec =
     (λ c. sym (all-none tick (now (c .before .before .args .s)) 0 (omega arith)))  -- returns
     (λ c. search needs)  -- shared-slice-read-is-tick
     (λ c κs. search needs)  -- is-tick-requires
-    (λ c κs. search needs)  -- bits-together-requires
-    all-whole-requires
-    (λ c. search needs)  -- returns-2
+    (λ c κs. search needs)  -- gather-requires
+    returns-2
     (λ c κs. search needs)  -- each-tick-requires
     (λ c. search needs)  -- returns-3
     returns-4
