@@ -53,11 +53,11 @@ slide-means-spec =
     (λ c. count-is-float _ (omega arith))  -- int-to-float-count
     loop-holds
     (λ c. search needs)  -- add-loop
-    (λ c. search needs)  -- mul-half
-    (λ c. search needs)  -- shared-slice-read-half
-    (λ c. search needs)  -- sub-half
-    (λ c. search needs)  -- mul-half-2
-    (λ c. search needs)  -- shared-slice-read-half-2
+    (λ c. search needs)  -- mul-next
+    (λ c. search needs)  -- shared-slice-read-next
+    (λ c. search needs)  -- sub-next
+    (λ c. search needs)  -- mul-next-2
+    (λ c. search needs)  -- shared-slice-read-next-2
     (λ c. search needs)  -- add-sum
     (λ c. search needs)  -- mul-sum
     (λ c. search needs)  -- shared-slice-read-sum
@@ -65,21 +65,21 @@ slide-means-spec =
     (λ c. search needs)  -- sub-sum
     (λ c. search needs)  -- mul-sum-2
     (λ c. search needs)  -- shared-slice-read-sum-2
-    (λ c. search needs)  -- mul-out
-    (λ c. search needs)  -- slice-write-out
-    (λ c. search needs)  -- add-out
-    (λ c. search needs)  -- mul-out-2
-    (λ c. simp length-set (omega arith))  -- slice-write-out-2
+    (λ c. search needs)  -- mul-means
+    (λ c. search needs)  -- slice-write-means
+    (λ c. search needs)  -- add-means
+    (λ c. search needs)  -- mul-means-2
+    (λ c. simp length-set (omega arith))  -- slice-write-means-2
     (λ c. search needs)  -- add-i
     (λ c. search needs)  -- loop-less
     loop-again
-    (λ c. search needs)  -- mul-out-3
-    (λ c. search needs)  -- shared-slice-read-out
-    (λ c. search needs)  -- sub-out
-    (λ c. search needs)  -- mul-out-4
-    (λ c. search needs)  -- shared-slice-read-out-2
-    (λ c. search needs)  -- mul-out-5
-    (λ c. search needs)  -- slice-write-out-3
+    (λ c. search needs)  -- mul-means-3
+    (λ c. search needs)  -- shared-slice-read-means
+    (λ c. search needs)  -- sub-means
+    (λ c. search needs)  -- mul-means-4
+    (λ c. search needs)  -- shared-slice-read-means-2
+    (λ c. search needs)  -- mul-means-5
+    (λ c. search needs)  -- slice-write-means-3
     (λ c. search needs)  -- same-length
     returns
     (λ c. search needs)  -- same-length-2
