@@ -14,8 +14,9 @@ ghost use Rattle.calls.specs.Call.{Call};
 ghost use Rattle.cells.specs.Line.{Line, line, fromBar};
 ghost use Rattle.cells.specs.inner.Leads.{Led};
 ghost use Rattle.cells.specs.Written.{Writing};
+ghost use Rattle.sliding_means.specs.inner.Means.{Summed};
 ghost use Rattle.averages.specs.Sma.{smaLine, SmaCall};
-ghost use Rattle.averages.specs.inner.Stages.{Sliding, First, Summed};
+ghost use Rattle.averages.specs.inner.Stages.{First};
 
 // What is found on the way through a series: the bits of the prices together, and a sum or a cell.
 pub struct Pass {
@@ -40,28 +41,6 @@ pub fn sum_first(series: &[f64], n: usize) -> Pass
     Pass { bits, value: sum }
 }
 
-// Writes the running means from bar n on, two bars a turn: the new price less the old one is added to the sum in one
-// step.
-fn slide_means(series: &[f64], n: usize, first: f64, out: &mut [f64])
-    requires { ⌜ Sliding (now series) n first (now out) ⌝ }
-    ensures { λ _. ⌜ Writing (length (now (series .entry))) (smaLine n (line (now (series .entry))))
-        (now (out .entry)) (now (out .exit)) ⌝ }
-{
-    let count = n as f64;
-    let mut sum = first;
-    let mut i = n;
-    while i + 2 <= series.len() {
-        let next = sum + (series[i] - series[i - n]);
-        sum = next + (series[i + 1] - series[i + 1 - n]);
-        out[i] = next / count;
-        out[i + 1] = sum / count;
-        i += 2;
-    }
-    if i < series.len() {
-        out[i] = (sum + (series[i] - series[i - n])) / count;
-    }
-}
-
 // Writes NaN before bar `first`, and gives the bar after those cells.
 pub fn fill_nan(out: &mut [f64], first: usize, bars: usize) -> usize
     requires { ⌜ bars ≤ length (now out) ⌝ }
@@ -78,7 +57,7 @@ fn write_means(series: &[f64], n: usize, sum: f64, out: &mut [f64])
 {
     fill_nan(out, n - 1, series.len());
     out[n - 1] = sum / (n as f64);
-    slide_means(series, n, sum, out);
+    sliding_means::slide_means(series, n, sum, out);
 }
 
 // The answer of a call whose window does not fit: where cells are due, the bars end before the window does, and all

@@ -29,7 +29,7 @@ use Rattle.windows.proofs.Window.{mean-of, first-running, same-bar}
 use Rattle.windows.proofs.Runs.{run-at}
 use Rattle.averages_exponential.specs.Blend.{blend}
 use Rattle.averages_exponential.specs.Ema.{emaAlpha}
-use Rattle.running_sums.specs.inner.Means.{runMeans}
+use Rattle.sliding_means.specs.inner.Means.{runMeans}
 use Rattle.running_sums.specs.inner.Margin.{largestOf, marginOf}
 use Rattle.running_sums.proofs.Relative.{roof}
 use Rattle.running_sums.proofs.Sums.{Windowed, Carried, fresh, carry}

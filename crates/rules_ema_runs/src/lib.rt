@@ -74,7 +74,7 @@ pub fn write_by_runs(series: &[f64], n: usize, out: &mut [f64], work: &mut [f64]
     }
     let head = 2 * n - 1;
     if head <= series.len() {
-        running_sums::write_means(&series[..head], n, out);
+        sliding_means::write_means(&series[..head], n, out);
         if out[n - 1] != 0.0 {
             let seed = windows::mean_at(&out[..head], n, head - 1);
             let d = running_sums::margin(series);

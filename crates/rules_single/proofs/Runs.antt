@@ -13,7 +13,7 @@ use Rattle.cells.specs.Line.{line}
 use Rattle.cells.specs.Written.{Writing}
 use Rattle.cells.proofs.Written.{read-back}
 use Rattle.windows.specs.Window.{mean}
-use Rattle.running_sums.specs.inner.Means.{runMeans}
+use Rattle.sliding_means.specs.inner.Means.{runMeans}
 use Rattle.running_sums.specs.inner.Margin.{largestOf, marginOf, AllFar}
 use Rattle.running_sums.proofs.Twice.{decided-twice}
 use Rattle.rules_single.specs.Single.{singleLine}

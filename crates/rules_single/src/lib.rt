@@ -102,8 +102,8 @@ fn write_single_by_runs(series: &[f64], n: usize, out: &mut [f64], work: &mut [f
         return false;
     }
     let bars = series.len();
-    running_sums::write_means(series, n, work);
-    running_sums::write_means(&work[..bars], n, out);
+    sliding_means::write_means(series, n, work);
+    sliding_means::write_means(&work[..bars], n, out);
     let far = running_sums::all_far(series, out, 2 * n - 2, running_sums::margin(series));
     if far {
         write_against_means(series, n, out);

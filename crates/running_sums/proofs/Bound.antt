@@ -21,7 +21,7 @@ use lib.IntN.{ℤ, pos, negsuc, natAbs, _+ℤ_, _-ℤ_}
 use lib.ListN.{length}
 use lib.Signed.{ltZ}
 use lib.Pow.{pow-pos}
-use lib.Ieee.{Float, nan, inf, fin, binary64, up, down, add, mul, lt, fits}
+use lib.Ieee.{Float, nan, inf, fin, binary64, up, down, mul, lt, fits}
 use lib.Ieee.Fits.{down-pos}
 use lib.Ieee.Scale.{grid}
 use Rattle.rounding.specs.Leaves.{negative, magnitudeOf}

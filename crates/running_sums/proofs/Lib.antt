@@ -4,6 +4,5 @@ pub mod Means
 pub mod Relative
 pub mod Shares
 pub mod Signs
-pub mod Slides
 pub mod Sums
 pub mod Twice

@@ -12,16 +12,14 @@ use lib.Ieee.{Float, binary64, fits}
 use Rattle.rounding.specs.Whole.{total}
 use Rattle.rounding.specs.Nearest.{signedUnits, Number}
 use Rattle.rounding_laws.proofs.Integers.{above, below, Near, near-abs, parts-abs, parts-add, parts-times}
-use Rattle.rounding_laws.proofs.About.{zero-is}
-use Rattle.rounding_laws.proofs.Quotient.{Whole, quotient-zero}
 use Rattle.rounding_laws.proofs.Units.{Worth, worth-number, worth-units}
-use Rattle.cells.specs.Line.{Line, plusZero, Causal}
+use Rattle.cells.specs.Line.{Line, plusZero}
 use Rattle.cells.proofs.Line.{from-bar, before-bar}
 use Rattle.windows.proofs.Window.{mean-of}
 use Rattle.windows.specs.Window.{windowSum, over, mean}
 use Rattle.windows.specs.inner.Runs.{runs}
-use Rattle.windows.proofs.Runs.{causal-runs}
-use Rattle.running_sums.specs.inner.Means.{runMeans}
+use Rattle.sliding_means.specs.inner.Means.{runMeans}
+use Rattle.sliding_means.proofs.Means.{zero-over}
 use Rattle.running_sums.proofs.Relative.{off-near, apart-near, near-apart, size-by, div-off}
 use Rattle.running_sums.proofs.Sums.{
   Small,
@@ -152,12 +150,6 @@ module _ {m n l : ℕ} {f : Line} (w : Windowed m n l f) (B : l ≤ 65536) where
       let r = running w (i + 1 - n) (omega arith) (omega arith) in
       rw (from-bar (n - 1) plusZero _ i (omega arith)) (rw bar at r)
 
--- 0.0 / n
-pub zero-over : (n : ℕ) → 0 < n → n ≤ 4096 → over n plusZero ≡ plusZero
-zero-over n N M =
-    let whole : Whole binary64 (pos 0) n = record { some = N; size = omega arith; divisor = omega arith } in
-    rw zero-is at (quotient-zero whole)
-
 -- before the first whole window a running sum and a mean are 0.0
 before : (n i : ℕ) (g h : Line) → i < n - 1 → (runs n h i ≡ plusZero) × (mean n g i ≡ plusZero)
 unfolding runs mean
@@ -210,8 +202,3 @@ module _ {m n l : ℕ} {g h : Line} (w : Windowed m n l g) (v : Windowed m n l h
       at-every-bar (λ x y. natAbs (signedUnits binary64 x -ℤ signedUnits binary64 y) * 2 ^ 53 ≤ spread m d) n i g h
       (w .some) (w .narrow) (rw zero-units (omega arith))
       (λ b. average-near w v d D i (run-carried v B i b H) b H (omega arith))
-
--- ---- no look-ahead
-
-pub causal-run-means : (n : ℕ) → 0 < n → Causal (runMeans n)
-causal-run-means n N f g b s = ap (over n) (causal-runs n N f g b s)

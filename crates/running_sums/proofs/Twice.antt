@@ -9,20 +9,20 @@ use lib.Dec.{T}
 use lib.IntN.{ℤ, natAbs, _-ℤ_}
 use lib.ListN.{length}
 use lib.Ieee.{Float, binary64, sub, lt, eq, fits}
-use Rattle.rounding.specs.Leaves.{magnitudeOf, signOf}
-use Rattle.rounding.specs.Nearest.{inUnits, signedUnits, Number}
+use Rattle.rounding.specs.Leaves.{signOf}
+use Rattle.rounding.specs.Nearest.{inUnits, signedUnits}
 use Rattle.rounding_laws.proofs.Integers.{abs-near}
 use Rattle.limits.specs.Limits.{Window, longestSeries}
 use Rattle.values.specs.Accepted.{accepted, all}
 use Rattle.values.proofs.All.{and-parts}
 use Rattle.cells.specs.Line.{line, plusZero}
 use Rattle.windows.specs.Window.{mean}
-use Rattle.running_sums.specs.inner.Means.{runMeans}
+use Rattle.sliding_means.specs.inner.Means.{runMeans}
 use Rattle.running_sums.specs.inner.Margin.{largestOf, marginOf, far}
 use Rattle.running_sums.proofs.Relative.{roof}
-use Rattle.running_sums.proofs.Sums.{Small, Windowed}
+use Rattle.running_sums.proofs.Sums.{Windowed}
 use Rattle.running_sums.proofs.Means.{spread, run-means-small, means-small, run-means-near}
-use Rattle.running_sums.proofs.Signs.{Margin, near-sign, near-some}
+use Rattle.running_sums.proofs.Signs.{near-sign, near-some}
 use Rattle.running_sums.proofs.Bound.{Largest, largest-is, room-for, margin-wide}
 
 -- twice the error of both averagings is less than the margin

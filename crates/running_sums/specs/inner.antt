@@ -1,3 +1,2 @@
 -- What the stages that use running sums ask and promise.
 pub mod Margin
-pub mod Means

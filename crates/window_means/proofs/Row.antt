@@ -1,8 +1,8 @@
 -- The means of one row of a slice, in another row of it: how they are written, and how they are read. Assumes nothing.
 use mathlib.Core.Path.{_≡_, refl, sym, ap, _∙_}
 use mathlib.Core.Bool.{Bool, true, false, not}
-use mathlib.Core.List.{List, [], _∷_}
-use Prim.Native.Nat.{ℕ, zero, suc, _+_, _-_, _<_, _≤_, zero-le, suc-le-suc}
+use mathlib.Core.List.{List}
+use Prim.Native.Nat.{ℕ, zero, suc, _+_, _-_, _<_, _≤_}
 use native.Mathlib.Nat.{add-zero, zero-add}
 use native.Mathlib.Omega.{arith}
 use borrow.Author.Tests.{le-leb, lt-leb}
@@ -11,13 +11,14 @@ use lib.ListN.{length}
 use lib.Ieee.{Float, nan}
 use Rattle.cells.specs.Line.{Line, line, plusZero, minusZero}
 use Rattle.cells.proofs.Line.{from-bar}
-use Rattle.cells.specs.Written.{written, Writing}
+use Rattle.cells.specs.Written.{Writing}
 use Rattle.cells.proofs.Written.{read-back, writing-same, then-written}
 use Rattle.windows.specs.declared.Lanes.{Lanes}
 use Rattle.windows.specs.declared.Sixteen.{Sixteen}
 use Rattle.windows.specs.inner.Eight.{Eight, SixteenOf}
 use Rattle.windows.specs.Window.{over, sumFrom, windowSum, mean}
 use Rattle.windows.proofs.Window.{causal-mean}
+use Rattle.sliding_means.proofs.Means.{stood}
 use Rattle.window_means.specs.inner.Row.{rowAt, meansOfRow, RowRoom, RowReached, RowHolds}
 
 -- ---- a window of a row is one of the slice
@@ -48,20 +49,10 @@ module _ (from to n first : ℕ) (old : List Float) where
       let l : to + first ≤ to + i = omega arith in
       rw (le-leb (to + first) (to + i) l, bar)
 
--- what a slice holds, written on itself
-as-it-is : (k : ℕ) (f : Line) (s : List Float) → ((i : ℕ) → i < k → f i ≡ line s i) → written k f s ≡ s
-as-it-is zero f s h = refl
-as-it-is (suc k) f [] h = refl
-as-it-is (suc k) f (x ∷ s) h =
-    rw (h 0 (suc-le-suc zero-le), as-it-is k (λ i. f (suc i)) s (λ i l. h (suc i) (suc-le-suc l)))
-
 -- no mean is written yet
 pub none-of-row : (from to n first : ℕ) (old : List Float)
     → Writing (to + first) (meansOfRow from to n first old) old old
-none-of-row from to n first old = record {
-  is = sym (as-it-is (to + first) (meansOfRow from to n first old) old (row-before from to n first old));
-  long = refl;
-}
+none-of-row from to n first old = stood (row-before from to n first old)
 
 module _ {from to bars n first e : ℕ} {old now : List Float} (g : RowRoom from to bars n first (length old))
     (w : Writing e (meansOfRow from to n first old) old now) (r : to ≤ e) where

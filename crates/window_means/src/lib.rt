@@ -90,7 +90,7 @@ pub fn write_means_of_ticks(series: &[f64], n: usize, means: &mut [f64])
     ensures { λ _. ⌜ Writing (length (now (series .entry))) (mean n (line (now (series .entry)))) (now (means .entry))
         (now (means .exit)) ⌝ }
 {
-    running_sums::write_means(series, n, means);
+    sliding_means::write_means(series, n, means);
 }
 
 // Whether it pays to know that the prices are whole ticks, and they are: where the window is long, running sums are

@@ -2,35 +2,31 @@
 use mathlib.Core.Path.{_∙_}
 use native.Mathlib.Omega.{arith}
 use borrow.Author.Needs.{needs}
-use denote.Ref.{now}
 use lib.ListN.{length-set}
-use Rattle.cells.proofs.Written.{stands, then-written}
-use Rattle.windows.proofs.Window.{first-running, count-is-float}
-use Rattle.averages.proofs.Stages.{first-mean}
+use Rattle.windows.proofs.Window.{count-is-float}
+use Rattle.sliding_means.proofs.Means.{led-means}
+use Rattle.averages.specs.Sma.{smaLine}
 use Rattle.averages.proofs.write_means.Statement.{statement}
 use Rattle.averages.proofs.write_means.Tie as tie
 
 slide-means-requires : tie.Need-slide-means-requires
 slide-means-requires c κs =
-    let at-lead = c .before .before .before .before in
-    let start = at-lead .before .before .before .before in
-    let a = start .args in
+    let start = c .before .before .before .before .before .before .before .before in
     record {
-      window = search needs;
-      inside = omega arith;
+      window = start .pre .window;
+      inside = start .pre .inside;
       room = simp length-set (omega arith);
-      cells = stands (first-mean (now (a .series)) (a .n) (at-lead .fill-nan .ensures) (start .pre .is) (omega arith));
-      running = first-running _ (start .pre .is) (omega arith);
+      is = start .pre .is;
     }
 
 returns : tie.Need-returns
+unfolding smaLine
 returns c =
     let at-slide = c .before .before in
     let at-lead = at-slide .before .before .before .before .before in
     let start = at-lead .before .before .before .before in
-    let a = start .args in
-    then-written (first-mean (now (a .series)) (a .n) (at-lead .fill-nan .ensures) (start .pre .is) (omega arith))
-    (at-slide .slide-means .ensures) (omega arith)
+    led-means _ (at-lead .fill-nan .ensures) (start .pre .window) (start .pre .is) (at-slide .slide-means .ensures)
+    (omega arith)
 
 pub write-means-spec : {M : Type 1} → statement M
 write-means-spec =

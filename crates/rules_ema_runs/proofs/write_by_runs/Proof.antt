@@ -10,8 +10,8 @@ use denote.Ref.{now}
 use Rattle.cells.specs.Line.{line}
 use Rattle.cells.proofs.Parts.{part-long}
 use Rattle.cells.proofs.Touched.{untouched, touched, touched-more}
-use Rattle.running_sums.specs.inner.Means.{runMeans}
-use Rattle.running_sums.proofs.Means.{causal-run-means}
+use Rattle.sliding_means.specs.inner.Means.{runMeans}
+use Rattle.sliding_means.proofs.Means.{causal-run-means}
 use Rattle.rules_ema_runs.proofs.SingleEma.{seed-of}
 use Rattle.rules_ema_runs.proofs.Head.{head-long, head-cells, early-line}
 use Rattle.rules_ema_runs.proofs.Runs.{first-run-mean, then-tried, not-tried}

@@ -10,7 +10,7 @@ use Rattle.cells.specs.inner.Touched.{Touched}
 use Rattle.work_rows.specs.inner.Finished.{Finished}
 use Rattle.checks.specs.inner.Due.{Priced}
 use Rattle.windows.specs.Window.{mean}
-use Rattle.running_sums.specs.inner.Means.{runMeans}
+use Rattle.sliding_means.specs.inner.Means.{runMeans}
 use Rattle.running_sums.specs.inner.Margin.{largestOf, marginOf}
 
 -- s are accepted prices, the average begins at bar `start` with the mean of the means by running sums, and d is the

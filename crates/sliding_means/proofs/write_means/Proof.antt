@@ -2,32 +2,23 @@
 use mathlib.Core.Path.{_∙_}
 use native.Mathlib.Omega.{arith}
 use borrow.Author.Needs.{needs}
-use denote.Ref.{now}
 use lib.ListN.{length-set}
 use lib.Ieee.{ofBits}
-use Rattle.cells.specs.Line.{line}
-use Rattle.cells.proofs.Written.{stands, then-written, ends}
-use Rattle.windows.proofs.Window.{first-running, count-is-float}
-use Rattle.running_sums.proofs.Slides.{lead-means, first-means}
-use Rattle.running_sums.proofs.write_means.Statement.{statement}
-use Rattle.running_sums.proofs.write_means.Tie as tie
+use Rattle.cells.proofs.Leads.{lead-only}
+use Rattle.windows.proofs.Window.{count-is-float}
+use Rattle.sliding_means.proofs.Means.{led-means, run-means}
+use Rattle.sliding_means.proofs.write_means.Statement.{statement}
+use Rattle.sliding_means.proofs.write_means.Tie as tie
 
 slide-means-requires : tie.Need-slide-means-requires
-unfolding ofBits
 slide-means-requires c κs =
     let at-sum = c .before .before in
-    let at-lead = at-sum .before .before .before .before in
-    let start = at-lead .before .before .before .before in
-    let f = line (now (start .args .series)) in
-    let lead = at-lead .fill-lead .ensures in
-    let sum = at-sum .sum-at .ensures in
+    let start = at-sum .before .before .before .before .before .before .before .before in
     record {
       window = start .pre .window;
       inside = omega arith;
       room = simp length-set (omega arith);
-      cells =
-          stands (first-means f (start .pre .window) lead sum (omega arith));
-      running = first-running _ sum (omega arith);
+      is = at-sum .sum-at .ensures;
     }
 
 returns : tie.Need-returns
@@ -37,19 +28,16 @@ returns c =
     let at-sum = at-slide .before .before .before in
     let at-lead = at-sum .before .before .before .before in
     let start = at-lead .before .before .before .before in
-    let f = line (now (start .args .series)) in
-    let lead = at-lead .fill-lead .ensures in
-    let sum = at-sum .sum-at .ensures in
-    then-written (first-means f (start .pre .window) lead sum (omega arith))
-    (at-slide .slide-means .ensures) (omega arith)
+    run-means _ (start .pre .window)
+    (led-means _ (at-lead .fill-lead .ensures) (start .pre .window) (at-sum .sum-at .ensures)
+    (at-slide .slide-means .ensures) (omega arith))
 
 returns-2 : tie.Need-returns-2
 unfolding ofBits
 returns-2 c =
     let at-lead = c .before .before .before in
     let start = at-lead .before .before .before .before in
-    let f = line (now (start .args .series)) in
-    ends (lead-means f (start .pre .window) (at-lead .fill-lead .ensures)) (omega arith)
+    run-means _ (start .pre .window) (lead-only (at-lead .fill-lead .ensures) _ (omega arith))
 
 pub write-means-spec : {M : Type 1} → statement M
 write-means-spec =

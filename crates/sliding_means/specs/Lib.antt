@@ -1,0 +1,2 @@
+-- Means by running sums of any prices.
+pub mod inner

@@ -1,0 +1,2 @@
+-- What the functions that write running means ask and promise.
+pub mod Means
