@@ -100,6 +100,18 @@ pub writing-same : {A : Type 0} {k : ℕ} {f g : ℕ → A} {old now : List A} �
     → ((i : ℕ) → i < k → f i ≡ g i) → Writing k g old now
 writing-same {k = k} {f} {g} {old} w h = record { is = w .is ∙ written-same k f g old h; long = w .long }
 
+as-it-is : {A : Type 0} (k : ℕ) (f : ℕ → A) (d : A) (s : List A) → ((i : ℕ) → i < k → f i ≡ getD s i d)
+    → written k f s ≡ s
+as-it-is zero f d s h = refl
+as-it-is (suc k) f d [] h = refl
+as-it-is (suc k) f d (x ∷ s) h =
+    rw (h 0 (suc-le-suc zero-le), as-it-is k (λ i. f (suc i)) d s (λ i l. h (suc i) (suc-le-suc l)))
+
+-- what a slice holds, written on itself
+pub stood : {A : Type 0} {k : ℕ} {f : ℕ → A} {s : List A} (d : A) → ((i : ℕ) → i < k → f i ≡ getD s i d)
+    → Writing k f s s
+stood {k = k} {f} {s} d h = record { is = sym (as-it-is k f d s h); long = refl }
+
 -- a writing of as many cells or more, on top of another
 pub then-written : {A : Type 0} {j k : ℕ} {f g : ℕ → A} {old mid now : List A}
     → Writing j f old mid → Writing k g mid now → j ≤ k → Writing k g old now

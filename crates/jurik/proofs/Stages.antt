@@ -22,7 +22,7 @@ use Rattle.checks.proofs.Passed.{one-passed, one-clearable}
 use Rattle.cells.specs.Line.{Line, line, plusZero, Causal}
 use Rattle.cells.specs.Written.{Writing, written}
 use Rattle.cells.proofs.Line.{before-bar, from-bar}
-use Rattle.cells.proofs.Written.{read-back, writing-same, then-written}
+use Rattle.cells.proofs.Written.{read-back, writing-same, then-written, stood}
 use Rattle.rounding.specs.Leaves.{magnitudeOf}
 use Rattle.changes.specs.Changes.{earlier, change}
 use Rattle.jurik_bar.specs.Jurik.{copied, isNumber, swings, leaned, jurikAnswer}
@@ -65,15 +65,8 @@ copied-numbers f i = go (f i)
     go (inf s) = refl
     go (fin s m e) = refl
 
-own-cells : (k : ℕ) (s : List Float) → s ≡ written k (line s) s
-own-cells zero s = refl
-own-cells (suc k) [] = refl
-own-cells (suc k) (x ∷ s) = ap (λ (t : List Float). x ∷ t) (own-cells k s)
-
 pub copied-stands : (k : ℕ) (s : List Float) → Writing k (copied isNumber nan (line s)) s s
-copied-stands k s =
-    let own : Writing k (line s) s s = record { is = own-cells k s; long = refl } in
-    writing-same own (λ i h. copied-numbers (line s) i)
+copied-stands k s = stood nan (λ i h. sym (copied-numbers (line s) i))
 
 -- ---- one stage after the other
 

@@ -161,7 +161,7 @@ at-every-bar : (P : Float → Float → Type 0) (n i : ℕ) (g h : Line) → 0 <
 at-every-bar P n i g h N M z a = go (ltb i (n - 1)) (ltb→lt i (n - 1)) (nltb→le i (n - 1))
   where
     go : (t : Bool) → (T t → i < n - 1) → (T (not t) → n - 1 ≤ i) → P (over n (runs n h i)) (mean n g i)
-    go true p q = let zero = before n i g h (p tt) in rw (zero .0, zero .1, zero-over n N M) z
+    go true p q = let zero = before n i g h (p tt) in rw (zero .0, zero .1, zero-over n N (omega arith)) z
     go false p q =
         let l = q tt in
         let full : n ≤ i + 1 = omega arith in

@@ -1,8 +1,8 @@
 -- Means by running sums: how they are written, and no look-ahead. Assumes nothing.
 use mathlib.Core.Path.{_≡_, refl, sym, ap, _∙_}
 use mathlib.Core.Bool.{Bool, true, false, not}
-use mathlib.Core.List.{List, [], _∷_}
-use Prim.Native.Nat.{ℕ, zero, suc, _+_, _-_, _<_, _≤_, zero-le, suc-le-suc}
+use mathlib.Core.List.{List}
+use Prim.Native.Nat.{ℕ, _+_, _-_, _^_, _<_, _≤_}
 use native.Mathlib.Omega.{arith}
 use borrow.Author.Tests.{le-leb, lt-leb}
 use lib.Dec.{T, ltb, ltb→lt, nltb→le}
@@ -13,8 +13,8 @@ use Rattle.rounding_laws.proofs.About.{zero-is}
 use Rattle.rounding_laws.proofs.Quotient.{Whole, quotient-zero}
 use Rattle.cells.specs.Line.{Line, line, plusZero, fromBar, Causal}
 use Rattle.cells.proofs.Line.{from-bar, before-bar}
-use Rattle.cells.specs.Written.{written, Writing}
-use Rattle.cells.proofs.Written.{writing-same, step, then-written, read-back}
+use Rattle.cells.specs.Written.{Writing}
+use Rattle.cells.proofs.Written.{writing-same, stood, step, then-written, read-back}
 use Rattle.cells.specs.inner.Leads.{Led}
 use Rattle.cells.proofs.Leads.{lead-stands}
 use Rattle.limits.specs.Limits.{Window}
@@ -27,16 +27,6 @@ use Rattle.sliding_means.specs.inner.Means.{runningMean, onFrom, runMean
 
 -- ---- a line from a bar on, beside what stood there
 
-as-it-is : (k : ℕ) (f : Line) (s : List Float) → ((i : ℕ) → i < k → f i ≡ line s i) → written k f s ≡ s
-as-it-is zero f s h = refl
-as-it-is (suc k) f [] h = refl
-as-it-is (suc k) f (x ∷ s) h =
-    rw (h 0 (suc-le-suc zero-le), as-it-is k (λ i. f (suc i)) s (λ i l. h (suc i) (suc-le-suc l)))
-
--- what a slice holds, written on itself
-pub stood : {k : ℕ} {f : Line} {s : List Float} → ((i : ℕ) → i < k → f i ≡ line s i) → Writing k f s s
-stood {k} {f} {s} h = record { is = sym (as-it-is k f s h); long = refl }
-
 module _ (b : ℕ) (f : Line) (old : List Float) where
   on-before : (i : ℕ) → i < b → onFrom b f old i ≡ line old i
   unfolding onFrom
@@ -48,7 +38,7 @@ module _ (b : ℕ) (f : Line) (old : List Float) where
 
   -- nothing is written yet
   pub none-on : Writing b (onFrom b f old) old old
-  none-on = stood on-before
+  none-on = stood nan on-before
 
 -- the first b cells of g, and its other cells after them
 goes-on : {b k : ℕ} (f : Line) {g : Line} {old mid now : List Float} → Writing b g old mid
@@ -90,9 +80,9 @@ led-means {n} {d = d} f led w e v (p, q) =
 -- ---- with a lead of 0.0
 
 -- 0.0 / n
-pub zero-over : (n : ℕ) → 0 < n → n ≤ 4096 → over n plusZero ≡ plusZero
+pub zero-over : (n : ℕ) → 0 < n → n ≤ 2 ^ 53 → over n plusZero ≡ plusZero
 zero-over n N M =
-    let whole : Whole binary64 (pos 0) n = record { some = N; size = omega arith; divisor = omega arith } in
+    let whole : Whole binary64 (pos 0) n = record { some = N; size = omega arith; divisor = M } in
     rw zero-is at (quotient-zero whole)
 
 -- a lead of 0.0 has the means of a running sum that is 0.0 before bar n - 1
@@ -105,7 +95,7 @@ run-means {n} f w v = writing-same v (λ i l. same i (ltb i (n - 1)) (ltb→lt i
         → fromBar (n - 1) plusZero (runningMean n f) i ≡ runMeans n f i
     same i true x y =
         rw (before-bar (n - 1) plusZero (runningMean n f) i (x tt), before-bar (n - 1) plusZero _ i (x tt))
-        (sym (zero-over n (w .some) (w .narrow)))
+        (sym (zero-over n (w .some) (omega (arith, w .narrow))))
     same i false x y =
         rw (from-bar (n - 1) plusZero (runningMean n f) i (y tt), from-bar (n - 1) plusZero _ i (y tt)) refl
 

@@ -12,13 +12,12 @@ use lib.Ieee.{Float, nan}
 use Rattle.cells.specs.Line.{Line, line, plusZero, minusZero}
 use Rattle.cells.proofs.Line.{from-bar}
 use Rattle.cells.specs.Written.{Writing}
-use Rattle.cells.proofs.Written.{read-back, writing-same, then-written}
+use Rattle.cells.proofs.Written.{read-back, writing-same, then-written, stood}
 use Rattle.windows.specs.declared.Lanes.{Lanes}
 use Rattle.windows.specs.declared.Sixteen.{Sixteen}
 use Rattle.windows.specs.inner.Eight.{Eight, SixteenOf}
 use Rattle.windows.specs.Window.{over, sumFrom, windowSum, mean}
 use Rattle.windows.proofs.Window.{causal-mean}
-use Rattle.sliding_means.proofs.Means.{stood}
 use Rattle.window_means.specs.inner.Row.{rowAt, meansOfRow, RowRoom, RowReached, RowHolds}
 
 -- ---- a window of a row is one of the slice
@@ -52,7 +51,7 @@ module _ (from to n first : ℕ) (old : List Float) where
 -- no mean is written yet
 pub none-of-row : (from to n first : ℕ) (old : List Float)
     → Writing (to + first) (meansOfRow from to n first old) old old
-none-of-row from to n first old = stood (row-before from to n first old)
+none-of-row from to n first old = stood nan (row-before from to n first old)
 
 module _ {from to bars n first e : ℕ} {old now : List Float} (g : RowRoom from to bars n first (length old))
     (w : Writing e (meansOfRow from to n first old) old now) (r : to ≤ e) where

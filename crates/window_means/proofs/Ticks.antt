@@ -30,7 +30,7 @@ run-mean s n i floats ticks window l = go (ltb i (n - 1)) (ltb→lt i (n - 1)) (
   where
     go : (t : Bool) → (T t → i < n - 1) → (T (not t) → n - 1 ≤ i) → runMeans n (line s) i ≡ mean n (line s) i
     go true p q = rw (before-bar (n - 1) plusZero _ i (p tt), before-bar (n - 1) plusZero _ i (p tt))
-        (zero-over n (window .some) (window .narrow))
+        (zero-over n (window .some) (omega (arith, window .narrow)))
     go false p q =
         let w = tick-line s (λ j l. floats j) ticks in
         let h = q tt in

@@ -1,5 +1,5 @@
 -- A work slice that is cleared while its last row is in use, bar by bar. Assumes nothing.
-use mathlib.Core.Path.{_≡_, refl, ap, _∙_}
+use mathlib.Core.Path.{_≡_, refl, sym, ap, _∙_}
 use mathlib.Core.Logic.{⊎-elim}
 use mathlib.Core.Bool.{Bool, true, false}
 use mathlib.Core.List.{List, [], _∷_, _++_}
@@ -15,7 +15,7 @@ use Rattle.cells.specs.Line.{Line, line, plusZero}
 use Rattle.cells.specs.Written.{written, Writing}
 use Rattle.cells.specs.inner.Touched.{Touched}
 use Rattle.cells.specs.inner.Rows.{beside}
-use Rattle.cells.proofs.Written.{none-written, one-more, step, read-back, ends, stands, writing-same}
+use Rattle.cells.proofs.Written.{none-written, one-more, step, read-back, ends, stands, stood, writing-same}
 use Rattle.cells.proofs.Leads.{not-yet}
 use Rattle.cells.proofs.Rows.{beside-first, beside-second, lent-on}
 use Rattle.cells.proofs.Touched.{untouched, touched, touched-then, touched-more, written-over-all}
@@ -106,32 +106,19 @@ scratch-same s h = record { cleared = s .cleared; row = λ j b. s .row j b ∙ h
 
 -- ---- a slice by its cells
 
-module _ {A : Type 0} where
-  -- cells that are those of f
-  stood : (k : ℕ) (f : ℕ → A) (d : A) (s : List A) → k ≤ length s → ((i : ℕ) → i < k → getD s i d ≡ f i)
-      → s ≡ written k f s
-  stood zero f d s l h = refl
-  stood (suc k) f d [] l h = absurd (not-suc-le-zero l)
-  stood (suc k) f d (x ∷ s) l h =
-      let rest = stood k (λ i. f (suc i)) d s (le-of-suc-le-suc l) (λ i b. h (suc i) (suc-le-suc b)) in
-      rw (← h 0 (suc-le-suc zero-le)) (ap (λ (t : List A). x ∷ t) rest)
-
-holds : {k : ℕ} {f : Line} (s : List Float) → k ≤ length s → ((i : ℕ) → i < k → line s i ≡ f i) → Writing k f s s
-holds {k} {f} s l h = record { is = stood k f nan s l h; long = refl }
-
 -- the first k bars are cleared, in the last row too
 pub bars-cleared : {l k : ℕ} {old mid part : List Float} → Writing (7 * k) (λ i. plusZero) old mid
     → Writing k (λ i. plusZero) (take (length mid - 7 * l) (drop (7 * l) mid)) part → (k ≤ l) × (8 * l ≤ length mid)
     → Scratch l k (λ i. plusZero) old (take (7 * l) mid ++ (part ++ drop (length mid - 7 * l) (drop (7 * l) mid)))
 bars-cleared {l} {k} {old} {mid} {part} v w (h, room) =
     let now = take (7 * l) mid ++ (part ++ drop (length mid - 7 * l) (drop (7 * l) mid)) in
-    let own : Writing (7 * l) (line mid) mid mid = holds mid (omega arith) (λ i b. refl) in
+    let own : Writing (7 * l) (line mid) mid mid = stood nan (λ i b. refl) in
     let all = lent-on own w (omega arith) in
     let first : (i : ℕ) → i < 7 * k → line now i ≡ plusZero =
     λ i b. read-back i nan all (omega arith) ∙ beside-first (7 * l) _ _ i (omega arith)
     ∙ read-back i nan v (omega (arith, v .long)) in
     record {
-      cleared = holds now (omega (arith, all .long)) first;
+      cleared = stood nan (λ i b. sym (first i b));
       row = λ j b. read-back (7 * l + j) nan all (omega arith) ∙ beside-second (7 * l) _ _ j;
       rest = touched-then (touched-more (touched v) (omega arith)) (touched-more (touched all) (omega arith));
     }
@@ -139,7 +126,7 @@ bars-cleared {l} {k} {old} {mid} {part} v w (h, room) =
 -- all bars
 pub all-cleared : {l : ℕ} {old now : List Float} → Scratch l l (λ i. plusZero) old now → 8 * l ≤ length now
     → Writing (8 * l) (λ i. plusZero) old now
-all-cleared {l} {now = now} s room = written-over-all (s .rest) (holds now room each)
+all-cleared {l} {now = now} s room = written-over-all (s .rest) (stood nan (λ i b. sym (each i b)))
   where
     each : (i : ℕ) → i < 8 * l → line now i ≡ plusZero
     each i b = go (ltb i (7 * l)) refl
