@@ -104,7 +104,7 @@ pub scratch-same : {l k : ℕ} {f g : Line} {old now : List Float} → Scratch l
     → ((i : ℕ) → i < k → f i ≡ g i) → Scratch l k g old now
 scratch-same s h = record { cleared = s .cleared; row = λ j b. s .row j b ∙ h j b; rest = s .rest }
 
--- ---- a slice by its cells
+-- ---- a cleared slice
 
 -- the first k bars are cleared, in the last row too
 pub bars-cleared : {l k : ℕ} {old mid part : List Float} → Writing (7 * k) (λ i. plusZero) old mid
