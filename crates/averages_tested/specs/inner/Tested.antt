@@ -10,7 +10,7 @@ use Rattle.values.specs.Accepted.{accepted, all}
 use Rattle.cells.specs.Line.{line}
 use Rattle.windows.specs.Window.{windowSum}
 use Rattle.averages.specs.declared.Pass.{Pass}
-use Rattle.averages_exponential.specs.inner.Blending.{Middle}
+use Rattle.averages_blend.specs.inner.Blending.{Middle}
 
 -- no bit is set where all prices are accepted
 pub record Fair (s : List Float) (b : ℕ) : Type 0 where

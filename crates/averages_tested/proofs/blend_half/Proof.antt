@@ -17,10 +17,10 @@ use Rattle.values.proofs.Quick.{
   none-of-one,
   none-with,
 }
-use Rattle.averages_exponential.specs.inner.Blending.{Blending}
-use Rattle.averages_exponential.proofs.Blending.{seeded, next-blended, at-bar}
-use Rattle.averages_exponential.proofs.blend_half.Statement.{statement}
-use Rattle.averages_exponential.proofs.blend_half.Tie as tie
+use Rattle.averages_blend.specs.inner.Blending.{Blending}
+use Rattle.averages_blend.proofs.Blending.{seeded, next-blended, at-bar}
+use Rattle.averages_tested.proofs.blend_half.Statement.{statement}
+use Rattle.averages_tested.proofs.blend_half.Tie as tie
 
 abbrev Inv-loop : tie.InvT-loop
 Inv-loop series alpha first half low high together₀ last₀ i₀ together last i =

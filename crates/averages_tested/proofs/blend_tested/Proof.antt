@@ -4,10 +4,10 @@ use native.Mathlib.Omega.{arith}
 use borrow.Author.Needs.{needs}
 use lib.ListN.{length}
 use Rattle.cells.specs.Line.{line}
-use Rattle.averages_exponential.specs.inner.Blending.{Blending}
-use Rattle.averages_exponential.specs.inner.Tested.{Fair, Clean}
-use Rattle.averages_exponential.proofs.Blending.{seeded, next-blended, at-bar}
-use Rattle.averages_exponential.proofs.Tested.{
+use Rattle.averages_blend.specs.inner.Blending.{Blending}
+use Rattle.averages_tested.specs.inner.Tested.{Fair, Clean}
+use Rattle.averages_blend.proofs.Blending.{seeded, next-blended, at-bar}
+use Rattle.averages_tested.proofs.Tested.{
   fair-with,
   clean-none,
   clean-first,
@@ -18,8 +18,8 @@ use Rattle.averages_exponential.proofs.Tested.{
   clean-with,
   all-clean,
 }
-use Rattle.averages_exponential.proofs.blend_tested.Statement.{statement}
-use Rattle.averages_exponential.proofs.blend_tested.Tie as tie
+use Rattle.averages_tested.proofs.blend_tested.Statement.{statement}
+use Rattle.averages_tested.proofs.blend_tested.Tie as tie
 
 abbrev Inv-loop : tie.InvT-loop
 Inv-loop series alpha first half low high bits₀ last₀ i₀ bits last i =

@@ -13,7 +13,7 @@ use lib.Ieee.{Float, nan}
 use Rattle.values.specs.Accepted.{accepted, all}
 use Rattle.values.proofs.All.{all-at}
 use Rattle.values.proofs.Quick.{or-first, or-second}
-use Rattle.averages_exponential.specs.inner.Tested.{Fair, Clean}
+use Rattle.averages_tested.specs.inner.Tested.{Fair, Clean}
 
 all-of : (p : Float → Bool) (s : List Float) → ((i : ℕ) → i < length s → p (getD s i nan) ≡ true) → all p s ≡ true
 all-of p [] h = refl

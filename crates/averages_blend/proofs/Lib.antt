@@ -1,0 +1,2 @@
+pub mod Blending
+pub mod Halves
