@@ -13,7 +13,8 @@ use lib.Ieee.{Float, nan}
 use Rattle.values.specs.Accepted.{accepted, all}
 use Rattle.values.proofs.All.{all-at}
 use Rattle.values.proofs.Quick.{or-first, or-second}
-use Rattle.averages_tested.specs.inner.Tested.{Fair, Clean}
+use Rattle.averages_tested.specs.inner.Tested.{Fair, Clear, Clean}
+use Rattle.averages_tested.proofs.Reached.{Each, Kept, one-more}
 
 all-of : (p : Float → Bool) (s : List Float) → ((i : ℕ) → i < length s → p (getD s i nan) ≡ true) → all p s ≡ true
 all-of p [] h = refl
@@ -34,46 +35,44 @@ module _ {s : List Float} where
   pub fair-with : {b : ℕ} (c k : ℕ) → Fair s b → eqb c 0 ≡ accepted (getD s k nan) → k < length s → Fair s (bitOr b c)
   fair-with {b} c k f e l = record { none = λ h. or-none b c (f .none h) (fair-one c k e l .none h) }
 
-  pub clean-none : {b a k : ℕ} → k ≤ a → Clean s b a k
-  clean-none h = record { each = λ z i p q. absurd (omega arith) }
-
-  -- bits are added
-  pub clean-first : {b a k : ℕ} (c : ℕ) → Clean s b a k → Clean s (bitOr b c) a k
-  clean-first {b} c n = record { each = λ z. n .each (omega (arith, or-first b c)) }
-
-  pub clean-second : {c a k : ℕ} (b : ℕ) → Clean s c a k → Clean s (bitOr b c) a k
-  clean-second {c} b n = record { each = λ z. n .each (omega (arith, or-second b c)) }
+  -- a bit that is set stays
+  pub clear-kept : Kept (Clear s)
+  clear-kept =
+      record {
+        first = λ {b} c h. record { told = λ z. h .told (omega (arith, or-first b c)) };
+        second = λ {c} b h. record { told = λ z. h .told (omega (arith, or-second b c)) };
+      }
 
   -- the price k alone
+  pub clear-one : {c k : ℕ} → eqb c 0 ≡ accepted (getD s k nan) → Clear s c k
+  clear-one e = record { told = λ z. sym e ∙ rw z refl }
+
+  pub clean-none : {b a k : ℕ} → k ≤ a → Clean s b a k
+  clean-none h = record { each = λ i p q. absurd (omega arith) }
+
   pub clean-one : (c k : ℕ) → eqb c 0 ≡ accepted (getD s k nan) → Clean s c k (k + 1)
-  clean-one c k e = record { each = λ z i p q. go z i (omega arith) }
-    where
-      go : c ≡ 0 → (i : ℕ) → i ≡ k → accepted (getD s i nan) ≡ true
-      go z i h = rw h (sym e ∙ rw z refl)
+  clean-one c k e =
+      record { each = one-more (Clear s c) (k + 1) (λ i p q. absurd (omega arith)) (clear-one e) refl }
 
   -- a part
   pub clean-within : {b a k : ℕ} (m l : ℕ) → Clean s b a k → (a ≤ m) × (l ≤ k) → Clean s b m l
-  clean-within m l n (p, q) = record { each = λ z i g h. n .each z i (omega arith) (omega arith) }
-
-  -- two parts that leave nothing out between them
-  pub clean-joined : {b a k m l : ℕ} → Clean s b a k → Clean s b m l → m ≤ k → Clean s b a l
-  clean-joined {b} {a} {k} {m} {l} u v h = record { each = λ z i p q. go z i p q (ltb i k) refl }
-    where
-      go : b ≡ 0 → (i : ℕ) → a ≤ i → i < l → (t : Bool) → ltb i k ≡ t → accepted (getD s i nan) ≡ true
-      go z i p q true e = u .each z i p (ltb-true _ _ e)
-      go z i p q false e = let g : k ≤ i = ltb-false _ _ e in v .each z i (le-trans h g) q
+  clean-within m l n (p, q) = record { each = λ i g h. n .each i (omega arith) (omega arith) }
 
   -- the next price
   pub clean-with : {b a k : ℕ} (c : ℕ) → Clean s b a k → eqb c 0 ≡ accepted (getD s k nan)
       → Clean s (bitOr b c) a (k + 1)
-  clean-with {b} {a} {k} c n e = clean-joined (clean-first c n) (clean-second b (clean-one c k e)) (omega arith)
+  clean-with {b} {a} {k} c n e =
+      record {
+        each = one-more (Clear s (bitOr b c)) (k + 1) (λ i p q. clear-kept .first c (n .each i p q))
+            (clear-kept .second b (clear-one e)) refl;
+      }
 
-  pub all-clean : {b : ℕ} → Fair s b → Clean s b 0 (length s) → eqb b 0 ≡ all accepted s
+  pub all-clean : {b : ℕ} → Fair s b → Each (Clear s b) 0 (length s) → eqb b 0 ≡ all accepted s
   all-clean {b} f n = go (all accepted s) (eqb b 0) refl refl
     where
       go : (t u : Bool) → all accepted s ≡ t → eqb b 0 ≡ u → eqb b 0 ≡ all accepted s
       go true u p q = rw (f .none p) (sym p)
       go false false p q = q ∙ sym p
       go false true p q =
-          let each = all-of accepted s (λ i l. n .each (eqb-true _ _ q) i zero-le l) in
+          let each = all-of accepted s (λ i l. n i zero-le l .told (eqb-true _ _ q)) in
           absurd (true≢false (sym each ∙ p))

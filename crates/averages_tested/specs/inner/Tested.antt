@@ -16,9 +16,13 @@ use Rattle.averages_blend.specs.inner.Blending.{Middle}
 pub record Fair (s : List Float) (b : ℕ) : Type 0 where
   pub none : all accepted s ≡ true → b ≡ 0
 
+-- where no bit is set, price i is accepted
+pub record Clear (s : List Float) (b i : ℕ) : Type 0 where
+  pub told : b ≡ 0 → accepted (getD s i nan) ≡ true
+
 -- where no bit is set, the prices from index a up to k are accepted
 pub record Clean (s : List Float) (b a k : ℕ) : Type 0 where
-  pub each : b ≡ 0 → (i : ℕ) → a ≤ i → i < k → accepted (getD s i nan) ≡ true
+  pub each : (i : ℕ) → a ≤ i → i < k → Clear s b i
 
 -- the sum of the first n bars, each of which is tested
 pub record TestedSum (s : List Float) (n : ℕ) (r : Pass) : Type 0 where
