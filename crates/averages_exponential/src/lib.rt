@@ -14,7 +14,7 @@ ghost use Rattle.calls.specs.inner.Fits.{Fits};
 ghost use Rattle.cells.specs.Line.{line};
 ghost use Rattle.windows.specs.Window.{mean};
 ghost use Rattle.averages_blend.specs.inner.Blending.{Middle, Smoothing};
-ghost use Rattle.averages_tested.specs.inner.HalfWay.{Seeded};
+ghost use Rattle.averages_blend.specs.inner.HalfWay.{Seeded};
 ghost use Rattle.averages_tested.specs.inner.Tested.{TestedSeed};
 ghost use Rattle.averages_exponential.specs.Ema.{emaAlpha, EmaCall};
 ghost use Rattle.averages_exponential.specs.ExponentialSmoothing.{ExponentialSmoothingCall};
@@ -49,7 +49,7 @@ fn answer_by_bits(series: &[f64], alpha: f64, first: usize, seed: Pass, out: &mu
     ensures { λ r. ⌜ SmoothCall (now (series .entry)) alpha first (seed .value) (now (out .entry)) r
         (now (out .exit)) ⌝ }
 {
-    let half = averages_tested::blend_half(series, alpha, first, seed);
+    let half = averages_blend::blend_half(series, alpha, first, seed);
     let accept = values::accepted_by(half.bits, series);
     answer_tested(series, alpha, first, seed.value, half.value, accept, out)
 }

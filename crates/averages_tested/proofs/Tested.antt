@@ -14,7 +14,7 @@ use Rattle.values.specs.Accepted.{accepted, all}
 use Rattle.values.proofs.All.{all-at}
 use Rattle.values.proofs.Quick.{or-first, or-second}
 use Rattle.averages_tested.specs.inner.Tested.{Fair, Clear, Clean}
-use Rattle.averages_tested.proofs.Reached.{Each, Kept, one-more}
+use Rattle.averages_blend.proofs.Reached.{Each, Kept, one-more}
 
 all-of : (p : Float → Bool) (s : List Float) → ((i : ℕ) → i < length s → p (getD s i nan) ≡ true) → all p s ≡ true
 all-of p [] h = refl

@@ -1,2 +1,2 @@
--- The cell half way of an exponential average, and the test of its prices.
+-- The prices of an exponential average, tested one by one.
 pub mod inner

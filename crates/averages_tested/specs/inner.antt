@@ -1,3 +1,2 @@
 -- What the functions under the exponential averages ask of each other.
-pub mod HalfWay
 pub mod Tested

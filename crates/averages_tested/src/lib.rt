@@ -1,4 +1,4 @@
-// The cell half way of an exponential average, found while the prices are tested.
+// The prices of an exponential average tested one by one, while its seed is summed and its first half is blended.
 use averages::Pass;
 use limits::LARGEST_VALUE;
 ghost use mathlib.Core.Path.{_≡_};
@@ -6,29 +6,7 @@ ghost use Prim.Native.Nat.{_<_, _≤_};
 ghost use lib.Dec.{eqb};
 ghost use lib.ListN.{length};
 ghost use Rattle.values.specs.Accepted.{accepted};
-ghost use Rattle.averages_tested.specs.inner.HalfWay.{Seeded, HalfWay};
 ghost use Rattle.averages_tested.specs.inner.Tested.{TestedSum, TestedSeed, TestedHalf};
-
-// The cell half way through the bars after the seed, and the bits of all prices. A cell waits for the one before it,
-// and the bits are gathered meanwhile.
-pub fn blend_half(series: &[f64], alpha: f64, first: usize, seed: Pass) -> Pass
-    requires { ⌜ Seeded (now series) first (seed .bits) ⌝ }
-    ensures { λ r. ⌜ HalfWay (now (series .entry)) alpha first (seed .value) r ⌝ }
-{
-    let half = (series.len() - first - 1) / 2;
-    let low = first + 1;
-    let high = low + half;
-    let mut bits = seed.bits | f64::to_bits(values::cap(series[series.len() - 1]));
-    let mut last = seed.value;
-    let mut i = 0;
-    while i < half {
-        bits = bits | f64::to_bits(values::cap(series[low + i]));
-        bits = bits | f64::to_bits(values::cap(series[high + i]));
-        last = averages_blend::blended(alpha, last, series[low + i]);
-        i += 1;
-    }
-    Pass { bits, value: last }
-}
 
 // The bits of -0.0: the sign alone.
 const MINUS_ZERO_BITS: u64 = 9223372036854775808;

@@ -11,11 +11,11 @@ use lib.Ieee.{Float, nan, binary64, toBits}
 use Rattle.cells.specs.Line.{line}
 use Rattle.values.specs.inner.Quick.{capped}
 use Rattle.values.proofs.Quick.{capped-number, or-first, or-second}
 use Rattle.averages_blend.specs.inner.Blending.{Blending}
 use Rattle.averages_blend.proofs.Blending.{seeded, next-blended, at-bar}
-use Rattle.averages_tested.proofs.Reached.{Kept, Reached, none-reached, both-reached, all-reached}
-use Rattle.averages_tested.proofs.blend_half.Statement.{statement}
-use Rattle.averages_tested.proofs.blend_half.Tie as tie
+use Rattle.averages_blend.proofs.Reached.{Kept, Reached, none-reached, both-reached, all-reached}
+use Rattle.averages_blend.proofs.blend_half.Statement.{statement}
+use Rattle.averages_blend.proofs.blend_half.Tie as tie
 
 -- the bits of price j are not larger than b
 record Below (s : List Float) (b j : ℕ) : Type 0 where
