@@ -44,7 +44,8 @@ loop-holds : tie.Need-loop-holds Inv-loop μ-loop
 loop-holds c =
     let start = c .before .before .before .before in (
       omega arith,
-      none-reached below-kept (λ j p q. record { at-most = start .pre .bits .each j p q }) (below-one (c .before .cap .ensures)) (omega arith),
+      none-reached below-kept (λ j p q. record { at-most = start .pre .bits .each j p q })
+          (below-one (c .before .cap .ensures)) (omega arith),
       at-bar seeded (omega arith),
     )
 

@@ -22,6 +22,7 @@ abbrev pub SmoothCall : List Float → Float → ℕ → Float → List Float �
 SmoothCall s alpha first seed = Call (unless (all accepted s) ValueNotAccepted (Cells (length s)))
     (smoothLine alpha first seed (line s))
 
--- whether the bits of the first 16 prices together, of all where there are fewer, are at most those of the largest value
+-- whether the bits of the first 16 prices together, or of all where there are fewer, are at most those of the largest
+-- value
 unfoldable pub firstSuffice : List Float → Bool
 firstSuffice s = leb (bitsFrom (line s) 0 (min (length s) 16)) (toBits binary64 (fin false 1 (pos valuePower)))

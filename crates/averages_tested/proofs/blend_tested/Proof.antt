@@ -6,8 +6,8 @@ use lib.ListN.{length}
 use Rattle.cells.specs.Line.{line}
 use Rattle.averages_blend.specs.inner.Blending.{Blending}
 use Rattle.averages_blend.proofs.Blending.{seeded, next-blended, at-bar}
-use Rattle.averages_tested.specs.inner.Tested.{Fair, Clear}
 use Rattle.averages_blend.proofs.Reached.{Reached, none-reached, both-reached, all-reached}
+use Rattle.averages_tested.specs.inner.Tested.{Fair, Clear}
 use Rattle.averages_tested.proofs.Tested.{fair-with, clear-kept, clear-one, all-clean}
 use Rattle.averages_tested.proofs.blend_tested.Statement.{statement}
 use Rattle.averages_tested.proofs.blend_tested.Tie as tie
