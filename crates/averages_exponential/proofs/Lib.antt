@@ -1,4 +1,1 @@
-pub mod Blending
 pub mod Causal
-pub mod Halves
-pub mod Tested

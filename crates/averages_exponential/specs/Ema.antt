@@ -6,7 +6,7 @@ use lib.Ieee.{Float, binary64, div, ofInt}
 use lib.ListN.{length}
 use Rattle.cells.specs.Line.{Line, line}
 use Rattle.windows.specs.Window.{mean}
-use Rattle.averages_exponential.specs.Blend.{smoothLine}
+use Rattle.averages_blend.specs.Blend.{smoothLine}
 use Rattle.rounding.specs.Leaves.{two}
 use Rattle.calls.specs.Answer.{answered}
 use Rattle.calls.specs.Call.{Call}

@@ -9,7 +9,7 @@ use Rattle.calls.specs.declared.Answer.the-variants.{Cells}
 use Rattle.values.specs.Accepted.{accepted, finite}
 use Rattle.calls.specs.Answer.{checked, andThen, unless}
 use Rattle.cells.specs.Line.{Line, line}
-use Rattle.averages_exponential.specs.Blend.{smoothLine}
+use Rattle.averages_blend.specs.Blend.{smoothLine}
 use Rattle.calls.specs.Call.{Call}
 
 -- the seed is the first value

@@ -1,5 +1,4 @@
 -- The exponential averages: what each of them is.
-pub mod Blend
 pub mod Cases
 pub mod Ema
 pub mod ExponentialSmoothing

@@ -1,3 +1,2 @@
 -- What the crate's own functions ask of each other.
-pub mod Blending
-pub mod Tested
+pub mod Answers

@@ -2,11 +2,9 @@
 use averages::Pass;
 use calls::Answer;
 use calls::Refusal;
-use limits::LARGEST_VALUE;
 use limits::LARGEST_VALUE_BITS;
 ghost use mathlib.Core.Path.{_≡_};
-ghost use Prim.Native.Nat.{_+_, _-_, _<_, _≤_};
-ghost use lib.Dec.{eqb};
+ghost use Prim.Native.Nat.{_-_, _<_, _≤_};
 ghost use lib.IntN.{pos};
 ghost use lib.ListN.{length};
 ghost use lib.Ieee.{binary64, div, ofInt};
@@ -15,137 +13,12 @@ ghost use Rattle.values.specs.Accepted.{accepted, all};
 ghost use Rattle.calls.specs.inner.Fits.{Fits};
 ghost use Rattle.cells.specs.Line.{line};
 ghost use Rattle.windows.specs.Window.{mean};
-ghost use Rattle.averages_exponential.specs.Blend.{blend};
+ghost use Rattle.averages_blend.specs.inner.Blending.{Middle, Smoothing};
+ghost use Rattle.averages_blend.specs.inner.HalfWay.{Seeded};
+ghost use Rattle.averages_tested.specs.inner.Tested.{TestedSeed};
 ghost use Rattle.averages_exponential.specs.Ema.{emaAlpha, EmaCall};
 ghost use Rattle.averages_exponential.specs.ExponentialSmoothing.{ExponentialSmoothingCall};
-ghost use Rattle.averages_exponential.specs.inner.Blending.{
-  Seeded,
-  HalfWay,
-  Middle,
-  Smoothing,
-  Smooth,
-  SmoothCall,
-};
-ghost use Rattle.averages_exponential.specs.inner.Tested.{TestedSum, TestedSeed, TestedHalf};
-
-// alpha of x and the rest of `last`.
-pub fn blended(alpha: f64, last: f64, x: f64) -> f64
-    ensures { λ r. ⌜ r ≡ blend alpha last x ⌝ }
-{
-    alpha * x + (1.0 - alpha) * last
-}
-
-// The cell half way through the bars after the seed, and the bits of all prices. A cell waits for the one before it,
-// and the bits are gathered meanwhile.
-fn blend_half(series: &[f64], alpha: f64, first: usize, seed: Pass) -> Pass
-    requires { ⌜ Seeded (now series) first (seed .bits) ⌝ }
-    ensures { λ r. ⌜ HalfWay (now (series .entry)) alpha first (seed .value) r ⌝ }
-{
-    let half = (series.len() - first - 1) / 2;
-    let low = first + 1;
-    let high = low + half;
-    let mut bits = seed.bits | f64::to_bits(values::cap(series[series.len() - 1]));
-    let mut last = seed.value;
-    let mut i = 0;
-    while i < half {
-        bits = bits | f64::to_bits(values::cap(series[low + i]));
-        bits = bits | f64::to_bits(values::cap(series[high + i]));
-        last = blended(alpha, last, series[low + i]);
-        i += 1;
-    }
-    Pass { bits, value: last }
-}
-
-// The bits of -0.0: the sign alone.
-const MINUS_ZERO_BITS: u64 = 9223372036854775808;
-
-// 0 if a series may hold x, else 1.
-fn refused_bit(x: f64) -> u64
-    ensures { λ r. ⌜ eqb r 0 ≡ accepted x ⌝ }
-{
-    if (x >= -LARGEST_VALUE) & (x <= LARGEST_VALUE) {
-        if f64::to_bits(x) == MINUS_ZERO_BITS {
-            1
-        } else {
-            0
-        }
-    } else {
-        1
-    }
-}
-
-// The sum of the first n prices, and 0 if a series may hold them. An addition waits for the one before it, and each
-// price is tested by itself meanwhile.
-fn sum_tested(series: &[f64], n: usize) -> Pass
-    requires { ⌜ (0 < n) × (n ≤ length (now series)) ⌝ }
-    ensures { λ r. ⌜ TestedSum (now (series .entry)) n r ⌝ }
-{
-    let mut bits = 0;
-    let mut sum = -0.0;
-    let mut i = 0;
-    while i < n {
-        sum = sum + series[i];
-        bits = bits | refused_bit(series[i]);
-        i += 1;
-    }
-    Pass { bits, value: sum }
-}
-
-// The cell half way through the bars after the seed, and 0 if a series may hold all prices. Each price is tested by
-// itself, on both sides of 0, while a cell waits for the one before it.
-fn blend_tested(series: &[f64], alpha: f64, first: usize, seed: Pass) -> Pass
-    requires { ⌜ TestedSeed (now series) first (seed .bits) ⌝ }
-    ensures { λ r. ⌜ TestedHalf (now (series .entry)) alpha first (seed .value) r ⌝ }
-{
-    let half = (series.len() - first - 1) / 2;
-    let low = first + 1;
-    let high = low + half;
-    let mut bits = seed.bits | refused_bit(series[series.len() - 1]);
-    let mut last = seed.value;
-    let mut i = 0;
-    while i < half {
-        bits = bits | refused_bit(series[low + i]);
-        bits = bits | refused_bit(series[high + i]);
-        last = blended(alpha, last, series[low + i]);
-        i += 1;
-    }
-    Pass { bits, value: last }
-}
-
-// Writes the blended cells after bar `first`, where the seed stands: both halves side by side, the second from the
-// cell half way on.
-fn blend_halves(series: &[f64], alpha: f64, first: usize, seed: f64, middle: f64, out: &mut [f64])
-    requires { ⌜ Smoothing (now series) alpha first seed (first + 1) (now out)
-        × Middle (now series) alpha first seed middle ⌝ }
-    ensures { λ _. ⌜ Smooth (now (series .entry)) alpha first seed (now (out .entry)) (now (out .exit)) ⌝ }
-{
-    let half = (series.len() - first - 1) / 2;
-    let low = first + 1;
-    let high = low + half;
-    let mut lower = seed;
-    let mut upper = middle;
-    let mut i = 0;
-    while i < half {
-        lower = blended(alpha, lower, series[low + i]);
-        upper = blended(alpha, upper, series[high + i]);
-        out[low + i] = lower;
-        out[high + i] = upper;
-        i += 1;
-    }
-    if high + half < series.len() {
-        out[high + half] = blended(alpha, upper, series[high + half]);
-    }
-}
-
-// Writes the cells of a smoothed line: NaN, the seed at bar `first`, and the blended cells after it.
-fn write_smooth(series: &[f64], alpha: f64, first: usize, seed: f64, middle: f64, out: &mut [f64])
-    requires { ⌜ Smoothing (now series) alpha first seed 0 (now out) × Middle (now series) alpha first seed middle ⌝ }
-    ensures { λ _. ⌜ Smooth (now (series .entry)) alpha first seed (now (out .entry)) (now (out .exit)) ⌝ }
-{
-    averages::fill_nan(out, first, series.len());
-    out[first] = seed;
-    blend_halves(series, alpha, first, seed, middle, out);
-}
+ghost use Rattle.averages_exponential.specs.inner.Answers.{SmoothCall, firstSuffice};
 
 // The answer of a smoothed line whose prices are tested and whose cell half way is at hand.
 fn answer_tested(
@@ -162,7 +35,7 @@ fn answer_tested(
     ensures { λ r. ⌜ SmoothCall (now (series .entry)) alpha first seed (now (out .entry)) r (now (out .exit)) ⌝ }
 {
     if accept {
-        write_smooth(series, alpha, first, seed, middle, out);
+        averages_blend::write_smooth(series, alpha, first, seed, middle, out);
         Answer::Cells(series.len())
     } else {
         Answer::Refused(Refusal::ValueNotAccepted)
@@ -176,7 +49,7 @@ fn answer_by_bits(series: &[f64], alpha: f64, first: usize, seed: Pass, out: &mu
     ensures { λ r. ⌜ SmoothCall (now (series .entry)) alpha first (seed .value) (now (out .entry)) r
         (now (out .exit)) ⌝ }
 {
-    let half = blend_half(series, alpha, first, seed);
+    let half = averages_blend::blend_half(series, alpha, first, seed);
     let accept = values::accepted_by(half.bits, series);
     answer_tested(series, alpha, first, seed.value, half.value, accept, out)
 }
@@ -187,7 +60,7 @@ fn answer_by_tests(series: &[f64], alpha: f64, first: usize, seed: Pass, out: &m
     ensures { λ r. ⌜ SmoothCall (now (series .entry)) alpha first (seed .value) (now (out .entry)) r
         (now (out .exit)) ⌝ }
 {
-    let half = blend_tested(series, alpha, first, seed);
+    let half = averages_tested::blend_tested(series, alpha, first, seed);
     answer_tested(
         series,
         alpha,
@@ -201,7 +74,9 @@ fn answer_by_tests(series: &[f64], alpha: f64, first: usize, seed: Pass, out: &m
 
 // Whether the bits of the first 16 prices together are enough to accept them, so that those of all may be. On both
 // sides of 0 they are not.
-fn bits_suffice(series: &[f64]) -> bool {
+fn bits_suffice(series: &[f64]) -> bool
+    ensures { λ r. ⌜ r ≡ firstSuffice (now (series .entry)) ⌝ }
+{
     values::bits_together(series, 0, cells::smaller(series.len(), 16)) <= LARGEST_VALUE_BITS
 }
 
@@ -227,7 +102,7 @@ fn answer_from_mean(series: &[f64], n: usize, out: &mut [f64]) -> Answer
         let seed = mean_of(averages::sum_first(series, n), n);
         answer_by_bits(series, alpha, n - 1, seed, out)
     } else {
-        let seed = mean_of(sum_tested(series, n), n);
+        let seed = mean_of(averages_tested::sum_tested(series, n), n);
         answer_by_tests(series, alpha, n - 1, seed, out)
     }
 }
@@ -243,7 +118,7 @@ fn answer_from_first(series: &[f64], alpha: f64, out: &mut [f64]) -> Answer
         let bits = f64::to_bits(values::cap(value));
         answer_by_bits(series, alpha, 0, Pass { bits, value }, out)
     } else {
-        let bits = refused_bit(value);
+        let bits = averages_tested::refused_bit(value);
         answer_by_tests(series, alpha, 0, Pass { bits, value }, out)
     }
 }

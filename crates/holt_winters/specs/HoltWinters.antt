@@ -9,7 +9,7 @@ use lib.Ieee.{Float, binary64, add, sub}
 use Rattle.cells.specs.Line.{Line, line, plusZero}
 use Rattle.cells.specs.Recur.{recur}
 use Rattle.windows.specs.Window.{mean}
-use Rattle.averages_exponential.specs.Blend.{blend}
+use Rattle.averages_blend.specs.Blend.{blend}
 use Rattle.values.specs.Accepted.{accepted}
 use Rattle.calls.specs.declared.Answer.{Answer}
 use Rattle.calls.specs.declared.Answer.the-variants.{Cells}

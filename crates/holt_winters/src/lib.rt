@@ -27,9 +27,9 @@ pub struct Fit {
 fn next(w: Weights, last: Fit, old: f64, price: f64) -> Fit
     ensures { λ r. ⌜ r ≡ nextFit w last old price ⌝ }
 {
-    let level = averages_exponential::blended(w.alpha, last.level + last.trend, price - old);
-    let trend = averages_exponential::blended(w.beta, last.trend, level - last.level);
-    let season = averages_exponential::blended(w.gamma, old, price - level);
+    let level = averages_blend::blended(w.alpha, last.level + last.trend, price - old);
+    let trend = averages_blend::blended(w.beta, last.trend, level - last.level);
+    let season = averages_blend::blended(w.gamma, old, price - level);
     Fit {
         level,
         trend,

@@ -9,7 +9,7 @@ ghost use Rattle.cells.specs.Line.{line, plusZero};
 ghost use Rattle.cells.specs.Search.{nonZero};
 ghost use Rattle.cells.specs.Written.{Writing};
 ghost use Rattle.cells.specs.Recur.{carried};
-ghost use Rattle.averages_exponential.specs.Blend.{blend};
+ghost use Rattle.averages_blend.specs.Blend.{blend};
 ghost use Rattle.jurik_bar.specs.Jurik.{
   isNumber,
   copied,
@@ -89,7 +89,7 @@ fn average_from(cells: &mut [f64], bars: usize, first: usize, none: f64, alpha: 
     while i + 1 < bars {
         cells[i] = last;
         i += 1;
-        last = averages_exponential::blended(alpha, last, cells[i]);
+        last = averages_blend::blended(alpha, last, cells[i]);
     }
     cells[i] = last;
 }
@@ -204,8 +204,8 @@ fn average_twice(close: &[f64], alpha: f64, power: f64, out: &mut [f64]) -> bool
     let mut i = cells::fill_lead(out, 2, bars, 0.0);
     while i < bars {
         let last = twice;
-        once = averages_exponential::blended(alpha, once, swing_at(close, i));
-        twice = averages_exponential::blended(alpha, twice, once);
+        once = averages_blend::blended(alpha, once, swing_at(close, i));
+        twice = averages_blend::blended(alpha, twice, once);
         differ = differ | differing(first, once);
         out[i] = leaned_by(power, last, twice);
         i += 1;

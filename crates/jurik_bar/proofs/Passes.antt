@@ -18,7 +18,7 @@ use Rattle.cells.proofs.Carried.{from-same, carried-next}
 use Rattle.cells.proofs.Written.{stands, writing-same}
 use Rattle.cells.specs.Written.{Writing}
 use Rattle.cells.proofs.Search.{firstBar-same}
-use Rattle.averages_exponential.specs.Blend.{blend}
+use Rattle.averages_blend.specs.Blend.{blend}
 use Rattle.jurik_bar.specs.Jurik.{averaged, copied, firstDiffering, alike, isNumber}
 use Rattle.jurik_bar.specs.inner.Passes.{differs, tested}
 

@@ -26,7 +26,7 @@ fn write_from(series: &[f64], n: usize, start: usize, seed: f64, out: &mut [f64]
         out[i] = rounding::sign(series[i] - average);
         work_rows::put(work, bars, i, 0.0);
         i += 1;
-        average = averages_exponential::blended(alpha, average, out[i]);
+        average = averages_blend::blended(alpha, average, out[i]);
     }
     out[i] = rounding::sign(series[i] - average);
     work_rows::put(work, bars, i, 0.0);
@@ -58,7 +58,7 @@ fn write_from_ticks(
         work_rows::put(work, bars, i, 0.0);
         i += 1;
         sum = sum + (series[i] - series[i - n]);
-        average = averages_exponential::blended(alpha, average, sum / count);
+        average = averages_blend::blended(alpha, average, sum / count);
     }
     out[i] = rounding::sign(series[i] - average);
     work_rows::put(work, bars, i, 0.0);

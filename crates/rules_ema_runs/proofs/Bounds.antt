@@ -17,7 +17,7 @@ use Rattle.cells.specs.Recur.{recur, carried}
 use Rattle.cells.proofs.Line.{from-bar}
 use Rattle.windows.specs.Window.{mean}
 use Rattle.exact_ticks.proofs.Bounds.{Bounded, mean-bounded}
-use Rattle.averages_exponential.specs.Blend.{blend}
+use Rattle.averages_blend.specs.Blend.{blend}
 use Rattle.averages_exponential.specs.Ema.{emaAlpha}
 use Rattle.rules_ema_runs.specs.SingleEma.{emaOfMeans}
 

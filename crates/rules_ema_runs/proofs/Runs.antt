@@ -27,7 +27,7 @@ use Rattle.checks.specs.inner.Due.{Priced}
 use Rattle.windows.specs.Window.{over, windowSum, mean, addDifference}
 use Rattle.windows.proofs.Window.{mean-of, first-running, same-bar}
 use Rattle.windows.proofs.Runs.{run-at}
-use Rattle.averages_exponential.specs.Blend.{blend}
+use Rattle.averages_blend.specs.Blend.{blend}
 use Rattle.averages_exponential.specs.Ema.{emaAlpha}
 use Rattle.sliding_means.specs.inner.Means.{runMeans}
 use Rattle.running_sums.specs.inner.Margin.{largestOf, marginOf}

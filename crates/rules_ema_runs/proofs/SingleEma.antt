@@ -33,7 +33,7 @@ use Rattle.work_rows.proofs.Finished.{all-finished, then-finished}
 use Rattle.rounding.specs.Leaves.{signOf}
 use Rattle.windows.specs.Window.{mean}
 use Rattle.windows.proofs.Window.{causal-mean}
-use Rattle.averages_exponential.specs.Blend.{blend}
+use Rattle.averages_blend.specs.Blend.{blend}
 use Rattle.averages_exponential.specs.Ema.{emaAlpha}
 use Rattle.rules_ema_runs.specs.SingleEma.{firstUsable, emaOfMeans, singleEmaFrom, singleEmaLine}
 

@@ -58,7 +58,7 @@ fn write_from_runs(
             break true;
         }
         sum = sum + (series[i] - series[i - n]);
-        average = averages_exponential::blended(alpha, average, sum / count);
+        average = averages_blend::blended(alpha, average, sum / count);
     }
 }
 

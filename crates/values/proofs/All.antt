@@ -37,6 +37,11 @@ module _ (p : Float → Bool) (s : List Float) (i : ℕ) where
   pub all-none : length s ≤ i → all p (drop i s) ≡ true
   all-none h = rw (drop-of-length-le s h)
 
+-- where each passes, all do
+pub all-of : (p : Float → Bool) (s : List Float) → ((i : ℕ) → i < length s → p (getD s i nan) ≡ true) → all p s ≡ true
+all-of p [] h = refl
+all-of p (x ∷ s) h = rw (h zero (zero-lt-suc (length s)), all-of p s (λ i l. h (suc i) (omega arith)))
+
 -- where two tests agree on every element, they agree on all
 pub all-same : (p q : Float → Bool) (s : List Float)
     → ((i : ℕ) → i < length s → p (getD s i nan) ≡ q (getD s i nan)) → all p s ≡ all q s

@@ -2,7 +2,7 @@
 use mathlib.Core.Path.{_≡_, refl, sym, _∙_, subst}
 use mathlib.Core.Bool.{Bool, true, false, not, cond, true≢false}
 use mathlib.Core.List.{List, [], _∷_}
-use Prim.Native.Nat.{ℕ, zero, suc, _+_, _*_, _/_, _%_, _^_, _<_, _≤_, zero-le, suc-le-suc, _-_}
+use Prim.Native.Nat.{ℕ, zero, suc, _+_, _*_, _/_, _%_, _^_, _<_, _≤_, zero-le, _-_}
 use native.Mathlib.Nat.{
   le-trans,
   lt-of-lt-of-le,
@@ -14,7 +14,6 @@ use native.Mathlib.Nat.{
   mod-lt,
   mod-eq-of-lt,
   div-add-mod',
-  zero-lt-suc,
 }
 use native.Mathlib.Omega.{arith}
 use borrow.Author.Tests.{lt-leb, lt-ltb, ltb-true, ltb-false, ne-eqb}
@@ -29,6 +28,7 @@ use lib.Ieee.Exact.{HasValue, odd-sign}
 use lib.Ieee.Fits.{down-pos}
 use lib.Ieee.Order.{le-of-values}
 use Rattle.values.specs.Accepted.{within, accepted, all}
+use Rattle.values.proofs.All.{all-of}
 use Rattle.values.specs.inner.Quick.{EachUpTo, NoneAbove, UpTo, capped, bitsFrom, BitsOf}
 use Rattle.cells.specs.Line.{Line, line}
 
@@ -205,10 +205,6 @@ unfolding accepted
 quick-accepted x f h =
     let own = own-bits 30 x (omega arith) h in
     rw (up-to-within 30 x (quick 30 x (omega arith) f h), ne-eqb (toBits binary64 x) (2 ^ 63) (λ e. omega arith))
-
-all-of : (p : Float → Bool) (s : List Float) → ((i : ℕ) → i < length s → p (getD s i nan) ≡ true) → all p s ≡ true
-all-of p [] h = refl
-all-of p (x ∷ s) h = rw (h 0 (zero-lt-suc _), all-of p s (λ i l. h (suc i) (suc-le-suc l)))
 
 module _ {b : ℕ} (s : List Float) (none : NoneAbove b s 0 (length s))
     (fit : (i : ℕ) → T (fits binary64 (getD s i nan))) where

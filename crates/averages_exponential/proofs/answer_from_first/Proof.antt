@@ -2,7 +2,7 @@
 -- Assumes nothing.
 use borrow.Author.Needs.{needs}
 use Rattle.values.proofs.Quick.{capped-number, none-of-one}
-use Rattle.averages_exponential.proofs.Tested.{fair-one, clean-one}
+use Rattle.averages_tested.proofs.Tested.{fair-one, clean-one}
 use Rattle.averages_exponential.proofs.answer_from_first.Statement.{statement}
 use Rattle.averages_exponential.proofs.answer_from_first.Tie as tie
 

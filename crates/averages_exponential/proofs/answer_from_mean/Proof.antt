@@ -9,7 +9,7 @@ use lib.Ieee.{ofBits}
 use Rattle.values.proofs.Quick.{none-within, bits-first}
 use Rattle.cells.specs.Line.{line}
 use Rattle.windows.proofs.Window.{mean-of, count-is-float}
-use Rattle.averages_exponential.proofs.Tested.{clean-within}
+use Rattle.averages_tested.proofs.Tested.{clean-within}
 use Rattle.averages_exponential.proofs.answer_from_mean.Statement.{statement}
 use Rattle.averages_exponential.proofs.answer_from_mean.Tie as tie
 

@@ -11,7 +11,7 @@ use Rattle.cells.specs.Written.{Writing}
 use Rattle.cells.proofs.Written.{one-more, ends, writing-same, then-written}
 use Rattle.cells.proofs.Leads.{not-yet}
 use Rattle.cells.proofs.Carried.{carried-seed}
-use Rattle.averages_exponential.specs.Blend.{blend}
+use Rattle.averages_blend.specs.Blend.{blend}
 use Rattle.jurik_bar.proofs.Passes.{carried-from, lead-carried, next-carried}
 use Rattle.jurik.proofs.average_from.Statement.{statement}
 use Rattle.jurik.proofs.average_from.Tie as tie

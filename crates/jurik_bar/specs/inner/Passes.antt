@@ -11,7 +11,7 @@ use Rattle.cells.specs.Recur.{carried}
 use Rattle.cells.specs.Search.{nonZero, firstBar}
 use Rattle.cells.specs.Written.{Writing}
 use Rattle.cells.specs.inner.Touched.{Touched}
-use Rattle.averages_exponential.specs.Blend.{blend}
+use Rattle.averages_blend.specs.Blend.{blend}
 use Rattle.jurik_bar.specs.Jurik.{isNumber, alike, passed, lean, leaned, swings, once, twice}
 
 -- which values a pass takes: those other than 0, or numbers

@@ -6,10 +6,10 @@ use lib.Ieee.{ofBits, neg}
 use Rattle.cells.specs.Line.{line, minusZero}
 use Rattle.windows.specs.inner.Sums.{Summing}
 use Rattle.windows.proofs.Window.{none-summed, added-at, window-sum}
-use Rattle.averages_exponential.specs.inner.Tested.{Fair, Clean}
-use Rattle.averages_exponential.proofs.Tested.{fair-none, fair-with, clean-none, clean-within, clean-with}
-use Rattle.averages_exponential.proofs.sum_tested.Statement.{statement}
-use Rattle.averages_exponential.proofs.sum_tested.Tie as tie
+use Rattle.averages_tested.specs.inner.Tested.{Fair, Clean}
+use Rattle.averages_tested.proofs.Tested.{fair-none, fair-with, clean-none, clean-within, clean-with}
+use Rattle.averages_tested.proofs.sum_tested.Statement.{statement}
+use Rattle.averages_tested.proofs.sum_tested.Tie as tie
 
 abbrev Inv-loop : tie.InvT-loop
 Inv-loop series n bits₀ sum₀ i₀ bits sum i = (i ≤ n) × Summing minusZero (line series) 0 i sum × Fair series bits

@@ -12,8 +12,8 @@ use Rattle.cells.proofs.Leads.{lead-stands}
 use Rattle.cells.specs.Recur.{recur, carried}
 use Rattle.cells.specs.Written.{Writing}
 use Rattle.cells.proofs.Written.{step, then-written}
-use Rattle.averages_exponential.specs.Blend.{blend, smoothLine}
-use Rattle.averages_exponential.specs.inner.Blending.{Blending}
+use Rattle.averages_blend.specs.Blend.{blend, smoothLine}
+use Rattle.averages_blend.specs.inner.Blending.{Blending}
 
 module _ {alpha : Float} {a : ℕ} {seed : Float} {f : Line} where
   pub seeded : Blending alpha a seed f (a + 1) seed

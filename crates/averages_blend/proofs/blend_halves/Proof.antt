@@ -7,12 +7,12 @@ use lib.ListN.{length-set}
 use lib.Ieee.{nan}
 use Rattle.cells.specs.Line.{line}
 use Rattle.cells.proofs.Written.{step, ends}
-use Rattle.averages_exponential.specs.Blend.{smoothLine}
-use Rattle.averages_exponential.specs.inner.Blending.{Blending}
-use Rattle.averages_exponential.proofs.Blending.{seeded, next-blended, at-bar, blended-cell}
-use Rattle.averages_exponential.proofs.Halves.{Parts, one-part, both-parts, joined}
-use Rattle.averages_exponential.proofs.blend_halves.Statement.{statement}
-use Rattle.averages_exponential.proofs.blend_halves.Tie as tie
+use Rattle.averages_blend.specs.Blend.{smoothLine}
+use Rattle.averages_blend.specs.inner.Blending.{Blending}
+use Rattle.averages_blend.proofs.Blending.{seeded, next-blended, at-bar, blended-cell}
+use Rattle.averages_blend.proofs.Halves.{Parts, one-part, both-parts, joined}
+use Rattle.averages_blend.proofs.blend_halves.Statement.{statement}
+use Rattle.averages_blend.proofs.blend_halves.Tie as tie
 
 abbrev Inv-loop : tie.InvT-loop
 Inv-loop series alpha first seed middle out₀ half low high lower₀ upper₀ i₀ out lower upper i =

@@ -4,17 +4,9 @@ use mathlib.Core.List.{List}
 use Prim.Native.Nat.{ℕ, _+_, _-_, _/_, _<_, _≤_}
 use lib.ListN.{length}
 use lib.Ieee.{Float}
-use Rattle.values.specs.Accepted.{accepted, all}
-use Rattle.values.specs.inner.Quick.{NoneAbove}
-use Rattle.calls.specs.declared.Refusal.the-variants.{ValueNotAccepted}
-use Rattle.calls.specs.declared.Answer.{Answer}
-use Rattle.calls.specs.declared.Answer.the-variants.{Cells}
-use Rattle.calls.specs.Answer.{unless}
-use Rattle.calls.specs.Call.{Call}
 use Rattle.cells.specs.Line.{Line, line}
 use Rattle.cells.specs.Written.{Writing}
-use Rattle.averages.specs.declared.Pass.{Pass}
-use Rattle.averages_exponential.specs.Blend.{smoothLine}
+use Rattle.averages_blend.specs.Blend.{smoothLine}
 
 -- x is the cell before bar i: what the loop that blends keeps
 pub record Blending (alpha : Float) (a : ℕ) (seed : Float) (f : Line) (i : ℕ) (x : Float) : Type 0 where
@@ -24,19 +16,9 @@ pub record Blending (alpha : Float) (a : ℕ) (seed : Float) (f : Line) (i : ℕ
 abbrev pub half : ℕ → ℕ → ℕ
 half bars first = (bars - first - 1) / 2
 
--- the bits of the bars up to the seed's
-pub record Seeded (s : List Float) (first together : ℕ) : Type 0 where
-  pub inside : first < length s
-  pub bits : NoneAbove together s 0 (first + 1)
-
 -- x is the cell half way through the bars after the seed
 abbrev pub Middle : List Float → Float → ℕ → Float → Float → Type 0
 Middle s alpha first seed x = Blending alpha first seed (line s) (first + 1 + half (length s) first) x
-
--- that cell, and the bits of all bars
-pub record HalfWay (s : List Float) (alpha : Float) (first : ℕ) (seed : Float) (r : Pass) : Type 0 where
-  pub middle : Middle s alpha first seed (r .value)
-  pub bits : NoneAbove (r .bits) s 0 (length s)
 
 -- every cell of a smoothed line is written to `now`
 abbrev pub Smooth : List Float → Float → ℕ → Float → List Float → List Float → Type 0
@@ -48,8 +30,3 @@ pub record Smoothing (s : List Float) (alpha : Float) (first : ℕ) (seed : Floa
     pub inside : first < length s
     pub room : length s ≤ length now
     pub cells : Writing k (smoothLine alpha first seed (line s)) now now
-
--- a call whose lengths and parameters are in order: only the values are left to be refused
-abbrev pub SmoothCall : List Float → Float → ℕ → Float → List Float → Answer → List Float → Type 0
-SmoothCall s alpha first seed = Call (unless (all accepted s) ValueNotAccepted (Cells (length s)))
-    (smoothLine alpha first seed (line s))

@@ -10,15 +10,19 @@ use Rattle.values.specs.Accepted.{accepted, all}
 use Rattle.cells.specs.Line.{line}
 use Rattle.windows.specs.Window.{windowSum}
 use Rattle.averages.specs.declared.Pass.{Pass}
-use Rattle.averages_exponential.specs.inner.Blending.{Middle}
+use Rattle.averages_blend.specs.inner.Blending.{Middle}
 
 -- no bit is set where all prices are accepted
 pub record Fair (s : List Float) (b : ℕ) : Type 0 where
   pub none : all accepted s ≡ true → b ≡ 0
 
+-- where no bit is set, price i is accepted
+pub record Clear (s : List Float) (b i : ℕ) : Type 0 where
+  pub told : b ≡ 0 → accepted (getD s i nan) ≡ true
+
 -- where no bit is set, the prices from index a up to k are accepted
 pub record Clean (s : List Float) (b a k : ℕ) : Type 0 where
-  pub each : b ≡ 0 → (i : ℕ) → a ≤ i → i < k → accepted (getD s i nan) ≡ true
+  pub each : (i : ℕ) → a ≤ i → i < k → Clear s b i
 
 -- the sum of the first n bars, each of which is tested
 pub record TestedSum (s : List Float) (n : ℕ) (r : Pass) : Type 0 where

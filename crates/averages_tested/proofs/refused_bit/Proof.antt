@@ -7,8 +7,8 @@ use lib.Dec.{T, eqb}
 use lib.Ieee.{Float, nan, inf, fin, binary64, le, isNan, ofBits, toBits, neg}
 use Rattle.limits.specs.Limits.{valuePower}
 use Rattle.values.specs.Accepted.{within, accepted}
-use Rattle.averages_exponential.proofs.refused_bit.Statement.{statement}
-use Rattle.averages_exponential.proofs.refused_bit.Tie as tie
+use Rattle.averages_tested.proofs.refused_bit.Statement.{statement}
+use Rattle.averages_tested.proofs.refused_bit.Tie as tie
 
 number : (x : Float) → within valuePower x ≡ true → T (not (isNan x))
 unfolding le isNan

@@ -1,0 +1,2 @@
+-- What the functions under the exponential averages ask of each other.
+pub mod Tested
