@@ -1,6 +1,6 @@
 -- The exponential rule where the first mean is not 0: then the means up to bar 2n - 2 are enough to start. Assumes
 -- nothing.
-use mathlib.Core.Path.{_≡_, _∙_}
+use mathlib.Core.Path.{_≡_, refl, sym, ap, _∙_}
 use mathlib.Core.Bool.{true, false}
 use mathlib.Core.List.{List}
 use Prim.Native.Nat.{ℕ, _+_, _-_, _*_, _<_, _≤_}
@@ -14,8 +14,11 @@ use Rattle.cells.specs.Written.{Writing}
 use Rattle.cells.proofs.Written.{read-back, writing-same, ends}
 use Rattle.cells.specs.Search.{nonZero}
 use Rattle.windows.specs.Window.{over, windowSum, mean}
-use Rattle.rules_ema_runs.specs.SingleEma.{firstUsable, singleEmaFrom, singleEmaLine}
-use Rattle.rules_ema_runs.proofs.SingleEma.{usable-found}
+use Rattle.windows.proofs.Window.{mean-of, first-running, same-bar}
+use Rattle.windows.proofs.Runs.{run-at}
+use Rattle.running_sums.specs.inner.Means.{runMeans}
+use Rattle.rules_ema_bar.specs.SingleEma.{firstUsable, singleEmaFrom, singleEmaLine}
+use Rattle.rules_ema_bar.proofs.SingleEma.{usable-found}
 
 pub head-long : (k : ℕ) (s : List Float) → k ≤ length s → length (take k s) ≡ k
 head-long k s h = rw length-take (omega arith)
@@ -46,3 +49,10 @@ early-line l n f g {head} w same e (some, is, h, room) =
     let first = starts-early l n f (rw (← cell) e) (omega arith) in
     let start : n - 1 + (n - 1) ≡ head - 1 = omega arith in
     rw (first, start)
+
+-- the first mean by a running sum is summed afresh
+pub first-run-mean : (n : ℕ) (f : Line) → 0 < n → runMeans n f (n - 1) ≡ mean n f (n - 1)
+first-run-mean n f N =
+    let bar : n ≡ n - 1 + 1 = omega arith in
+    let first = same-bar (first-running n refl N) bar in
+    ap (over n) (sym (run-at (n - 1) first (omega arith))) ∙ mean-of n (n - 1) f refl (omega arith)
