@@ -5,7 +5,7 @@ ghost use Rattle.cells.specs.Line.{line};
 ghost use Rattle.checks.specs.inner.Due.{Priced};
 ghost use Rattle.window_means.specs.inner.Ticks.{longTicks};
 ghost use Rattle.rules_ema_bar.specs.SingleEma.{singleEmaFrom, singleEmaLine};
-ghost use Rattle.rules_ema_runs.specs.inner.Runs.{RunsStarted, Tried};
+ghost use Rattle.rules_ema_runs.specs.inner.Runs.{HeadRoom, HeadWritten, RunsStarted, Tried};
 
 // Writes each bar's position, with the means after bar `start` by a running sum: as far as price and average are
 // farther apart than d, which decides. It says whether they are up to the last bar.
@@ -43,6 +43,16 @@ fn write_from_runs(
     }
 }
 
+// Writes the means of the first 2n - 1 bars by running sums, and gives the mean of the last n of them.
+fn write_head(series: &[f64], n: usize, out: &mut [f64]) -> f64
+    requires { ⌜ HeadRoom n (length (now series)) (length (now out)) ⌝ }
+    ensures { λ r. ⌜ HeadWritten n (line (now (series .entry))) r (now (out .entry)) (now (out .exit)) ⌝ }
+{
+    let head = 2 * n - 1;
+    running_sums::write_means(&series[..head], n, out);
+    windows::mean_at(&out[..head], n, head - 1)
+}
+
 // Writes each bar's position by running sums, if the prices are whole ticks or the window is long enough for that to
 // pay, the first mean is not 0 and they decide every bar, and says whether it did.
 pub fn write_by_runs(
@@ -60,13 +70,12 @@ pub fn write_by_runs(
     if (n < 20) & !ticks {
         return false;
     }
-    let head = 2 * n - 1;
-    if head <= series.len() {
-        running_sums::write_means(&series[..head], n, out);
+    let start = 2 * n - 2;
+    if start < series.len() {
+        let seed = write_head(series, n, out);
         if out[n - 1] != 0.0 {
-            let seed = windows::mean_at(&out[..head], n, head - 1);
             let d = rules_ema_bar::distance(series, ticks);
-            return write_from_runs(series, n, head - 1, seed, d, out, work);
+            return write_from_runs(series, n, start, seed, d, out, work);
         }
     }
     false

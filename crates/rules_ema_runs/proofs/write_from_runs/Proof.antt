@@ -52,15 +52,16 @@ loop-again c =
     let f = line (now (a .series)) in
     let more = test .if2 .left in
     let kept = at .loop .inv .2 .cleared .rest .long in
-    let position = decided-at (a .start) (a .n) f (start .pre .decides) (at .loop .inv .4)
-    (sym (far .before .is-decided .ensures) ∙ far .if1 .taken) (omega arith) in
-    let slid = next-slid (a .start) (a .n) f _ (at .loop .inv .3) refl (omega arith) in (
+    let inv = at .loop .inv in
+    let position = decided-at (a .start) (a .n) f (start .pre .decides) (inv .4)
+    (sym (far .before .is-decided .ensures) ∙ far .if1 .taken) (inv .0, inv .1) in
+    let slid = next-slid (a .start) (a .n) f _ (inv .3) refl (inv .0) in (
       omega arith,
       omega arith,
       position-finished _ _ (at .loop .inv .2) (put .put-position .ensures) position (omega arith),
       slid,
       next-run (a .start) (a .n) f _ (at .loop .inv .4) slid (rw (weight .weight .ensures) at (c .blended .ensures))
-          (omega arith),
+          (inv .0),
     )
 
 returns : tie.Need-returns Inv-loop μ-loop
@@ -83,8 +84,9 @@ returns-2 c =
     let a = start .args in
     let last = c .if2 .taken in
     let kept = at .loop .inv .2 .cleared .rest .long in
-    let position = decided-at (a .start) (a .n) (line (now (a .series))) (start .pre .decides) (at .loop .inv .4)
-    (sym (far .before .is-decided .ensures) ∙ far .if1 .taken) (omega arith) in
+    let inv = at .loop .inv in
+    let position = decided-at (a .start) (a .n) (line (now (a .series))) (start .pre .decides) (inv .4)
+    (sym (far .before .is-decided .ensures) ∙ far .if1 .taken) (inv .0, inv .1) in
     let now = position-finished _ _ (at .loop .inv .2) (put .put-position .ensures) position (omega arith) in
     all-tried _ (rest-finished _ _ _ (lead .clear-lead .ensures) now (omega arith))
 

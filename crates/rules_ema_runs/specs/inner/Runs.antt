@@ -5,9 +5,11 @@ use mathlib.Core.List.{List}
 use Prim.Native.Nat.{ℕ, _+_, _-_, _*_, _<_, _≤_}
 use lib.ListN.{length}
 use lib.Ieee.{Float, binary64, add, sub}
+use Rattle.limits.specs.Limits.{Window}
 use Rattle.rounding.specs.Leaves.{signOf}
 use Rattle.cells.specs.Line.{Line, line, plusZero}
 use Rattle.cells.specs.Recur.{carried}
+use Rattle.cells.specs.Written.{Writing}
 use Rattle.cells.specs.inner.Touched.{Touched}
 use Rattle.work_rows.specs.inner.Finished.{Finished}
 use Rattle.checks.specs.inner.Due.{Priced}
@@ -31,6 +33,17 @@ runEma start n f =
 pub record Decides (d : Float) (start n : ℕ) (f : Line) (l : ℕ) : Type 0 where
   pub position : (i : ℕ) → (start ≤ i) × (i < l) → decided d (f i) (runEma start n f i) ≡ true
       → signOf (sub binary64 (f i) (runEma start n f i)) ≡ singleEmaFrom start n f i
+
+-- the first 2n - 1 of l bars have cells
+pub record HeadRoom (n l out : ℕ) : Type 0 where
+  pub window : Window n
+  pub inside : 2 * n - 1 ≤ l
+  pub room : 2 * n - 1 ≤ out
+
+-- their means by running sums are written, and `seed` is the mean of the last n of them
+pub record HeadWritten (n : ℕ) (f : Line) (seed : Float) (old now : List Float) : Type 0 where
+  pub cells : Writing (2 * n - 1) (runMeans n f) old now
+  pub first : seed ≡ mean n (runMeans n f) (2 * n - 2)
 
 -- the average begins at bar `start` of s with the mean of the means by running sums, and d decides; there are `out`
 -- cells, and `work` of work
