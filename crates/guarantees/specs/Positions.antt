@@ -31,7 +31,7 @@ use Rattle.exact_ticks.proofs.Bounds.{
 use Rattle.rules_double.proofs.Bounds.{running-mean-bounded}
 use Rattle.rules_middle.proofs.Ticks.{two-is}
 use Rattle.calls.proofs.Cells.{bar, cell-at}
-use Rattle.rules_ema_runs.specs.SingleEma.{firstUsable, singleEmaFrom, singleEmaLine, SingleEmaCall}
+use Rattle.rules_ema_bar.specs.SingleEma.{firstUsable, singleEmaFrom, singleEmaLine, SingleEmaCall}
 use Rattle.rules_ema_runs.proofs.Bounds.{gap-bounded}
 use Rattle.rules_mms.specs.Mms.{MmsCall}
 use Rattle.rules_mms.proofs.Within.{mms-within}

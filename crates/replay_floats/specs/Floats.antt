@@ -18,7 +18,7 @@ use Rattle.oscillator_bar.specs.Oscillator.{OscillatorCall}
 use Rattle.holt_winters.specs.HoltWinters.{HoltWintersCall}
 use Rattle.rules_single.specs.Single.{SingleCall}
 use Rattle.rules_double_bar.specs.Double.{DoubleCall}
-use Rattle.rules_ema_runs.specs.SingleEma.{SingleEmaCall}
+use Rattle.rules_ema_bar.specs.SingleEma.{SingleEmaCall}
 use Rattle.rules_middle.specs.Middle.{MidCall}
 use Rattle.rules_mms.specs.Mms.{MmsCall}
 use Rattle.rules_rank.specs.Rank.{RankCall}

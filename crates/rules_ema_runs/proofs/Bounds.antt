@@ -19,7 +19,7 @@ use Rattle.windows.specs.Window.{mean}
 use Rattle.exact_ticks.proofs.Bounds.{Bounded, mean-bounded}
 use Rattle.averages_blend.specs.Blend.{blend}
 use Rattle.averages_exponential.specs.Ema.{emaAlpha}
-use Rattle.rules_ema_runs.specs.SingleEma.{emaOfMeans}
+use Rattle.rules_ema_bar.specs.SingleEma.{emaOfMeans}
 
 -- the weight of a new bar lies from 0 to 1
 pub alpha-share : (n : ℕ) → (0 < n) × (n ≤ 2 ^ 12) → Within false 1 1 (emaAlpha n)

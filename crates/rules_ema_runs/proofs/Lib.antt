@@ -1,4 +1,5 @@
 pub mod Bounds
+pub mod Decides
 pub mod Head
 pub mod Runs
-pub mod SingleEma
+pub mod Tried

@@ -1,13 +1,11 @@
 -- The exponential rule by running sums of any prices: how far its average is from the rule's own, and what it decides.
 -- Assumes nothing.
-use mathlib.Core.Path.{_≡_, refl, sym, ap, _∙_}
-use mathlib.Core.Bool.{Bool, true, false, true≢false}
-use mathlib.Core.List.{List}
+use mathlib.Core.Path.{_≡_, refl}
+use mathlib.Core.Bool.{true, false, true≢false}
 use Prim.Native.Nat.{ℕ, _+_, _-_, _*_, _/_, _^_, _<_, _≤_}
 use native.Mathlib.Nat.{le-trans, mul-le-mul-left, mul-le-mul-right, le-of-mul-le-mul-right, div-add-mod', mod-lt}
 use native.Mathlib.Omega.{arith}
 use lib.Dec.{T, lit<}
-use lib.ListN.{length}
 use lib.IntN.{ℤ, natAbs, _-ℤ_}
 use lib.Pow.{pow-pos}
 use lib.Ieee.{Float, nan, inf, fin, binary64, up, down, sub, lt, fits}
@@ -18,19 +16,12 @@ use Rattle.rounding_laws.proofs.Integers.{abs-near}
 use Rattle.rounding_laws.proofs.Units.{worth}
 use lib.Ieee.Exact.{HasValue}
 use Rattle.rounding_order.proofs.Within.{Within, rest-share}
-use Rattle.cells.specs.Line.{Line, line}
-use Rattle.cells.specs.inner.Touched.{Touched}
-use Rattle.cells.proofs.Touched.{untouched, touched, touched-then}
-use Rattle.work_rows.specs.inner.Finished.{Finished}
-use Rattle.work_rows.proofs.Finished.{then-finished}
-use Rattle.checks.specs.inner.Due.{Priced}
+use Rattle.cells.specs.Line.{Line}
 use Rattle.windows.specs.Window.{over, windowSum, mean, addDifference}
-use Rattle.windows.proofs.Window.{mean-of, first-running, same-bar}
-use Rattle.windows.proofs.Runs.{run-at}
+use Rattle.windows.proofs.Window.{mean-of}
 use Rattle.averages_blend.specs.Blend.{blend}
 use Rattle.averages_exponential.specs.Ema.{emaAlpha}
 use Rattle.sliding_means.specs.inner.Means.{runMeans}
-use Rattle.running_sums.specs.inner.Margin.{largestOf, marginOf}
 use Rattle.running_sums.proofs.Relative.{roof}
 use Rattle.running_sums.proofs.Sums.{Windowed, Carried, fresh, carry}
 use Rattle.running_sums.proofs.Means.{
@@ -43,12 +34,9 @@ use Rattle.running_sums.proofs.Means.{
   run-means-near,
 }
 use Rattle.running_sums.proofs.Signs.{Margin, near-sign}
-use Rattle.running_sums.proofs.Bound.{Largest, room-for, margin-wide}
-use Rattle.running_sums.proofs.Twice.{known, prices}
 use Rattle.running_sums.proofs.Shares.{Share, MakeUp, rest-of, Close, blend-close}
-use Rattle.rules_ema_runs.specs.SingleEma.{emaOfMeans, singleEmaFrom}
-use Rattle.rules_ema_runs.specs.inner.Runs.{Tried}
-use Rattle.rules_ema_runs.proofs.SingleEma.{first-average, next-average, position-at}
+use Rattle.rules_ema_bar.specs.SingleEma.{emaOfMeans}
+use Rattle.rules_ema_bar.proofs.SingleEma.{first-average, next-average}
 use Rattle.rules_ema_runs.proofs.Bounds.{alpha-share}
 
 -- ---- the weights
@@ -304,67 +292,3 @@ module _ {m n l : ℕ} {f : Line} (w : Windowed m n l f) (B : l ≤ 65536) (room
       near-sign g (c .first) (c .second)
       (half m u _ (errorAt m (i - start)) (c .apart) (error-most m (i - start) (omega arith)) k)
       (w .small .number i h) (omega arith) e
-
--- ---- on a series of accepted prices
-
--- the loop's sum and average, beside those of the largest price
-abbrev pub BesideOf : List Float → ℕ → ℕ → ℕ → Float → Float → Type 0
-BesideOf s n = Beside (inUnits binary64 (largestOf (line s) (length s))) n (line s)
-
-module _ (s : List Float) (n : ℕ) {out work : ℕ} (p : Priced 8 n s out work)
-    (floats : (j : ℕ) → T (fits binary64 (line s j))) (start : ℕ) (full : n ≤ start + 1) where
-  window : Windowed (inUnits binary64 (largestOf (line s) (length s))) n (length s) (line s)
-  window = prices s n (p .values) floats (p .window) (p .short)
-
-  largest : Largest (line s) (length s) (largestOf (line s) (length s))
-  largest = known s n (p .values) floats (p .window) (p .short)
-
-  room : 16 * (n * (inUnits binary64 (largestOf (line s) (length s)) + 1)) < roof
-  room = room-for _ n (largest .low) (p .window .narrow)
-
-  pub first-beside : {sum seed : Float} → sum ≡ windowSum n (line s) start → seed ≡ mean n (runMeans n (line s)) start
-      → start < length s → BesideOf s n start start sum seed
-  first-beside = begins window (p .short) room start full
-
-  pub next-beside : {i : ℕ} {sum sum' average average' : Float} → BesideOf s n start i sum average
-      → sum' ≡ addDifference sum (line s (i + 1)) (line s (i + 1 - n))
-      → average' ≡ blend (emaAlpha n) average (over n sum')
-      → (start ≤ i) × (i + 1 < length s) → BesideOf s n start (i + 1) sum' average'
-  next-beside = goes-on window (p .short) room start full
-
-  -- the position of a bar whose price is farther from the average than the margin
-  pub decided-at : {i : ℕ} {sum average d x : Float} → BesideOf s n start i sum average
-      → d ≡ marginOf (largestOf (line s) (length s)) → lt d (magnitudeOf (sub binary64 (line s i) average)) ≡ true
-      → x ≡ signOf (sub binary64 (line s i) average) → (start ≤ i) × (i < length s)
-      → x ≡ singleEmaFrom start n (line s) i
-  decided-at {i} b e far is (h, k) =
-      let (u, g, wide) = margin-wide (largest .plus) (largest .low) in
-      let same = decides window (p .short) room start full b g wide (rw e at far) k in
-      position-at start n (line s) i refl (is ∙ same) h
-
--- ---- whether all bars are finished
-
-module _ (f : Line) {l : ℕ} {out₀ out₁ work₀ work₁ : List Float} where
-  -- all are
-  pub all-tried : {r : Bool} → Finished f l l out₀ out₁ work₀ work₁ → Tried r f l out₀ out₁ work₀ work₁
-  all-tried p = record { used = touched (p .cells); rows = p .cleared .rest; all = λ e. p }
-
-  -- some are not
-  pub not-tried : Touched l out₀ out₁ → Touched (8 * l) work₀ work₁ → Tried false f l out₀ out₁ work₀ work₁
-  not-tried u v = record { used = u; rows = v; all = λ e. absurd (true≢false (sym e)) }
-
--- on an output whose first cells were used before
-pub then-tried : {f : Line} {l : ℕ} {r : Bool} {out₀ out₁ out₂ work₀ work₁ : List Float} → Touched l out₀ out₁
-    → Tried r f l out₁ out₂ work₀ work₁ → Tried r f l out₀ out₂ work₀ work₁
-then-tried t p = record {
-  used = touched-then t (p .used);
-  rows = p .rows;
-  all = λ e. then-finished t untouched (p .all e);
-}
-
--- the first mean by a running sum is summed afresh
-pub first-run-mean : (n : ℕ) (f : Line) → 0 < n → runMeans n f (n - 1) ≡ mean n f (n - 1)
-first-run-mean n f N =
-    let bar : n ≡ n - 1 + 1 = omega arith in
-    let first = same-bar (first-running n refl N) bar in
-    ap (over n) (sym (run-at (n - 1) first (omega arith))) ∙ mean-of n (n - 1) f refl (omega arith)

@@ -1,3 +1,2 @@
--- What the exponential rule is.
-pub mod SingleEma
+-- The exponential rule by running sums.
 pub mod inner

@@ -1,6 +1,5 @@
 -- `write_ema` meets its contract: each way of writing the positions does, and where the running sums do not decide, the
 -- means write over what they wrote. Assumes nothing.
-use mathlib.Core.Path.{sym, _∙_}
 use borrow.Author.Needs.{needs}
 use Rattle.work_rows.proofs.Finished.{then-finished}
 use Rattle.rules_ema.proofs.write_ema.Statement.{statement}
@@ -9,13 +8,13 @@ use Rattle.rules_ema.proofs.write_ema.Tie as tie
 write-over-means-requires : tie.Need-write-over-means-requires
 write-over-means-requires c κs =
     let tried = c .before .before .before .before .before .before .before in
-    let asked = tried .before .before .before .before in
+    let asked = tried .before .before .before in
     let pre = asked .before .before .before .before .pre in
     let runs = tried .write-by-runs .ensures in
     (rw (runs .used .long, runs .rows .long) pre, asked .are-long-ticks .ensures)
 
-returns-3 : tie.Need-returns-3
-returns-3 c =
+returns-2 : tie.Need-returns-2
+returns-2 c =
     let means = c .before .before .before .before in
     let runs = means .before .before .before .before .before .before .before .before .write-by-runs .ensures in
     then-finished (runs .used) (runs .rows) (means .write-over-means .ensures)
@@ -25,17 +24,12 @@ write-ema-spec =
     tie.close
     (tie.spec
     (λ c κs. search needs)  -- are-long-ticks-requires
-    -- write-of-ticks-requires
-    (λ c κs. (search needs, sym (c .before .before .if1 .taken) ∙ c .before .before .before .are-long-ticks .ensures))
+    (λ c κs. search needs)  -- write-by-runs-requires
     (λ c. search needs)  -- same-length
     (λ c. search needs)  -- same-length-2
-    (λ c. search needs)  -- returns
-    (λ c κs. search needs)  -- write-by-runs-requires
+    (λ c. c .before .before .before .before .before .write-by-runs .ensures .all (c .if1 .taken))  -- returns
+    write-over-means-requires
     (λ c. search needs)  -- same-length-3
     (λ c. search needs)  -- same-length-4
-    (λ c. c .before .before .before .before .before .write-by-runs .ensures .all (c .if2 .taken))  -- returns-2
-    write-over-means-requires
-    (λ c. search needs)  -- same-length-5
-    (λ c. search needs)  -- same-length-6
-    returns-3
+    returns-2
     )

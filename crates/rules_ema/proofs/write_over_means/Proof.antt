@@ -9,18 +9,9 @@ use Rattle.cells.specs.Line.{line}
 use Rattle.cells.proofs.Parts.{part-long}
 use Rattle.cells.proofs.Written.{stands}
 use Rattle.windows.specs.Window.{mean}
-use Rattle.rules_ema_runs.proofs.SingleEma.{usable-inside, start-found, seed-of, found-finished, none-finished}
+use Rattle.rules_ema_bar.proofs.SingleEma.{seed-of, found-finished, none-finished}
 use Rattle.rules_ema.proofs.write_over_means.Statement.{statement}
 use Rattle.rules_ema.proofs.write_over_means.Tie as tie
-
-add-start : tie.Need-add-start
-add-start c =
-    let means = c .before .before .before .before in
-    let a = means .before .before .before .before .before .args in
-    let found = start-found (a .n) (line (now (a .series))) (means .write-means-by .ensures) (omega arith)
-    (c .first-usable .ensures) in
-    let inside = usable-inside (length (now (a .series))) (mean (a .n) (line (now (a .series)))) in
-    search needs
 
 slice-aggregate-mean-at : tie.Need-slice-aggregate-mean-at
 slice-aggregate-mean-at c =
@@ -56,21 +47,19 @@ returns c =
     let means = found .before .before .before .before in
     let a = means .before .before .before .before .before .args in
     let stood = means .write-means-by .ensures in
-    found-finished (a .n) (line (now (a .series))) stood (omega arith) (found .first-usable .ensures)
+    found-finished (a .n) (line (now (a .series))) stood (omega arith) (found .first-bar .ensures)
     (cells .write-from .ensures)
 
 returns-2 : tie.Need-returns-2
 returns-2 c =
-    let rows = c .before .before in
-    let cells = rows .before .before .before .before in
-    let found = cells .before .before .before in
+    let lead = c .before .before .before .before in
+    let found = lead .before .before .before .before in
     let means = found .before .before .before .before in
     let start = means .before .before .before .before .before in
     let a = start .args in
-    let room = start .pre .0 .out-long in
-    let stood = means .write-means-by .ensures in
-    found-finished (a .n) (line (now (a .series))) stood (omega arith) (found .first-usable .ensures)
-    (none-finished _ (a .n) (line (now (a .series))) (cells .clear .ensures) (rows .clear-bars .ensures) (omega arith))
+    let f = line (now (a .series)) in
+    found-finished (a .n) f (means .write-means-by .ensures) (omega arith) (found .first-bar .ensures)
+    (none-finished _ (a .n) f (lead .clear-lead .ensures) (omega arith))
 
 pub write-over-means-spec : {M : Type 1} → statement M
 write-over-means-spec =
@@ -79,18 +68,15 @@ write-over-means-spec =
     -- write-means-by-requires
     (λ c κs. let pre = c .before .before .before .before .pre in
     (record { window = pre .0 .window; room = search needs }, pre .1))
-    (λ c. search needs)  -- slice-reshare-prefix-first-usable
+    (λ c. search needs)  -- slice-reshare-prefix-first-bar
     (λ c. let means = c .before .before .before in
-    sym (part-long (means .write-means-by .ensures) (omega arith)))  -- slice-aggregate-first-usable
-    (λ c κs. search needs)  -- first-usable-requires
-    (λ c. search needs)  -- sub-start
-    add-start
+    sym (part-long (means .write-means-by .ensures) (omega arith)))  -- slice-aggregate-first-bar
+    (λ c κs. search needs)  -- first-bar-requires
     (λ c. search needs)  -- slice-reshare-prefix-mean-at
     slice-aggregate-mean-at
     mean-at-requires
     write-from-requires
-    (λ c κs. search needs)  -- clear-requires
-    (λ c κs. search needs)  -- clear-bars-requires
+    (λ c κs. search needs)  -- clear-lead-requires
     (λ c. search needs)  -- same-length
     (λ c. search needs)  -- same-length-2
     returns

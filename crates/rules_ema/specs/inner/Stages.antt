@@ -1,31 +1,17 @@
 -- What the stages of the exponential rule ask of each other. Assumes nothing.
 use mathlib.Core.Path.{_≡_}
-use mathlib.Core.Bool.{true}
 use mathlib.Core.List.{List}
-use Prim.Native.Nat.{ℕ, _+_, _*_, _<_, _≤_}
+use Prim.Native.Nat.{ℕ, _*_, _<_, _≤_}
 use lib.ListN.{length}
 use lib.Ieee.{Float}
-use Rattle.limits.specs.Limits.{Window}
 use Rattle.cells.specs.Line.{line}
 use Rattle.windows.specs.Window.{mean}
-use Rattle.values.specs.Accepted.{tick, all}
 use Rattle.window_means.specs.inner.Averaged.{Averaged}
 
 -- the means of s stand in `now`, and the average that begins at bar `start` begins with `seed`; there are `work` cells
 -- of work
 pub record Started (n : ℕ) (s : List Float) (start : ℕ) (seed : Float) (now : List Float) (work : ℕ) : Type 0 where
   pub means : Averaged n s (mean n (line s)) now
-  pub inside : start < length s
-  pub first : seed ≡ mean n (mean n (line s)) start
-  pub rows : 8 * length s ≤ work
-
--- s are whole ticks, and the average that begins at bar `start` begins with `seed`; there are `out` cells,
--- and `work` of work
-pub record TicksStarted (n : ℕ) (s : List Float) (start : ℕ) (seed : Float) (out work : ℕ) : Type 0 where
-  pub window : Window n
-  pub ticks : all tick s ≡ true
-  pub room : length s ≤ out
-  pub full : n ≤ start + 1
   pub inside : start < length s
   pub first : seed ≡ mean n (mean n (line s)) start
   pub rows : 8 * length s ≤ work

@@ -1,8 +1,8 @@
 -- The exponential rule: the search for its start, its cells, and where it does not look ahead. Assumes nothing.
-use mathlib.Core.Path.{_≡_, refl, sym, _∙_}
+use mathlib.Core.Path.{_≡_, refl, sym, ap, _∙_}
 use mathlib.Core.Bool.{Bool, true, false, cond}
 use mathlib.Core.List.{List}
-use Prim.Native.Nat.{ℕ, suc, _+_, _-_, _<_, _≤_}
+use Prim.Native.Nat.{ℕ, suc, _+_, _-_, _*_, _<_, _≤_}
 use native.Mathlib.Nat.{le-refl}
 use native.Mathlib.Omega.{arith}
 use borrow.Author.Tests.{ltb-true, lt-ltb, le-ltb}
@@ -26,16 +26,16 @@ use Rattle.cells.proofs.Search.{
 }
 use Rattle.cells.specs.Recur.{carried}
 use Rattle.cells.proofs.Carried.{carried-same, carried-seed, carried-next}
-use Rattle.work_rows.specs.inner.Scratch.{Scratch}
 use Rattle.work_rows.specs.inner.Finished.{Finished}
 use Rattle.work_rows.proofs.Scratch.{goes-on}
-use Rattle.work_rows.proofs.Finished.{all-finished, then-finished}
+use Rattle.work_rows.proofs.Finished.{one-finished, all-finished, then-finished}
 use Rattle.rounding.specs.Leaves.{signOf}
 use Rattle.windows.specs.Window.{mean}
 use Rattle.windows.proofs.Window.{causal-mean}
 use Rattle.averages_blend.specs.Blend.{blend}
 use Rattle.averages_exponential.specs.Ema.{emaAlpha}
-use Rattle.rules_ema_runs.specs.SingleEma.{firstUsable, emaOfMeans, singleEmaFrom, singleEmaLine}
+use Rattle.rules_ema_bar.specs.SingleEma.{firstUsable, emaOfMeans, singleEmaFrom, singleEmaLine}
+use Rattle.rules_ema_bar.specs.inner.Bar.{PositionPut}
 
 -- ---- the search
 
@@ -89,28 +89,41 @@ module _ (start n : ℕ) (f : Line) where
   position-at i e g h = rw (g, e, from-bar start plusZero _ i h)
 
 -- bars before it have none
-lead-written : (start n : ℕ) (f : Line) {k : ℕ} {old now : List Float} → Writing k (λ i. plusZero) old now
-    → k ≤ start
-    → Writing k (singleEmaFrom start n f) old now
+lead-finished : (start n : ℕ) (f : Line) {l k : ℕ} {out₀ out₁ work₀ work₁ : List Float}
+    → Finished (λ i. plusZero) l k out₀ out₁ work₀ work₁ → k ≤ start
+    → Finished (singleEmaFrom start n f) l k out₀ out₁ work₀ work₁
 unfolding singleEmaFrom
-lead-written start n f w h = writing-same w (λ i l. sym (before-bar start plusZero _ i (omega arith)))
+lead-finished start n f p h = record {
+  cells = writing-same (p .cells) (λ i l. sym (before-bar start plusZero _ i (omega arith)));
+  cleared = p .cleared;
+}
 
 module _ (start n : ℕ) (f : Line) {l : ℕ} {out₀ mid work₀ rows : List Float} where
   -- where every bar comes before it
-  pub none-finished : Writing l (λ i. plusZero) out₀ mid → Scratch l l (λ i. plusZero) work₀ rows → l ≤ start
+  pub none-finished : Finished (λ i. plusZero) l l out₀ mid work₀ rows → l ≤ start
       → Finished (singleEmaFrom start n f) l l out₀ mid work₀ rows
-  none-finished w c h = record { cells = lead-written start n f w h; cleared = c }
+  none-finished = lead-finished start n f
 
-  module _ (w : Writing start (λ i. plusZero) out₀ mid) (c : Scratch l start (λ i. plusZero) work₀ rows) where
+  module _ (w : Finished (λ i. plusZero) l start out₀ mid work₀ rows) where
     -- the bars before it, for a loop that goes on
-    pub lead-finished : Finished (singleEmaFrom start n f) l start mid mid rows rows
-    lead-finished = record { cells = stands (lead-written start n f w (le-refl start)); cleared = goes-on c }
+    pub starts-finished : Finished (singleEmaFrom start n f) l start mid mid rows rows
+    starts-finished =
+        let p = lead-finished start n f w (le-refl start) in
+        record { cells = stands (p .cells); cleared = goes-on (p .cleared) }
 
     -- and the bars of that loop
     pub rest-finished : {k : ℕ} {now left : List Float} → Finished (singleEmaFrom start n f) l k mid now rows left
         → (start ≤ k) × (k ≡ l) → Finished (singleEmaFrom start n f) l l out₀ now work₀ left
     rest-finished p (h, e) =
-        then-finished (touched-more (touched w) (omega arith)) (c .rest) (all-finished p e)
+        then-finished (touched-more (touched (w .cells)) (omega arith)) (w .cleared .rest) (all-finished p e)
+
+-- the bar of a loop: its position is that of the average
+pub position-finished : (start n : ℕ) {s : List Float} {i : ℕ} {x : Float} {out₀ out₁ out₂ work₀ work₁ work₂
+    : List Float} → Finished (singleEmaFrom start n (line s)) (length s) i out₀ out₁ work₀ work₁
+    → PositionPut s i x out₁ out₂ work₁ work₂ → signOf (sub binary64 (line s i) x) ≡ singleEmaFrom start n (line s) i
+    → (i < length s) × (i < length out₀) × (8 * length s ≤ length work₁)
+    → Finished (singleEmaFrom start n (line s)) (length s) (i + 1) out₀ out₂ work₀ work₂
+position-finished start n p q e h = rw (q .position) (one-finished p e (q .cleared) h)
 
 -- ---- the stages
 
@@ -123,13 +136,14 @@ seed-of n g w h start e k = e ∙ causal-mean n _ _ start (λ j m. part-is w h j
 
 module _ (n : ℕ) (f : Line) {l : ℕ} {old mid : List Float} (w : Writing l (mean n f) old mid) (h : l ≤ length old) where
   -- the search among them
-  pub start-found : {r : ℕ} → r ≡ firstUsable (length (take l mid)) (line (take l mid)) → r ≡ firstUsable l (mean n f)
-  start-found e = e ∙ rw (part-long w h) (usable-same l _ _ (part-is w h))
+  pub start-found : {r : ℕ} → r ≡ firstUsable (length (take l mid)) (line (take l mid)) + (n - 1)
+      → r ≡ firstUsable l (mean n f) + (n - 1)
+  start-found e = e ∙ ap (λ (k : ℕ). k + (n - 1)) (rw (part-long w h) (usable-same l _ _ (part-is w h)))
 
   -- the cells from the start that was found are the rule's
   pub found-finished : {r : ℕ} {now work₀ work₁ : List Float}
-      → r ≡ firstUsable (length (take l mid)) (line (take l mid))
-      → Finished (singleEmaFrom (r + (n - 1)) n f) l l mid now work₀ work₁
+      → r ≡ firstUsable (length (take l mid)) (line (take l mid)) + (n - 1)
+      → Finished (singleEmaFrom r n f) l l mid now work₀ work₁
       → Finished (singleEmaLine l n f) l l old now work₀ work₁
   unfolding singleEmaLine
   found-finished e v = then-finished (touched w) untouched (rw (← start-found e) v)

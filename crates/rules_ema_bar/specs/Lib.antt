@@ -1,0 +1,3 @@
+-- What the exponential rule is.
+pub mod SingleEma
+pub mod inner
