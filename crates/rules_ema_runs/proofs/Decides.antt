@@ -147,7 +147,8 @@ module _ (s : List Float) (n : ℕ) (floats : (j : ℕ) → T (fits binary64 (li
   same-average i (h, k) =
       each-bar start (length s)
       (sym (first-run start n (line s) refl)
-      ∙ first-average start n (line s) (causal-mean n _ _ start (λ j m. run-mean s n j floats ticks window (omega arith))))
+      ∙ first-average start n (line s)
+      (causal-mean n _ _ start (λ j m. run-mean s n j floats ticks window (omega arith))))
       (λ j m e. sym (next-run start n (line s) j refl refl refl (m .0))
       ∙ next-average start n (line s) j e (sum-mean (j + 1) (omega arith)) refl (m .0))
       i (h, k)
