@@ -1,5 +1,4 @@
 -- `first_bar` meets its contract: the average starts n - 1 bars after the first usable mean. Assumes nothing.
-use native.Mathlib.Omega.{arith}
 use lib.ListN.{length}
 use borrow.Author.Needs.{needs}
 use denote.Ref.{now}

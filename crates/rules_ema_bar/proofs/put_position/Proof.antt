@@ -1,7 +1,5 @@
 -- `put_position` meets its contract: one store, and the bar's work cells. Assumes nothing.
-use mathlib.Core.Path.{ap}
-use lib.ListN.{set}
-use lib.Ieee.{Float, ofBits}
+use lib.Ieee.{ofBits}
 use borrow.Author.Needs.{needs}
 use Rattle.rules_ema_bar.proofs.put_position.Statement.{statement}
 use Rattle.rules_ema_bar.proofs.put_position.Tie as tie
