@@ -25,6 +25,6 @@ floats-agree-spec =
     -- slice-aggregate-floats-left
     (λ c. part-long outputRoom _ _ (c .before .before .before .before .before .before .before .before .before .pre))
     (λ c κs. search needs)  -- floats-left-requires
-    (λ c. search needs)  -- same-length
+    (λ c. c .before .before .before .floats-left .kept .1 .1 .1 .1 .1 .1 .1 .0)  -- same-length
     returns
     )

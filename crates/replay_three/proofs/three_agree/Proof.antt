@@ -46,6 +46,6 @@ three-agree-spec =
     (λ c. c .before .before .before .before .before .before .before .before .before .before .before .before .pre .lower)
     slice-lower
     (λ c κs. tt)  -- three-left-requires
-    (λ c. search needs)  -- same-length
+    (λ c. c .before .before .before .before .before .three-left .kept .1 .1 .1 .1 .1 .1 .1 .1 .1 .0)  -- same-length
     returns
     )
