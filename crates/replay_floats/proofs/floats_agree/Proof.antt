@@ -11,8 +11,13 @@ returns c =
     let p = left .before .before .before in
     let x = p .before in
     let room = x .before .before .before .before .before .before .before .pre in
-    rw (take-replicate outputRoom _ _ room, x .float-of .ensures, p .parameters-of .ensures) at
+    rw (take-replicate outputRoom _ (x .float-of .result) room, x .float-of .ensures, p .parameters-of .ensures) at
     (left .floats-left .ensures)
+
+slice-out : tie.Need-slice-aggregate-floats-left
+slice-out c =
+    let x = c .before .before in
+    part-long outputRoom _ (x .float-of .result) (x .before .before .before .before .before .before .before .pre)
 
 pub floats-agree-spec : {M : Type 1} → statement M
 floats-agree-spec =
@@ -22,8 +27,7 @@ floats-agree-spec =
     (λ c κs. search needs)  -- float-of-requires
     (λ c κs. search needs)  -- parameters-of-requires
     (λ c. search needs)  -- array-borrow-prefix-out
-    -- slice-aggregate-floats-left
-    (λ c. part-long outputRoom _ _ (c .before .before .before .before .before .before .before .before .before .pre))
+    slice-out
     (λ c κs. search needs)  -- floats-left-requires
     (λ c. c .before .before .before .floats-left .kept .1 .1 .1 .1 .1 .1 .1 .0)  -- same-length
     returns

@@ -12,20 +12,26 @@ returns c =
     let p = left .before .before .before .before .before in
     let x = p .before in
     let rooms = x .before .before .before .before .before .before .before .before .before .pre in
-    three-lent outputRoom (p .parameters-of .ensures) (x .float-of .ensures) (rooms .out) (rooms .upper) (rooms .lower)
-    (left .three-left .ensures)
+    three-lent outputRoom (x .float-of .result) (p .parameters-of .ensures) (x .float-of .ensures) (rooms .out)
+    (rooms .upper) (rooms .lower) (left .three-left .ensures)
 
 slice-middle : tie.Need-slice-aggregate-three-left
-slice-middle c = part-long outputRoom _ _ (c .before .before .before .before .before .before .before .before
-    .before .before .before .pre .out)
+slice-middle c =
+    let x = c .before .before in
+    part-long outputRoom _ (x .float-of .result)
+    (x .before .before .before .before .before .before .before .before .before .pre .out)
 
 slice-upper : tie.Need-slice-aggregate-three-left-2
-slice-upper c = part-long outputRoom _ _ (c .before .before .before .before .before .before .before .before
-    .before .before .before .before .pre .upper)
+slice-upper c =
+    let x = c .before .before .before in
+    part-long outputRoom _ (x .float-of .result)
+    (x .before .before .before .before .before .before .before .before .before .pre .upper)
 
 slice-lower : tie.Need-slice-aggregate-three-left-3
-slice-lower c = part-long outputRoom _ _ (c .before .before .before .before .before .before .before .before
-    .before .before .before .before .before .pre .lower)
+slice-lower c =
+    let x = c .before .before .before .before in
+    part-long outputRoom _ (x .float-of .result)
+    (x .before .before .before .before .before .before .before .before .before .pre .lower)
 
 pub three-agree-spec : {M : Type 1} → statement M
 three-agree-spec =
