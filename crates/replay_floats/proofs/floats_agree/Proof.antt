@@ -1,7 +1,8 @@
 -- `floats_agree` meets its contract: the cells that it lends hold what they must before a call. Assumes nothing.
 use borrow.Author.Needs.{needs}
 use Rattle.replay_record.specs.Head.{outputRoom}
-use Rattle.replay_compare.proofs.Comparing.{part-long, take-replicate}
+use Rattle.replay_compare.proofs.Comparing.{part-long}
+use Rattle.replay_floats.proofs.Lent.{floats-lent}
 use Rattle.replay_floats.proofs.floats_agree.Statement.{statement}
 use Rattle.replay_floats.proofs.floats_agree.Tie as tie
 
@@ -11,7 +12,7 @@ returns c =
     let p = left .before .before .before in
     let x = p .before in
     let room = x .before .before .before .before .before .before .before .pre in
-    rw (take-replicate outputRoom _ (x .float-of .result) room, x .float-of .ensures, p .parameters-of .ensures) at
+    floats-lent outputRoom (x .float-of .result) (p .parameters-of .ensures) (x .float-of .ensures) room
     (left .floats-left .ensures)
 
 slice-out : tie.Need-slice-aggregate-floats-left
@@ -26,9 +27,9 @@ floats-agree-spec =
     (λ c. search needs)  -- element-copy-out-cells
     (λ c κs. search needs)  -- float-of-requires
     (λ c κs. search needs)  -- parameters-of-requires
-    (λ c. search needs)  -- array-borrow-prefix-out
+    (λ c. c .before .before .before .before .before .before .before .before .pre)  -- array-borrow-prefix-out
     slice-out
-    (λ c κs. search needs)  -- floats-left-requires
+    (λ c κs. tt)  -- floats-left-requires
     (λ c. c .before .before .before .floats-left .kept .1 .1 .1 .1 .1 .1 .1 .0)  -- same-length
     returns
     )
