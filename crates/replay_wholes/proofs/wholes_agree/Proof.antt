@@ -1,7 +1,7 @@
 -- `wholes_agree` meets its contract: the cells that it lends hold what they must before a call. Assumes nothing.
 use borrow.Author.Needs.{needs}
 use Rattle.replay_record.specs.Head.{outputRoom}
-use Rattle.replay_compare.proofs.Comparing.{part-long, take-replicate}
+use Rattle.replay_compare.proofs.Comparing.{part-within, part-long, take-replicate}
 use Rattle.replay_wholes.specs.Wholes.{untouchedWhole}
 use Rattle.replay_wholes.proofs.wholes_agree.Statement.{statement}
 use Rattle.replay_wholes.proofs.wholes_agree.Tie as tie
@@ -19,7 +19,8 @@ wholes-agree-spec =
     (tie.spec
     (λ c. search needs)  -- element-copy-out-cells
     (λ c κs. search needs)  -- parameters-of-requires
-    (λ c. c .before .before .before .before .before .pre)  -- array-borrow-prefix-out
+    -- array-borrow-prefix-out
+    (λ c. part-within outputRoom _ untouchedWhole (c .before .before .before .before .before .pre))
     -- slice-aggregate-wholes-left
     (λ c. part-long outputRoom _ untouchedWhole (c .before .before .before .before .before .before .pre))
     (λ c κs. tt)  -- wholes-left-requires
