@@ -11,6 +11,7 @@ ghost use Rattle.replay_record.specs.Head.{Within, barsOf, cellsOf};
 ghost use Rattle.replay.specs.Records.{WrittenOut, ByRule, Ran};
 ghost use Rattle.replay.specs.Counts.{Next, Counts, counted, tallied};
 ghost use Rattle.replay.specs.inner.Reading.{Parts, InParts, Short, Long, Given, Rest};
+ghost use Rattle.replay.specs.inner.Names.{Named};
 
 // What the next record came to: a call that differs 0 times or once, and the place after it.
 enum Step {
@@ -222,38 +223,72 @@ fn print_totals(records: u64, differ: u64, left: u64) {
     io::write_all(1, b" not run\n");
 }
 
-// The lines of the functions, in the order of their numbers.
-fn print_first(calls: &[u64; 25], differ: &[u64; 25]) {
-    replay_lines::print_line(b"sma ", calls[1], differ[1]);
-    replay_lines::print_line(b"ema ", calls[2], differ[2]);
-    replay_lines::print_line(b"exponential_smoothing ", calls[3], differ[3]);
-    replay_lines::print_line(b"double_sma_positions ", calls[4], differ[4]);
-    replay_lines::print_line(b"ultimate_smoother ", calls[5], differ[5]);
-    replay_lines::print_line(b"true_range ", calls[6], differ[6]);
-    replay_lines::print_line(b"single_sma_positions ", calls[7], differ[7]);
-    replay_lines::print_line(b"single_ema_positions ", calls[8], differ[8]);
+// Where the name that begins at an index ends: names follow each other, each with a space at its end. No name has more
+// than 64 bytes.
+fn name_end(names: &[u8], start: usize) -> usize
+    requires { ⌜ start < length (now names) ⌝ }
+    ensures { λ r. ⌜ Named (now (names .entry)) start r ⌝ }
+{
+    let mut end = start + 1;
+    while end < names.len() {
+        if names[end - 1] == b' ' {
+            return end;
+        }
+        if end - start > 63 {
+            return end;
+        }
+        end += 1;
+    }
+    end
 }
 
-fn print_second(calls: &[u64; 25], differ: &[u64; 25]) {
-    replay_lines::print_line(b"mid_positions ", calls[9], differ[9]);
-    replay_lines::print_line(b"mms_positions ", calls[10], differ[10]);
-    replay_lines::print_line(b"rank_positions ", calls[11], differ[11]);
-    replay_lines::print_line(b"wilder_rsi ", calls[12], differ[12]);
-    replay_lines::print_line(b"rsx_ss2 ", calls[13], differ[13]);
-    replay_lines::print_line(b"jurik_volty ", calls[14], differ[14]);
-    replay_lines::print_line(b"ultimate_oscillator ", calls[15], differ[15]);
-    replay_lines::print_line(b"holt_winters ", calls[16], differ[16]);
+// The lines of functions that have their numbers one after another.
+fn print_lines(names: &[u8], first: usize, calls: &[u64; 25], differ: &[u64; 25]) {
+    let mut at = 0;
+    let mut function = first;
+    while function < 25 {
+        if at >= names.len() {
+            return;
+        }
+        let end = name_end(names, at);
+        replay_lines::print_line(&names[at..end], calls[function], differ[function]);
+        at = end;
+        function += 1;
+    }
 }
 
-fn print_third(calls: &[u64; 25], differ: &[u64; 25]) {
-    replay_lines::print_line(b"triple_sma_positions ", calls[17], differ[17]);
-    replay_lines::print_line(b"boll_positions ", calls[18], differ[18]);
-    replay_lines::print_line(b"boll_reverse_positions ", calls[19], differ[19]);
-    replay_lines::print_line(b"rsi_reverse_positions ", calls[20], differ[20]);
-    replay_lines::print_line(b"rolling_rank ", calls[21], differ[21]);
-    replay_lines::print_line(b"tick_mean ", calls[22], differ[22]);
-    replay_lines::print_line(b"ultimate_bands ", calls[23], differ[23]);
-    replay_lines::print_line(b"ultimate_channel ", calls[24], differ[24]);
+// The lines of all functions, in the order of their numbers.
+fn print_functions(calls: &[u64; 25], differ: &[u64; 25]) {
+    print_lines(
+        b"sma ema exponential_smoothing double_sma_positions ultimate_smoother true_range ",
+        1,
+        calls,
+        differ,
+    );
+    print_lines(
+        b"single_sma_positions single_ema_positions mid_positions mms_positions rank_positions ",
+        7,
+        calls,
+        differ,
+    );
+    print_lines(
+        b"wilder_rsi rsx_ss2 jurik_volty ultimate_oscillator holt_winters ",
+        12,
+        calls,
+        differ,
+    );
+    print_lines(
+        b"triple_sma_positions boll_positions boll_reverse_positions rsi_reverse_positions ",
+        17,
+        calls,
+        differ,
+    );
+    print_lines(
+        b"rolling_rank tick_mean ultimate_bands ultimate_channel ",
+        21,
+        calls,
+        differ,
+    );
 }
 
 fn main() {
@@ -274,8 +309,6 @@ fn main() {
     let place = read.place;
     let recorded = first[0];
     let left = run_all(&mut block, place, recorded, &mut calls, &mut differ);
-    print_first(&calls, &differ);
-    print_second(&calls, &differ);
-    print_third(&calls, &differ);
+    print_functions(&calls, &differ);
     print_totals(recorded, differ[0], left);
 }

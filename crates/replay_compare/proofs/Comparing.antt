@@ -81,8 +81,11 @@ promised more c = record {
 -- ---- cells that were made and lent in part
 
 module _ {A : Type 0} (n k : ℕ) (x : A) (h : k ≤ n) where
+  pub part-within : k ≤ length (replicate n x)
+  part-within = rw length-replicate h
+
   pub part-long : k ≡ length (take k (replicate n x))
-  part-long = sym (length-take-le k (replicate n x) (rw length-replicate h))
+  part-long = sym (length-take-le k (replicate n x) part-within)
 
 pub take-replicate : {A : Type 0} (n k : ℕ) (x : A) → k ≤ n → take k (replicate n x) ≡ replicate k x
 take-replicate n zero x h = refl

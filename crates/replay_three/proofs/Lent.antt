@@ -14,8 +14,8 @@ use Rattle.replay_compare.proofs.Comparing.{take-replicate}
 use Rattle.replay_three.specs.Three.{IsThree, ThreeCall, ThreeCalled}
 
 -- they are as long as the record says, and hold what they must before a call
-pub three-lent : (n : ℕ) {h : List ℕ} {f g k work₀ : List Float} {recorded : List ℕ} {same : Bool} {p : Parameters}
-    {x : Float}
+pub three-lent : (n : ℕ) (x : Float) {h : List ℕ} {f g k work₀ : List Float} {recorded : List ℕ} {same : Bool}
+    {p : Parameters}
     → p ≡ asked h → x ≡ untouched → outOf h ≤ n → upperOf h ≤ n → lowerOf h ≤ n
     → (IsThree (p .function)
     → Compared
@@ -24,6 +24,6 @@ pub three-lent : (n : ℕ) {h : List ℕ} {f g k work₀ : List Float} {recorded
     (take (lowerOf h) (replicate n x)) work₀))
     h recorded same)
     → IsThree (functionOf h) → Compared (ThreeCalled h f g k work₀) h recorded same
-three-lent n {h} {x = x} q e a b c left =
+three-lent n x {h} q e a b c left =
     rw (take-replicate n (outOf h) x a, take-replicate n (upperOf h) x b, take-replicate n (lowerOf h) x c, e, q) at
     left

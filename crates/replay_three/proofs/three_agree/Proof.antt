@@ -1,7 +1,7 @@
 -- `three_agree` meets its contract: the cells that it lends hold what they must before a call. Assumes nothing.
 use borrow.Author.Needs.{needs}
 use Rattle.replay_record.specs.Head.{outputRoom}
-use Rattle.replay_compare.proofs.Comparing.{part-long}
+use Rattle.replay_compare.proofs.Comparing.{part-within, part-long}
 use Rattle.replay_three.proofs.Lent.{three-lent}
 use Rattle.replay_three.proofs.three_agree.Statement.{statement}
 use Rattle.replay_three.proofs.three_agree.Tie as tie
@@ -12,20 +12,44 @@ returns c =
     let p = left .before .before .before .before .before in
     let x = p .before in
     let rooms = x .before .before .before .before .before .before .before .before .before .pre in
-    three-lent outputRoom (p .parameters-of .ensures) (x .float-of .ensures) (rooms .out) (rooms .upper) (rooms .lower)
-    (left .three-left .ensures)
+    three-lent outputRoom (x .float-of .result) (p .parameters-of .ensures) (x .float-of .ensures) (rooms .out)
+    (rooms .upper) (rooms .lower) (left .three-left .ensures)
+
+prefix-middle : tie.Need-array-borrow-prefix-middle
+prefix-middle c =
+    let x = c .before in
+    part-within outputRoom _ (x .float-of .result)
+    (x .before .before .before .before .before .before .before .before .before .pre .out)
 
 slice-middle : tie.Need-slice-aggregate-three-left
-slice-middle c = part-long outputRoom _ _ (c .before .before .before .before .before .before .before .before
-    .before .before .before .pre .out)
+slice-middle c =
+    let x = c .before .before in
+    part-long outputRoom _ (x .float-of .result)
+    (x .before .before .before .before .before .before .before .before .before .pre .out)
+
+prefix-upper : tie.Need-array-borrow-prefix-upper
+prefix-upper c =
+    let x = c .before .before in
+    part-within outputRoom _ (x .float-of .result)
+    (x .before .before .before .before .before .before .before .before .before .pre .upper)
 
 slice-upper : tie.Need-slice-aggregate-three-left-2
-slice-upper c = part-long outputRoom _ _ (c .before .before .before .before .before .before .before .before
-    .before .before .before .before .pre .upper)
+slice-upper c =
+    let x = c .before .before .before in
+    part-long outputRoom _ (x .float-of .result)
+    (x .before .before .before .before .before .before .before .before .before .pre .upper)
+
+prefix-lower : tie.Need-array-borrow-prefix-lower
+prefix-lower c =
+    let x = c .before .before .before in
+    part-within outputRoom _ (x .float-of .result)
+    (x .before .before .before .before .before .before .before .before .before .pre .lower)
 
 slice-lower : tie.Need-slice-aggregate-three-left-3
-slice-lower c = part-long outputRoom _ _ (c .before .before .before .before .before .before .before .before
-    .before .before .before .before .before .pre .lower)
+slice-lower c =
+    let x = c .before .before .before .before in
+    part-long outputRoom _ (x .float-of .result)
+    (x .before .before .before .before .before .before .before .before .before .pre .lower)
 
 pub three-agree-spec : {M : Type 1} → statement M
 three-agree-spec =
@@ -36,16 +60,13 @@ three-agree-spec =
     (λ c. search needs)  -- element-copy-out-three
     (λ c κs. search needs)  -- float-of-requires
     (λ c κs. search needs)  -- parameters-of-requires
-    -- array-borrow-prefix-middle
-    (λ c. c .before .before .before .before .before .before .before .before .before .before .pre .out)
+    prefix-middle
     slice-middle
-    -- array-borrow-prefix-upper
-    (λ c. c .before .before .before .before .before .before .before .before .before .before .before .pre .upper)
+    prefix-upper
     slice-upper
-    -- array-borrow-prefix-lower
-    (λ c. c .before .before .before .before .before .before .before .before .before .before .before .before .pre .lower)
+    prefix-lower
     slice-lower
     (λ c κs. tt)  -- three-left-requires
-    (λ c. search needs)  -- same-length
+    (λ c. c .before .before .before .before .before .three-left .kept .1 .1 .1 .1 .1 .1 .1 .1 .1 .0)  -- same-length
     returns
     )
