@@ -12,7 +12,8 @@ returns c =
     let left = c .before .before .before in
     let p = left .before .before .before in
     let room = p .before .before .before .before .before .pre in
-    rw (take-replicate outputRoom _ (wholeWord untouchedWhole) room, p .parameters-of .ensures) at (left .places-left .ensures)
+    rw (take-replicate outputRoom _ (wholeWord untouchedWhole) room, p .parameters-of .ensures) at
+    (left .places-left .ensures)
 
 pub places-agree-spec : {M : Type 1} → statement M
 places-agree-spec =
