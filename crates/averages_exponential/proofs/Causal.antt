@@ -6,8 +6,8 @@ use Rattle.cells.specs.Line.{Causal}
 use Rattle.cells.proofs.Carried.{causal-carried}
 use Rattle.windows.specs.Window.{mean}
 use Rattle.windows.proofs.Window.{causal-mean}
-use Rattle.averages_blend.specs.Blend.{blend}
-use Rattle.averages_exponential.specs.Ema.{emaAlpha, emaLine}
+use Rattle.averages_blend.specs.Blend.{blend, emaAlpha}
+use Rattle.averages_exponential.specs.Ema.{emaLine}
 use Rattle.averages_exponential.specs.ExponentialSmoothing.{exponentialLine}
 
 pub causal-ema : (n : ℕ) → Causal (emaLine n)

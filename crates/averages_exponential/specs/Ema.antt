@@ -1,21 +1,15 @@
 -- ema: what it answers and writes. TA-Lib's EMA. Assumes nothing.
 use mathlib.Core.List.{List, [], _∷_}
-use Prim.Native.Nat.{ℕ, _+_, _-_}
-use lib.IntN.{pos}
-use lib.Ieee.{Float, binary64, div, ofInt}
+use Prim.Native.Nat.{ℕ, _-_}
+use lib.Ieee.{Float}
 use lib.ListN.{length}
 use Rattle.cells.specs.Line.{Line, line}
 use Rattle.windows.specs.Window.{mean}
-use Rattle.averages_blend.specs.Blend.{smoothLine}
-use Rattle.rounding.specs.Leaves.{two}
+use Rattle.averages_blend.specs.Blend.{emaAlpha, smoothLine}
 use Rattle.calls.specs.Answer.{answered}
 use Rattle.calls.specs.Call.{Call}
 use Rattle.calls.specs.declared.Answer.{Answer}
 use Rattle.values.specs.Accepted.{accepted}
-
--- 2 / (n + 1)
-abbrev pub emaAlpha : ℕ → Float
-emaAlpha n = div binary64 two (ofInt binary64 (pos (n + 1)))
 
 -- TA-Lib's EMA: the seed is the mean of the first n, at bar n - 1
 abbrev pub emaLine : ℕ → Line → Line

@@ -16,7 +16,8 @@ ghost use Rattle.windows.specs.Window.{mean};
 ghost use Rattle.averages_blend.specs.inner.Blending.{Middle, Smoothing};
 ghost use Rattle.averages_blend.specs.inner.HalfWay.{Seeded};
 ghost use Rattle.averages_tested.specs.inner.Tested.{TestedSeed};
-ghost use Rattle.averages_exponential.specs.Ema.{emaAlpha, EmaCall};
+ghost use Rattle.averages_blend.specs.Blend.{emaAlpha};
+ghost use Rattle.averages_exponential.specs.Ema.{EmaCall};
 ghost use Rattle.averages_exponential.specs.ExponentialSmoothing.{ExponentialSmoothingCall};
 ghost use Rattle.averages_exponential.specs.inner.Answers.{SmoothCall, firstSuffice};
 

@@ -11,8 +11,7 @@ use Rattle.cells.proofs.Line.{causal-then, causal-from}
 use Rattle.cells.proofs.Carried.{carried-same}
 use Rattle.cells.proofs.Search.{firstBar-same}
 use Rattle.changes.proofs.Causal.{causal-change}
-use Rattle.averages_blend.specs.Blend.{blend}
-use Rattle.averages_exponential.specs.Ema.{emaAlpha}
+use Rattle.averages_blend.specs.Blend.{blend, emaAlpha}
 use Rattle.jurik_bar.specs.Jurik.{averaged, copied, passed, isNumber, swings, once, twice, leaned, jurikWith}
 
 module _ (usable : Float → Bool) (none : Float) where

@@ -16,8 +16,7 @@ use Rattle.cells.proofs.Carried.{carried-seed, carried-next}
 use Rattle.cells.proofs.Search.{firstBar-found, firstBar-met, firstBar-most}
 use Rattle.cells.proofs.Touched.{touched, untouched}
 use Rattle.cells.proofs.Written.{writing-same}
-use Rattle.averages_blend.specs.Blend.{blend}
-use Rattle.averages_exponential.specs.Ema.{emaAlpha}
+use Rattle.averages_blend.specs.Blend.{blend, emaAlpha}
 use Rattle.jurik_bar.specs.Jurik.{averaged, alike, isNumber, swings, once, twice, lean, leaned, jurikWith, jurikLine}
 use Rattle.jurik_bar.specs.inner.Passes.{
   differs,

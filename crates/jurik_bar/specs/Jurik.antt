@@ -18,8 +18,7 @@ use Rattle.cells.specs.Search.{nonZero, firstBar}
 use Rattle.rounding.specs.Leaves.{magnitudeOf}
 use Rattle.rounding.specs.Literals.{half}
 use Rattle.changes.specs.Changes.{change}
-use Rattle.averages_blend.specs.Blend.{blend}
-use Rattle.averages_exponential.specs.Ema.{emaAlpha}
+use Rattle.averages_blend.specs.Blend.{blend, emaAlpha}
 
 -- ---- a pass, and the test before it
 

@@ -32,8 +32,7 @@ use Rattle.work_rows.proofs.Finished.{one-finished, all-finished, then-finished
 use Rattle.rounding.specs.Leaves.{signOf}
 use Rattle.windows.specs.Window.{mean}
 use Rattle.windows.proofs.Window.{causal-mean}
-use Rattle.averages_blend.specs.Blend.{blend}
-use Rattle.averages_exponential.specs.Ema.{emaAlpha}
+use Rattle.averages_blend.specs.Blend.{blend, emaAlpha}
 use Rattle.rules_ema_bar.specs.SingleEma.{firstUsable, emaOfMeans, singleEmaFrom, singleEmaLine}
 use Rattle.rules_ema_bar.specs.inner.Bar.{PositionPut}
 

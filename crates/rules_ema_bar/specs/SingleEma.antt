@@ -11,8 +11,7 @@ use Rattle.cells.specs.Recur.{carried}
 use Rattle.cells.specs.Search.{firstBar, nonZero}
 use Rattle.rounding.specs.Leaves.{signOf}
 use Rattle.windows.specs.Window.{mean}
-use Rattle.averages_blend.specs.Blend.{blend}
-use Rattle.averages_exponential.specs.Ema.{emaAlpha}
+use Rattle.averages_blend.specs.Blend.{blend, emaAlpha}
 use Rattle.values.specs.Accepted.{accepted}
 use Rattle.calls.specs.Answer.{answered}
 use Rattle.calls.specs.Call.{WorkCall}

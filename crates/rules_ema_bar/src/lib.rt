@@ -5,7 +5,7 @@ ghost use lib.ListN.{length};
 ghost use Rattle.limits.specs.Limits.{Window};
 ghost use Rattle.cells.specs.Line.{line, plusZero};
 ghost use Rattle.work_rows.specs.inner.Finished.{Finished};
-ghost use Rattle.averages_exponential.specs.Ema.{emaAlpha};
+ghost use Rattle.averages_blend.specs.Blend.{emaAlpha};
 ghost use Rattle.rules_ema_bar.specs.SingleEma.{firstUsable};
 ghost use Rattle.rules_ema_bar.specs.inner.Bar.{distanceOf, decided, BarRoom, PositionPut, LeadRoom};
 

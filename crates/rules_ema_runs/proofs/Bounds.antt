@@ -17,8 +17,7 @@ use Rattle.cells.specs.Recur.{recur, carried}
 use Rattle.cells.proofs.Line.{from-bar}
 use Rattle.windows.specs.Window.{mean}
 use Rattle.exact_ticks.proofs.Bounds.{Bounded, mean-bounded}
-use Rattle.averages_blend.specs.Blend.{blend}
-use Rattle.averages_exponential.specs.Ema.{emaAlpha}
+use Rattle.averages_blend.specs.Blend.{blend, emaAlpha}
 use Rattle.rules_ema_bar.specs.SingleEma.{emaOfMeans}
 
 -- the weight of a new bar lies from 0 to 1

@@ -21,8 +21,7 @@ use Rattle.windows.proofs.Window.{causal-mean, next-running}
 use Rattle.windows.proofs.Runs.{run-at}
 use Rattle.exact_ticks.proofs.Exact.{sum-whole, running-whole, difference-slides}
 use Rattle.exact_ticks.proofs.TickMeans.{tick-line}
-use Rattle.averages_blend.specs.Blend.{blend}
-use Rattle.averages_exponential.specs.Ema.{emaAlpha}
+use Rattle.averages_blend.specs.Blend.{blend, emaAlpha}
 use Rattle.sliding_means.specs.inner.Means.{runMeans}
 use Rattle.running_sums.specs.inner.Margin.{largestOf, marginOf}
 use Rattle.running_sums.proofs.Relative.{roof}

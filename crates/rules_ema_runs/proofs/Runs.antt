@@ -19,8 +19,7 @@ use Rattle.rounding_order.proofs.Within.{Within, rest-share}
 use Rattle.cells.specs.Line.{Line}
 use Rattle.windows.specs.Window.{over, windowSum, mean, addDifference}
 use Rattle.windows.proofs.Window.{mean-of}
-use Rattle.averages_blend.specs.Blend.{blend}
-use Rattle.averages_exponential.specs.Ema.{emaAlpha}
+use Rattle.averages_blend.specs.Blend.{blend, emaAlpha}
 use Rattle.sliding_means.specs.inner.Means.{runMeans}
 use Rattle.running_sums.proofs.Relative.{roof}
 use Rattle.running_sums.proofs.Sums.{Windowed, Carried, fresh, carry}

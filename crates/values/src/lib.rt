@@ -178,7 +178,8 @@ fn each_tick(s: &[f64]) -> bool
 }
 
 // Whether every number of s is a whole tick. Where prices have fractions the first one mostly shows it; where all
-// bits together are at most those of 2^24, every number lies from 0.0 to 2^24.
+// bits together are at most those of 2^24, every number lies from 0.0 to 2^24. If the first 16 fail that, as prices on
+// both sides of 0 mostly do, each is tested by itself at once.
 pub fn all_ticks(s: &[f64]) -> bool
     ensures { λ r. ⌜ r ≡ all tick (now (s .entry)) ⌝ }
 {
@@ -186,6 +187,9 @@ pub fn all_ticks(s: &[f64]) -> bool
         return true;
     }
     if is_tick(s[0]) {
+        if bits_together(s, 0, cells::smaller(s.len(), 16)) > LARGEST_TICK_BITS {
+            return each_tick(s);
+        }
         let found = gather(s);
         if found.bits <= LARGEST_TICK_BITS {
             return found.whole;

@@ -8,7 +8,7 @@ use lib.Ieee.{nan, ofBits}
 use Rattle.cells.specs.Line.{plusZero}
 use Rattle.cells.specs.Search.{nonZero}
 use Rattle.windows.proofs.Window.{count-is-float}
-use Rattle.averages_exponential.specs.Ema.{emaAlpha}
+use Rattle.averages_blend.specs.Blend.{emaAlpha}
 use Rattle.jurik_bar.specs.Jurik.{isNumber, once, twice, leaned, jurikWith, jurikLine}
 use Rattle.jurik_bar.specs.inner.Passes.{tested}
 use Rattle.jurik.proofs.Causal.{causal-leaned}

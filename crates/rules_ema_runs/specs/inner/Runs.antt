@@ -14,8 +14,7 @@ use Rattle.cells.specs.inner.Touched.{Touched}
 use Rattle.work_rows.specs.inner.Finished.{Finished}
 use Rattle.checks.specs.inner.Due.{Priced}
 use Rattle.windows.specs.Window.{over, windowSum, mean}
-use Rattle.averages_blend.specs.Blend.{blend}
-use Rattle.averages_exponential.specs.Ema.{emaAlpha}
+use Rattle.averages_blend.specs.Blend.{blend, emaAlpha}
 use Rattle.sliding_means.specs.inner.Means.{runMeans}
 use Rattle.rules_ema_bar.specs.SingleEma.{singleEmaFrom}
 use Rattle.rules_ema_bar.specs.inner.Bar.{decided}

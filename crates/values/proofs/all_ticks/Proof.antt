@@ -13,18 +13,18 @@ use Rattle.values.proofs.Quick.{quick-up-to, bits-first}
 use Rattle.values.proofs.all_ticks.Statement.{statement}
 use Rattle.values.proofs.all_ticks.Tie as tie
 
-returns-2 : tie.Need-returns-2
-returns-2 c =
+returns-3 : tie.Need-returns-3
+returns-3 c =
     let at-gather = c .before .before in
-    let known = at-gather .before .before .before in
+    let known = at-gather .before .before .before .before .before .before in
     let s = now (known .before .before .before .args .s) in
     let found = at-gather .gather .ensures in
     let none = bits-first s (length s) (found .0) in
     let each = quick-up-to s none (known .shared-slice-known2 .given) 24 (omega arith) (omega arith) in
     found .1 ∙ all-same comesBack tick s (λ i h. whole-tick _ (each i h))
 
-returns-4 : tie.Need-returns-4
-returns-4 c = rw (
+returns-5 : tie.Need-returns-5
+returns-5 c = rw (
   all-next tick (now (c .before .before .before .before .before .args .s)) 0 (omega arith),
   ←
       c .before .is-tick .ensures,
@@ -38,9 +38,13 @@ all-ticks-spec =
     (λ c. sym (all-none tick (now (c .before .before .args .s)) 0 (omega arith)))  -- returns
     (λ c. search needs)  -- shared-slice-read-is-tick
     (λ c κs. search needs)  -- is-tick-requires
-    (λ c κs. search needs)  -- gather-requires
-    returns-2
+    (λ c κs. search needs)  -- smaller-requires
+    (λ c κs. search needs)  -- bits-together-requires
     (λ c κs. search needs)  -- each-tick-requires
-    (λ c. search needs)  -- returns-3
-    returns-4
+    (λ c. search needs)  -- returns-2
+    (λ c κs. search needs)  -- gather-requires
+    returns-3
+    (λ c κs. search needs)  -- each-tick-requires-2
+    (λ c. search needs)  -- returns-4
+    returns-5
     )
