@@ -7,6 +7,8 @@ use crate::generate;
 use crate::library::Lent;
 use crate::rng::Rng;
 use crate::source;
+use std::sync::atomic::{AtomicUsize, Ordering};
+use std::thread;
 
 const SHOWN: usize = 5;
 
@@ -110,21 +112,33 @@ fn rng_of(function: &Function, seed: u64) -> Rng {
     Rng::new(seed.wrapping_add(catalogue::number(function) << 56))
 }
 
-/// Every exported function: its largest call, then with each seed its edges and random calls up to `calls` in all. True
-/// if none differs.
-pub fn run(seeds: &[u64], calls: usize) -> bool {
-    let (mut total, mut functions, mut differ) = (0, 0, 0);
-    for function in catalogue::exported() {
-        let mut trial = Trial::new(function);
-        trial.run(&longest(function, seeds[0]), seeds[0]);
-        for (call, salt) in seeds.iter().flat_map(|seed| seeded(function, *seed, calls)) {
-            trial.run(&call, salt);
-        }
-        trial.print();
-        total += trial.tally.calls;
-        functions += 1;
-        differ += trial.tally.differ;
+/// One function: its largest call, then with each seed its edges and random calls up to `calls` in all.
+fn tried(function: &'static Function, seeds: &[u64], calls: usize) -> Trial {
+    let mut trial = Trial::new(function);
+    trial.run(&longest(function, seeds[0]), seeds[0]);
+    for (call, salt) in seeds.iter().flat_map(|seed| seeded(function, *seed, calls)) {
+        trial.run(&call, salt);
     }
-    println!("compared {total} calls of {functions} functions, {differ} differ");
-    differ == 0 && functions > 0
+    trial
+}
+
+/// Every exported function, as many at a time as there are processors. True if none differs.
+pub fn run(seeds: &[u64], calls: usize) -> bool {
+    let functions: Vec<&'static Function> = catalogue::exported().collect();
+    let next = AtomicUsize::new(0);
+    let worker = || {
+        let taken = std::iter::from_fn(|| functions.get(next.fetch_add(1, Ordering::Relaxed)));
+        taken.map(|function| tried(function, seeds, calls)).collect::<Vec<Trial>>()
+    };
+    let mut trials: Vec<Trial> = thread::scope(|scope| {
+        let processors = thread::available_parallelism().map_or(1, usize::from);
+        let workers: Vec<_> = (0..processors).map(|_| scope.spawn(worker)).collect();
+        workers.into_iter().flat_map(|worker| worker.join().expect("a worker ended early")).collect()
+    });
+    trials.sort_by_key(|trial| catalogue::number(trial.function));
+    trials.iter().for_each(Trial::print);
+    let total: usize = trials.iter().map(|trial| trial.tally.calls).sum();
+    let differ: usize = trials.iter().map(|trial| trial.tally.differ).sum();
+    println!("compared {total} calls of {} functions, {differ} differ", trials.len());
+    differ == 0 && !trials.is_empty()
 }
