@@ -17,5 +17,5 @@ pub fn write_mean_ranges(series: &[f64], n: usize, w: usize, means: &mut [f64], 
 {
     let bars = series.len();
     window_means::write_means_of_prices(series, n, means);
-    extremes::write_ranges(&means[..bars], w, rows);
+    extremes_ranges::write_ranges(&means[..bars], w, rows);
 }

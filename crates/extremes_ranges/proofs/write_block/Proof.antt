@@ -1,9 +1,9 @@
 -- `write_block` meets its contract: the second pass writes over the first. Assumes nothing.
 use native.Mathlib.Omega.{arith}
 use borrow.Author.Needs.{needs}
-use Rattle.extremes.proofs.Part.{stays, replaced-again}
-use Rattle.extremes.proofs.write_block.Statement.{statement}
-use Rattle.extremes.proofs.write_block.Tie as tie
+use Rattle.extremes_ranges.proofs.Part.{stays, replaced-again}
+use Rattle.extremes_ranges.proofs.write_block.Statement.{statement}
+use Rattle.extremes_ranges.proofs.write_block.Tie as tie
 
 returns : tie.Need-returns
 returns c =

@@ -3,12 +3,12 @@ use Prim.Native.Nat.{_+_, _-_, _≤_, min}
 use native.Mathlib.Omega.{arith}
 use borrow.Author.Needs.{needs}
 use lib.ListN.{length, length-set}
-use Rattle.extremes.proofs.Range.{one-bar, pairs, whole}
-use Rattle.extremes.specs.inner.Blocks.{Whole}
-use Rattle.extremes.specs.inner.Part.{Replacing}
-use Rattle.extremes.proofs.Part.{one-above, part-ends}
-use Rattle.extremes.proofs.write_pairs.Statement.{statement}
-use Rattle.extremes.proofs.write_pairs.Tie as tie
+use Rattle.extremes_ranges.proofs.Range.{one-bar, pairs, whole}
+use Rattle.extremes_ranges.specs.inner.Blocks.{Whole}
+use Rattle.extremes_ranges.specs.inner.Part.{Replacing}
+use Rattle.extremes_ranges.proofs.Part.{one-above, part-ends}
+use Rattle.extremes_ranges.proofs.write_pairs.Statement.{statement}
+use Rattle.extremes_ranges.proofs.write_pairs.Tie as tie
 
 abbrev Inv-loop : tie.InvT-loop
 Inv-loop cells n rows₀ bars i₀ rows i = (n ≤ i + 1)

@@ -8,9 +8,9 @@ use native.Mathlib.Omega.{arith}
 use lib.Ieee.{Float, lt, isNan}
 use Rattle.cells.specs.Line.{Line, plusZero}
 use Rattle.cells.proofs.Line.{from-bar}
 use Rattle.extremes.specs.Extreme.{pickOf, pickFrom, extreme}
 use Rattle.extremes.proofs.Order.{lt-between}
-use Rattle.extremes.specs.inner.Best.{Best, Numbers}
+use Rattle.extremes_ranges.specs.inner.Best.{Best, Numbers}
 
 -- ---- two and three numbers
 

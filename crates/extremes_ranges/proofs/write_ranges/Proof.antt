@@ -1,10 +1,10 @@
 -- `write_ranges` meets its contract: the lead, and either way the windows after it. Assumes nothing.
 use native.Mathlib.Omega.{arith}
 use borrow.Author.Needs.{needs}
-use Rattle.extremes.proofs.Blocks.{begun}
-use Rattle.extremes.proofs.Part.{replaced-again, rows-written}
-use Rattle.extremes.proofs.write_ranges.Statement.{statement}
-use Rattle.extremes.proofs.write_ranges.Tie as tie
+use Rattle.extremes_ranges.proofs.Blocks.{begun}
+use Rattle.extremes_ranges.proofs.Part.{replaced-again, rows-written}
+use Rattle.extremes_ranges.proofs.write_ranges.Statement.{statement}
+use Rattle.extremes_ranges.proofs.write_ranges.Tie as tie
 
 write-blocks-requires : tie.Need-write-blocks-requires
 write-blocks-requires c κs =

@@ -3,10 +3,10 @@ use Prim.Native.Nat.{_-_, _≤_}
 use native.Mathlib.Omega.{arith}
 use borrow.Author.Needs.{needs}
 use Rattle.cells.specs.Line.{line}
-use Rattle.extremes.specs.inner.Range.{RangeOf}
-use Rattle.extremes.proofs.Range.{one-bar, spans, joins}
-use Rattle.extremes.proofs.range_of.Statement.{statement}
-use Rattle.extremes.proofs.range_of.Tie as tie
+use Rattle.extremes_ranges.specs.inner.Range.{RangeOf}
+use Rattle.extremes_ranges.proofs.Range.{one-bar, spans, joins}
+use Rattle.extremes_ranges.proofs.range_of.Statement.{statement}
+use Rattle.extremes_ranges.proofs.range_of.Tie as tie
 
 abbrev Inv-loop : tie.InvT-loop
 Inv-loop cells a e i₀ best₀ i best = (i ≤ e) × RangeOf (line cells) a i best

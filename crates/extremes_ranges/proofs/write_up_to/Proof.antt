@@ -3,12 +3,12 @@ use Prim.Native.Nat.{_+_, _-_, _≤_}
 use native.Mathlib.Omega.{arith}
 use borrow.Author.Needs.{needs}
 use lib.ListN.{length, length-set}
-use Rattle.extremes.proofs.Range.{one-bar, joins}
-use Rattle.extremes.specs.inner.Blocks.{UpTo}
-use Rattle.extremes.specs.inner.Part.{Replacing}
-use Rattle.extremes.proofs.Part.{none-replaced, one-below}
-use Rattle.extremes.proofs.write_up_to.Statement.{statement}
-use Rattle.extremes.proofs.write_up_to.Tie as tie
+use Rattle.extremes_ranges.proofs.Range.{one-bar, joins}
+use Rattle.extremes_ranges.specs.inner.Blocks.{UpTo}
+use Rattle.extremes_ranges.specs.inner.Part.{Replacing}
+use Rattle.extremes_ranges.proofs.Part.{none-replaced, one-below}
+use Rattle.extremes_ranges.proofs.write_up_to.Statement.{statement}
+use Rattle.extremes_ranges.proofs.write_up_to.Tie as tie
 
 abbrev Inv-loop : tie.InvT-loop
 Inv-loop cells n e last rows₀ bars i₀ best₀ rows i best =

@@ -5,11 +5,11 @@ use Prim.Native.Nat.{ℕ, _+_, _-_, _<_, _≤_, min}
 use lib.ListN.{length}
 use lib.Ieee.{Float}
 use Rattle.cells.specs.Line.{line}
-use Rattle.extremes.specs.declared.HighLow.{HighLow}
+use Rattle.extremes_ranges.specs.declared.HighLow.{HighLow}
 use Rattle.extremes.specs.Extreme.{larger, smaller, extreme}
-use Rattle.extremes.specs.inner.Best.{Numbers}
-use Rattle.extremes.specs.inner.Range.{RangeOf}
-use Rattle.extremes.specs.inner.Part.{Replacing}
+use Rattle.extremes_ranges.specs.inner.Best.{Numbers}
+use Rattle.extremes_ranges.specs.inner.Range.{RangeOf}
+use Rattle.extremes_ranges.specs.inner.Part.{Replacing}
 use Rattle.limits.specs.Limits.{longestSeries, Window}
 
 -- a window, at most as many numbers as a series has, and two cells for each

@@ -6,13 +6,13 @@ use borrow.Author.Needs.{needs}
 use lib.Ieee.{ofBits}
 use lib.ListN.{length, length-set}
 use Rattle.cells.specs.Line.{plusZero}
-use Rattle.extremes.specs.inner.Range.{alone}
-use Rattle.extremes.proofs.Range.{not-whole}
-use Rattle.extremes.specs.inner.Blocks.{Whole}
-use Rattle.extremes.specs.inner.Part.{Replacing}
-use Rattle.extremes.proofs.Part.{none-replaced, one-above, part-ends}
-use Rattle.extremes.proofs.write_lead.Statement.{statement}
-use Rattle.extremes.proofs.write_lead.Tie as tie
+use Rattle.extremes_ranges.specs.inner.Range.{alone}
+use Rattle.extremes_ranges.proofs.Range.{not-whole}
+use Rattle.extremes_ranges.specs.inner.Blocks.{Whole}
+use Rattle.extremes_ranges.specs.inner.Part.{Replacing}
+use Rattle.extremes_ranges.proofs.Part.{none-replaced, one-above, part-ends}
+use Rattle.extremes_ranges.proofs.write_lead.Statement.{statement}
+use Rattle.extremes_ranges.proofs.write_lead.Tie as tie
 
 abbrev Inv-loop : tie.InvT-loop
 Inv-loop cells n first rows₀ bars i₀ rows i = (i ≤ first) × Replacing (length cells) 0 i (Whole cells n) rows₀ rows

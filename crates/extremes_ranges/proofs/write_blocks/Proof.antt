@@ -3,11 +3,11 @@ use Prim.Native.Nat.{_+_, _-_, _≤_, min}
 use native.Mathlib.Omega.{arith}
 use borrow.Author.Needs.{needs}
 use lib.ListN.{length}
-use Rattle.extremes.specs.inner.Blocks.{Whole}
-use Rattle.extremes.specs.inner.Part.{Replacing}
-use Rattle.extremes.proofs.Part.{goes-on, part-ends}
-use Rattle.extremes.proofs.write_blocks.Statement.{statement}
-use Rattle.extremes.proofs.write_blocks.Tie as tie
+use Rattle.extremes_ranges.specs.inner.Blocks.{Whole}
+use Rattle.extremes_ranges.specs.inner.Part.{Replacing}
+use Rattle.extremes_ranges.proofs.Part.{goes-on, part-ends}
+use Rattle.extremes_ranges.proofs.write_blocks.Statement.{statement}
+use Rattle.extremes_ranges.proofs.write_blocks.Tie as tie
 
 abbrev Inv-loop : tie.InvT-loop
 Inv-loop cells n rows₀ e₀ rows e =

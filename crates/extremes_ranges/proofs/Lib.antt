@@ -1,0 +1,5 @@
+pub mod Best
+pub mod Blocks
+pub mod Part
+pub mod Parts
+pub mod Range

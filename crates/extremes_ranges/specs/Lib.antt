@@ -1,0 +1,2 @@
+-- What the stages ask of each other.
+pub mod inner
