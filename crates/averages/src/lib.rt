@@ -81,8 +81,8 @@ pub fn sma(series: &[f64], n: usize, out: &mut [f64]) -> Answer
 {
     if checks::window_fits(series.len(), n, out.len()) {
         let sum = sum_first(series, n);
-        if values::accepted_by(
-            sum.bits | values::bits_together(series, n, series.len()),
+        if values_series::accepted_by(
+            sum.bits | values_series::bits_together(series, n, series.len()),
             series,
         ) {
             write_means(series, n, sum.value, out);

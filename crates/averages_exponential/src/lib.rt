@@ -51,7 +51,7 @@ fn answer_by_bits(series: &[f64], alpha: f64, first: usize, seed: Pass, out: &mu
         (now (out .exit)) ⌝ }
 {
     let half = averages_blend::blend_half(series, alpha, first, seed);
-    let accept = values::accepted_by(half.bits, series);
+    let accept = values_series::accepted_by(half.bits, series);
     answer_tested(series, alpha, first, seed.value, half.value, accept, out)
 }
 
@@ -78,7 +78,7 @@ fn answer_by_tests(series: &[f64], alpha: f64, first: usize, seed: Pass, out: &m
 fn bits_suffice(series: &[f64]) -> bool
     ensures { λ r. ⌜ r ≡ firstSuffice (now (series .entry)) ⌝ }
 {
-    values::bits_together(series, 0, cells::smaller(series.len(), 16)) <= LARGEST_VALUE_BITS
+    values_series::bits_together(series, 0, cells::smaller(series.len(), 16)) <= LARGEST_VALUE_BITS
 }
 
 // The mean of n prices of which the sum is at hand, with the same bits.

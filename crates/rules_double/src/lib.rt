@@ -104,8 +104,8 @@ pub fn has_tick_cells(series: &[f64], n: usize, m: usize, out: usize) -> bool
 {
     if (n > 0) & (n < m) & checks::window_fits(series.len(), m, out) {
         let some = cells::smaller(series.len(), 16);
-        if values::all_ticks(&series[..some]) {
-            return values::all_ticks(&series[some..]);
+        if values_series::all_ticks(&series[..some]) {
+            return values_series::all_ticks(&series[some..]);
         }
     }
     false

@@ -99,7 +99,7 @@ pub fn are_long_ticks(series: &[f64], n: usize) -> bool
     ensures { λ r. ⌜ r ≡ longTicks n (now (series .entry)) ⌝ }
 {
     if n > 12 {
-        values::all_ticks(series)
+        values_series::all_ticks(series)
     } else {
         false
     }

@@ -7,13 +7,13 @@ use borrow.Author.Needs.{needs}
 use denote.Ref.{now}
 use lib.ListN.{length, drop}
 use Rattle.cells.specs.Line.{line}
 use Rattle.values.specs.Accepted.{all}
 use Rattle.values.specs.inner.Quick.{BitsOf}
 use Rattle.values.specs.inner.Fraction.{comesBack}
 use Rattle.values.proofs.All.{and-true, and-assoc, all-next, all-none}
 use Rattle.values.proofs.Quick.{capped-number, more-bits, no-bits}
-use Rattle.values.proofs.gather.Statement.{statement}
-use Rattle.values.proofs.gather.Tie as tie
+use Rattle.values_series.proofs.gather.Statement.{statement}
+use Rattle.values_series.proofs.gather.Tie as tie
 
 abbrev Inv-loop : tie.InvT-loop
 Inv-loop s bits₀ whole₀ i₀ bits whole i =

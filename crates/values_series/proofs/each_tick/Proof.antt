@@ -8,11 +8,11 @@ use lib.Dec.{T, eqb}
 use lib.ListN.{length}
 use lib.Ieee.{Float, binary64, fits, toBits}
 use Rattle.rounding.specs.Leaves.{magnitudeOf}
 use Rattle.values.specs.Accepted.{tick}
 use Rattle.values.proofs.Both.{Tested, none-tested, one-tested, all-tested}
 use Rattle.values.proofs.Zero.{tick-parts}
-use Rattle.values.proofs.each_tick.Statement.{statement}
-use Rattle.values.proofs.each_tick.Tie as tie
+use Rattle.values_series.proofs.each_tick.Statement.{statement}
+use Rattle.values_series.proofs.each_tick.Tie as tie
 
 abbrev Inv-loop : tie.InvT-loop
 Inv-loop s whole₀ zeros₀ i₀ whole zeros i = (i ≤ length s) × Tested tick s whole zeros i

@@ -5,13 +5,13 @@ use native.Mathlib.Omega.{arith}
 use borrow.Author.Needs.{needs}
 use denote.Ref.{now}
 use lib.ListN.{length}
 use Rattle.values.specs.Accepted.{tick}
 use Rattle.values.specs.inner.Fraction.{comesBack}
 use Rattle.values.proofs.All.{all-next, all-none, all-same}
 use Rattle.values.proofs.Fraction.{whole-tick}
 use Rattle.values.proofs.Quick.{quick-up-to, bits-first}
-use Rattle.values.proofs.all_ticks.Statement.{statement}
-use Rattle.values.proofs.all_ticks.Tie as tie
+use Rattle.values_series.proofs.all_ticks.Statement.{statement}
+use Rattle.values_series.proofs.all_ticks.Tie as tie
 
 returns-3 : tie.Need-returns-3
 returns-3 c =

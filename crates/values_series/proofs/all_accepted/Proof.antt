@@ -1,9 +1,9 @@
 -- `all_accepted` meets its contract: the bits of both parts tell, or else each number is tested. Assumes nothing.
 use native.Mathlib.Omega.{arith}
 use borrow.Author.Needs.{needs}
 use Rattle.values.proofs.Quick.{or-first, or-second, none-larger, none-joined, bits-above}
-use Rattle.values.proofs.all_accepted.Statement.{statement}
-use Rattle.values.proofs.all_accepted.Tie as tie
+use Rattle.values_series.proofs.all_accepted.Statement.{statement}
+use Rattle.values_series.proofs.all_accepted.Tie as tie
 
 accepted-by-requires : tie.Need-accepted-by-requires
 accepted-by-requires c κs =

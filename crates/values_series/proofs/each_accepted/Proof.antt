@@ -7,11 +7,11 @@ use borrow.Author.Needs.{needs}
 use lib.Dec.{eqb}
 use lib.ListN.{length}
 use lib.Ieee.{Float, binary64, toBits}
 use Rattle.values.specs.Accepted.{within, accepted}
 use Rattle.values.proofs.Both.{Tested, none-tested, one-tested, all-tested}
-use Rattle.values.proofs.each_accepted.Statement.{statement}
+use Rattle.values_series.proofs.each_accepted.Statement.{statement}
 use Rattle.limits.specs.Limits.{valuePower}
-use Rattle.values.proofs.each_accepted.Tie as tie
+use Rattle.values_series.proofs.each_accepted.Tie as tie
 
 abbrev Inv-loop : tie.InvT-loop
 Inv-loop s near₀ zeros₀ i₀ near zeros i = (i ≤ length s) × Tested accepted s near zeros i

@@ -3,9 +3,9 @@ use mathlib.Core.Path.{sym}
 use native.Mathlib.Omega.{arith}
 use borrow.Author.Needs.{needs}
 use denote.Ref.{now}
 use Rattle.values.proofs.Quick.{quick-all}
-use Rattle.values.proofs.accepted_by.Statement.{statement}
-use Rattle.values.proofs.accepted_by.Tie as tie
+use Rattle.values_series.proofs.accepted_by.Statement.{statement}
+use Rattle.values_series.proofs.accepted_by.Tie as tie
 
 returns : tie.Need-returns
 returns c = sym (quick-all (now (c .before .before .args .s)) (c .before .before .pre)

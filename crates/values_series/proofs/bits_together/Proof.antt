@@ -3,11 +3,11 @@ use mathlib.Core.Path.{_≡_}
 use Prim.Native.Nat.{_-_, _≤_}
 use native.Mathlib.Omega.{arith}
 use borrow.Author.Needs.{needs}
 use Rattle.values.specs.inner.Quick.{BitsOf}
 use Rattle.values.proofs.Quick.{capped-number, more-bits, no-bits}
-use Rattle.values.proofs.bits_together.Statement.{statement}
+use Rattle.values_series.proofs.bits_together.Statement.{statement}
 use Rattle.cells.specs.Line.{line}
-use Rattle.values.proofs.bits_together.Tie as tie
+use Rattle.values_series.proofs.bits_together.Tie as tie
 
 abbrev Inv-loop : tie.InvT-loop
 Inv-loop s first end together₀ i₀ together i = (first ≤ i) × (i - first ≤ end - first)
