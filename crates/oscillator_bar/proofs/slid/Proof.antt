@@ -2,9 +2,9 @@
 use native.Mathlib.Omega.{arith}
 use borrow.Author.Needs.{needs}
 use denote.Ref.{now}
-use Rattle.oscillator.proofs.Sliding.{slid-sum}
-use Rattle.oscillator.proofs.slid.Statement.{statement}
-use Rattle.oscillator.proofs.slid.Tie as tie
+use Rattle.oscillator_bar.proofs.Sliding.{slid-sum}
+use Rattle.oscillator_bar.proofs.slid.Statement.{statement}
+use Rattle.oscillator_bar.proofs.slid.Tie as tie
 
 returns : tie.Need-returns
 returns c =

@@ -9,7 +9,7 @@ use Rattle.limits.specs.Limits.{Window}
 use Rattle.values.specs.Accepted.{tick, all}
 use Rattle.cells.specs.Line.{Line}
 use Rattle.windows.specs.Window.{windowSum}
-use Rattle.oscillator.specs.declared.Sums.{Sums}
+use Rattle.oscillator_bar.specs.declared.Sums.{Sums}
 
 -- the sums of the last n cells of f and of g at bar i
 pub record SumsOf (n : ℕ) (f g : Line) (i : ℕ) (r : Sums) : Type 0 where
