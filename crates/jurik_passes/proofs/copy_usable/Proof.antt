@@ -1,8 +1,8 @@
 -- `copy_usable` meets its contract: numbers stay, and zeros become 0.0. Assumes nothing.
 use borrow.Author.Needs.{needs}
-use Rattle.jurik.proofs.Stages.{copied-stands}
-use Rattle.jurik.proofs.copy_usable.Statement.{statement}
-use Rattle.jurik.proofs.copy_usable.Tie as tie
+use Rattle.jurik_passes.proofs.Copied.{copied-stands}
+use Rattle.jurik_passes.proofs.copy_usable.Statement.{statement}
+use Rattle.jurik_passes.proofs.copy_usable.Tie as tie
 
 returns : tie.Need-returns
 returns c =

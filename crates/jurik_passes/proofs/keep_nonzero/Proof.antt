@@ -8,8 +8,8 @@ use Rattle.cells.specs.Written.{Writing}
 use Rattle.cells.proofs.Written.{none-written, one-more, ends}
 use Rattle.cells.proofs.Leads.{not-yet}
 use Rattle.jurik_bar.specs.Jurik.{copied}
-use Rattle.jurik.proofs.keep_nonzero.Statement.{statement}
-use Rattle.jurik.proofs.keep_nonzero.Tie as tie
+use Rattle.jurik_passes.proofs.keep_nonzero.Statement.{statement}
+use Rattle.jurik_passes.proofs.keep_nonzero.Tie as tie
 
 abbrev Inv-loop : tie.InvT-loop
 Inv-loop cells₀ bars i₀ cells i = (i ≤ bars) × Writing i (copied nonZero plusZero (line cells₀)) cells₀ cells

@@ -13,8 +13,8 @@ use Rattle.cells.proofs.Leads.{not-yet}
 use Rattle.cells.proofs.Carried.{carried-seed}
 use Rattle.averages_blend.specs.Blend.{blend}
 use Rattle.jurik_bar.proofs.Passes.{carried-from, lead-carried, next-carried}
-use Rattle.jurik.proofs.average_from.Statement.{statement}
-use Rattle.jurik.proofs.average_from.Tie as tie
+use Rattle.jurik_passes.proofs.average_from.Statement.{statement}
+use Rattle.jurik_passes.proofs.average_from.Tie as tie
 
 abbrev Inv-loop : tie.InvT-loop
 Inv-loop cells₀ bars first none alpha last₀ i₀ cells last i =

@@ -4,8 +4,8 @@ use native.Mathlib.Omega.{arith}
 use borrow.Author.Needs.{needs}
 use Rattle.cells.proofs.Written.{writing-same}
 use Rattle.jurik_bar.proofs.Passes.{differing-inside, tested-averages, tested-copies}
-use Rattle.jurik.proofs.pass.Statement.{statement}
-use Rattle.jurik.proofs.pass.Tie as tie
+use Rattle.jurik_passes.proofs.pass.Statement.{statement}
+use Rattle.jurik_passes.proofs.pass.Tie as tie
 
 average-from-requires : tie.Need-average-from-requires
 average-from-requires c κs =
