@@ -36,8 +36,8 @@ returns c =
     let two = next-stage numbers locally one (rw is-nan at (second .pass2 .ensures)) (omega arith) in
     let leant = next-stage (leaned (a .power)) (local-causal l (causal-leaned (a .power))) two (third .lean-on .ensures)
     (omega arith) in
-    next-stage (tested nonZero plusZero (emaAlpha (a .n / 3)) l) (local-tested _ _ _ l) leant (fourth .third-pass .ensures)
-    (omega arith)
+    next-stage (tested nonZero plusZero (emaAlpha (a .n / 3)) l) (local-tested _ _ _ l) leant
+    (fourth .third-pass .ensures) (omega arith)
 
 pub write-passes-spec : {M : Type 1} → statement M
 write-passes-spec =

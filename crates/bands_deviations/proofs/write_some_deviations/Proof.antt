@@ -10,9 +10,9 @@ use Rattle.cells.specs.Line.{line, plusZero}
 use Rattle.cells.specs.Written.{Writing}
 use Rattle.cells.proofs.Written.{step, ends, read-back}
 use Rattle.deviations.specs.Deviation.{deviation}
-use Rattle.bands.proofs.Lines.{deviation-at}
-use Rattle.bands.proofs.write_some_deviations.Statement.{statement}
-use Rattle.bands.proofs.write_some_deviations.Tie as tie
+use Rattle.bands_deviations.proofs.Deviation.{deviation-at}
+use Rattle.bands_deviations.proofs.write_some_deviations.Statement.{statement}
+use Rattle.bands_deviations.proofs.write_some_deviations.Tie as tie
 
 abbrev Inv-loop : tie.InvT-loop
 Inv-loop close n i out₀ variances count j₀ out j =
