@@ -2,8 +2,8 @@
 use native.Mathlib.Omega.{arith}
 use borrow.Author.Needs.{needs}
 use Rattle.windows.proofs.Window.{count-is-float}
-use Rattle.averages_wilder.proofs.step.Statement.{statement}
-use Rattle.averages_wilder.proofs.step.Tie as tie
+use Rattle.averages_wilder_bar.proofs.step.Statement.{statement}
+use Rattle.averages_wilder_bar.proofs.step.Tie as tie
 
 pub step-spec : {M : Type 1} → statement M
 step-spec =
