@@ -1,8 +1,8 @@
 -- `next` meets its contract: three blends, in the order of `nextFit`. Assumes nothing.
 use borrow.Author.Needs.{needs}
-use Rattle.holt_winters.specs.HoltWinters.{nextFit}
-use Rattle.holt_winters.proofs.next.Statement.{statement}
-use Rattle.holt_winters.proofs.next.Tie as tie
+use Rattle.holt_winters_bar.specs.Later.{nextFit}
+use Rattle.holt_winters_bar.proofs.next.Statement.{statement}
+use Rattle.holt_winters_bar.proofs.next.Tie as tie
 
 returns : tie.Need-returns
 unfolding nextFit
