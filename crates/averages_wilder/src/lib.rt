@@ -7,17 +7,9 @@ ghost use lib.ListN.{length};
 ghost use Rattle.limits.specs.Limits.{Window};
 ghost use Rattle.cells.specs.Line.{line};
 ghost use Rattle.cells.specs.Written.{Writing};
-ghost use Rattle.averages_wilder.specs.Wilder.{wilderStep, wilder};
+ghost use Rattle.averages_wilder.specs.Wilder.{wilder};
 ghost use Rattle.averages_wilder.specs.WilderRsi.{wilderCell, WilderRsiCall};
 ghost use Rattle.averages_wilder.specs.inner.Averaged.{Averaged, Room, Indexed};
-
-// Wilder's next average: n - 1 parts of the last one and one part of x.
-pub fn step(last: f64, n: usize, x: f64) -> f64
-    requires { ⌜ Window n ⌝ }
-    ensures { λ r. ⌜ r ≡ wilderStep n last x ⌝ }
-{
-    (last * ((n - 1) as f64) + x) / (n as f64)
-}
 
 // The mean of the first n cells, summed from +0.0.
 fn first_mean(series: &[f64], n: usize) -> f64
@@ -45,7 +37,7 @@ fn write_from_mean(series: &[f64], n: usize, out: &mut [f64])
     while i + 1 < series.len() {
         out[i] = last;
         i += 1;
-        last = step(last, n, series[i]);
+        last = averages_wilder_bar::step(last, n, series[i]);
     }
     out[i] = last;
 }
@@ -101,8 +93,8 @@ fn next(series: &[f64], n: usize, i: usize, last: Averages) -> Averages
 {
     let change = changes::change_at(series, i);
     Averages {
-        gain: step(last.gain, n, changes::gain_of(change)),
-        loss: step(last.loss, n, changes::loss_of(change)),
+        gain: averages_wilder_bar::step(last.gain, n, changes::gain_of(change)),
+        loss: averages_wilder_bar::step(last.loss, n, changes::loss_of(change)),
     }
 }
 

@@ -1,24 +1,18 @@
--- The lines of the bands: no look-ahead, NaN from period 5 on, and the deviation as the loops find it. Assumes nothing.
+-- The lines of the bands: no look-ahead, NaN from period 5 on, and the deviation of one close and of more. Assumes
+-- nothing.
 use mathlib.Core.Path.{_≡_, refl}
 use mathlib.Core.Bool.{Bool, true, false, cond}
-use mathlib.Core.List.{List}
-use Prim.Native.Nat.{ℕ, _+_, _-_, _<_, _≤_}
+use Prim.Native.Nat.{ℕ, _-_, _<_, _≤_}
 use native.Mathlib.Omega.{arith}
 use borrow.Author.Tests.{lt-ltb, le-ltb}
 use lib.Dec.{ltb}
-use lib.ListN.{length}
-use lib.Ieee.{Float, nan, binary64, sub}
-use Rattle.rounding_root.specs.Root.{sqrtOf}
-use Rattle.values.specs.Accepted.{accepted, all}
-use Rattle.values.proofs.All.{all-at}
-use Rattle.cells.specs.Line.{Line, line, plusZero, minusZero, Causal}
-use Rattle.cells.proofs.Line.{causal-then, before-bar, from-bar}
-use Rattle.windows.specs.Window.{sumFrom, over}
-use Rattle.window_laws.proofs.Zeros.{sums-from-either, either-accepted, either-square}
+use lib.Ieee.{Float, nan}
+use Rattle.cells.specs.Line.{Line, plusZero, Causal}
+use Rattle.cells.proofs.Line.{causal-then, before-bar}
 use Rattle.smoother_table.specs.Coefficients.{coefficients}
 use Rattle.smoother.proofs.Smoother.{causal-smooth}
 use Rattle.smoother.proofs.WarmUp.{nan-from-4, nan-throughout}
-use Rattle.deviations.specs.Deviation.{square, variance, deviation}
+use Rattle.deviations.specs.Deviation.{deviation}
 use Rattle.deviations.proofs.Causal.{causal-deviation}
 use Rattle.outer_lines.proofs.Lines.{causal-upper, causal-lower, nan-upper, nan-lower}
 use Rattle.bands.specs.Bands.{bandsMiddle, bandsDeviation, bandsWidth, bandsUpper, bandsLower}
@@ -60,23 +54,6 @@ deviation-of-some n f h = rw (lt-ltb 1 n h)
 pub deviation-of-one : (n : ℕ) (f : Line) → n ≤ 1 → bandsDeviation n f ≡ (λ i. plusZero)
 unfolding bandsDeviation
 deviation-of-one n f h = rw (le-ltb 1 n h)
-
--- a root of a variance whose sums run from -0.0: no accepted close is -0.0, and no square is
-pub deviation-at : (s : List Float) (n i : ℕ) {v : Float} → all accepted s ≡ true
-    → v ≡ variance minusZero (n - 1) n (line s) i
-    → (0 < n) × (n ≤ i + 1) × (i < length s)
-    → sqrtOf binary64 v ≡ deviation plusZero (n - 1) n (line s) i
-unfolding deviation
-deviation-at s n i ok e (p, q, r) =
-    let a = i + 1 - n in
-    let first = either-accepted (line s a) (all-at accepted s a ok (omega arith)) in
-    let mean = over n (sumFrom plusZero (line s) a n) in
-    rw (
-      e,
-      from-bar (n - 1) nan _ i (omega arith),
-      sums-from-either (line s) a n p first,
-      sums-from-either (λ j. square (sub binary64 (line s j) mean)) a n p (either-square _),
-    )
 
 -- ---- NaN
 

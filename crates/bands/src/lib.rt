@@ -20,23 +20,8 @@ ghost use Rattle.bands.specs.Bands.{
   bandsAnswer,
   UltimateBandsCall,
 };
-ghost use Rattle.bands.specs.inner.Stages.{Spreading, Begun, Further, Ready};
-
-// Writes the deviations of a few bars from bar i on, and gives how many they are.
-fn write_some_deviations(close: &[f64], n: usize, i: usize, out: &mut [f64]) -> usize
-    requires { ⌜ Begun n (now close) i (now out) ⌝ }
-    ensures { λ r. ⌜ Further n (now (close .entry)) i r (now (out .entry)) (now (out .exit)) ⌝ }
-{
-    let mut middles = [0.0; 8];
-    let mut variances = [0.0; 8];
-    let count = deviations::write_spreads(close, n, n - 1, i, &mut middles, &mut variances);
-    let mut j = 0;
-    while j < count {
-        out[i + j] = rounding_root::square_root(variances[j]);
-        j += 1;
-    }
-    count
-}
+ghost use Rattle.bands_deviations.specs.inner.Stages.{Spreading};
+ghost use Rattle.bands.specs.inner.Stages.{Ready};
 
 // Writes the deviation of the last n closes, over n - 1, of every bar.
 fn write_deviations(close: &[f64], n: usize, out: &mut [f64])
@@ -46,7 +31,7 @@ fn write_deviations(close: &[f64], n: usize, out: &mut [f64])
 {
     let mut i = averages::fill_nan(out, n - 1, close.len());
     while i < close.len() {
-        i += write_some_deviations(close, n, i, out);
+        i += bands_deviations::write_some_deviations(close, n, i, out);
     }
 }
 

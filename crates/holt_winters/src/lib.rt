@@ -1,41 +1,15 @@
 // Holt-Winters smoothing: a level, a trend and a seasonal part for each bar.
 use calls::Answer;
 use calls::Refusal;
+use holt_winters_bar::Fit;
+use holt_winters_bar::Weights;
 ghost use mathlib.Core.Path.{_≡_};
 ghost use Prim.Native.Nat.{_-_};
 ghost use lib.ListN.{length};
 ghost use Rattle.cells.specs.Line.{line};
 ghost use Rattle.windows.specs.Window.{mean};
-ghost use Rattle.holt_winters.specs.HoltWinters.{nextFit, total, holtWintersAnswer, HoltWintersCall};
+ghost use Rattle.holt_winters.specs.HoltWinters.{total, holtWintersAnswer, HoltWintersCall};
 ghost use Rattle.holt_winters.specs.inner.Stages.{Ready, First, Smoothed};
-
-// How much a new price weighs in the level, in the trend and in the seasonal part.
-pub struct Weights {
-    pub alpha: f64,
-    pub beta: f64,
-    pub gamma: f64,
-}
-
-// What is known at a bar.
-pub struct Fit {
-    pub level: f64,
-    pub trend: f64,
-    pub season: f64,
-}
-
-// A later bar, from the bar before it and the seasonal part one season before it.
-fn next(w: Weights, last: Fit, old: f64, price: f64) -> Fit
-    ensures { λ r. ⌜ r ≡ nextFit w last old price ⌝ }
-{
-    let level = averages_blend::blended(w.alpha, last.level + last.trend, price - old);
-    let trend = averages_blend::blended(w.beta, last.trend, level - last.level);
-    let season = averages_blend::blended(w.gamma, old, price - level);
-    Fit {
-        level,
-        trend,
-        season,
-    }
-}
 
 // The cell of a bar.
 fn cell(fit: Fit) -> f64
@@ -75,7 +49,6 @@ fn write_later(
         (length (now (series .entry))) (now (out .entry)) (now (out .exit)) (now (work .entry)) (now (work .exit)) ⌝ }
 {
     let bars = series.len();
-    let row = 7 * bars;
     let mut last = Fit {
         level: average,
         trend: 0.0,
@@ -83,7 +56,8 @@ fn write_later(
     };
     let mut i = m;
     while i < series.len() {
-        last = next(w, last, work[row + (i - m)], series[i]);
+        let old = holt_winters_bar::season_before(work, bars, m, i);
+        last = holt_winters_bar::next(w, last, old, series[i]);
         out[i] = cell(last);
         work_rows::put(work, bars, i, last.season);
         i += 1;

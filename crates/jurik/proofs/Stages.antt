@@ -1,7 +1,7 @@
 -- The stages of `jurik_volty`, one after the other in one slice, and what is known where its cells are due. Assumes
 -- nothing.
 use mathlib.Core.Path.{_≡_, refl, sym, ap, _∙_}
-use mathlib.Core.Bool.{Bool, true, false, cond}
+use mathlib.Core.Bool.{Bool, true, false}
 use mathlib.Core.List.{List, [], _∷_}
 use Prim.Native.Nat.{ℕ, zero, suc, _-_, _*_, _/_, _<_, _≤_}
 use native.Mathlib.Nat.{le-refl}
@@ -9,7 +9,7 @@ use native.Mathlib.Omega.{arith}
 use borrow.Author.Tests.{ltb-true, ltb-false}
 use lib.Dec.{ltb}
 use lib.ListN.{length}
-use lib.Ieee.{Float, nan, inf, fin, isNan}
+use lib.Ieee.{Float, nan}
 use Rattle.values.specs.Accepted.{accepted, finite}
 use Rattle.values.proofs.All.{and-true}
 use Rattle.calls.specs.declared.Refusal.the-variants.{ParameterNotFinite}
@@ -22,10 +22,10 @@ use Rattle.checks.proofs.Passed.{one-passed, one-clearable}
 use Rattle.cells.specs.Line.{Line, line, plusZero, Causal}
 use Rattle.cells.specs.Written.{Writing, written}
 use Rattle.cells.proofs.Line.{before-bar, from-bar}
-use Rattle.cells.proofs.Written.{read-back, writing-same, then-written, stood}
+use Rattle.cells.proofs.Written.{read-back, writing-same, then-written}
 use Rattle.rounding.specs.Leaves.{magnitudeOf}
 use Rattle.changes.specs.Changes.{earlier, change}
-use Rattle.jurik_bar.specs.Jurik.{copied, isNumber, swings, leaned, jurikAnswer}
+use Rattle.jurik_bar.specs.Jurik.{swings, leaned, jurikAnswer}
 use Rattle.jurik_bar.specs.inner.Passes.{tested, leanAt, Ready}
 use Rattle.jurik.proofs.Causal.{causal-averaged, causal-copied}
 use Rattle.jurik_bar.proofs.Passes.{differing-same}
@@ -54,19 +54,6 @@ leaned-is power f i {last} {x} e p q = e ∙ go (ltb i 2) refl
     go false z =
         let h = ltb-false i 2 z in
         rw (z, from-bar 2 plusZero _ i h, p, q, earlier-is plusZero f i (omega arith))
-
--- a copy of numbers is the line as it is
-copied-numbers : (f : Line) (i : ℕ) → f i ≡ copied isNumber nan f i
-unfolding copied isNan
-copied-numbers f i = go (f i)
-  where
-    go : (x : Float) → x ≡ cond (isNumber x) x nan
-    go nan = refl
-    go (inf s) = refl
-    go (fin s m e) = refl
-
-pub copied-stands : (k : ℕ) (s : List Float) → Writing k (copied isNumber nan (line s)) s s
-copied-stands k s = stood nan (λ i h. sym (copied-numbers (line s) i))
 
 -- ---- one stage after the other
 

@@ -1,9 +1,10 @@
 // The ultimate oscillator: buying pressure over true range in three windows.
 use calls::Answer;
+use oscillator_bar::Sums;
 use windows::Lanes;
 use windows::Sixteen;
 ghost use mathlib.Core.Path.{_≡_};
-ghost use Prim.Native.Nat.{_+_, _-_, _*_, _<_, _≤_, max};
+ghost use Prim.Native.Nat.{_*_, _<_, _≤_, max};
 ghost use mathlib.Core.Bool.{true};
 ghost use lib.ListN.{length};
 ghost use Rattle.values.specs.Accepted.{tick, all};
@@ -22,6 +23,7 @@ ghost use Rattle.oscillator_bar.specs.Oscillator.{
   oscillatorAnswer,
   OscillatorCall,
 };
+ghost use Rattle.oscillator_bar.specs.inner.Sliding.{SumsOf};
 ghost use Rattle.oscillator.specs.inner.Rows.{
   Ready,
   Windows₃,
@@ -33,7 +35,6 @@ ghost use Rattle.oscillator.specs.inner.Rows.{
   eachRatio,
   eachWeighed,
 };
-ghost use Rattle.oscillator.specs.inner.Sliding.{SumsOf, TickRows};
 ghost use Rattle.window_means.specs.inner.Row.{rowAt};
 
 // Writes the buying pressure of every bar.
@@ -175,12 +176,6 @@ fn cells_by_one(f: &[f64], g: &[f64], n: usize, m: usize, k: usize, from: usize,
     }
 }
 
-// The sums of one window over both rows.
-struct Sums {
-    over: f64,
-    under: f64,
-}
-
 // The sums of the n cells up to bar i.
 fn sums_at(f: &[f64], g: &[f64], n: usize, i: usize) -> Sums
     requires { ⌜ Windows n i 1 (length (now f)) × (length (now g) ≡ length (now f)) ⌝ }
@@ -189,18 +184,6 @@ fn sums_at(f: &[f64], g: &[f64], n: usize, i: usize) -> Sums
     Sums {
         over: windows::sum_at(f, n, i),
         under: windows::sum_at(g, n, i),
-    }
-}
-
-// The sums up to bar i of whole ticks, from those up to the bar before: exact, so that they are those summed afresh.
-fn slid(f: &[f64], g: &[f64], n: usize, i: usize, last: Sums) -> Sums
-    requires { ⌜ TickRows n (now f) (now g) i ⌝ }
-    requires { ⌜ SumsOf n (line (now f)) (line (now g)) (i - 1) last ⌝ }
-    ensures { λ r. ⌜ SumsOf n (line (now (f .entry))) (line (now (g .entry))) i r ⌝ }
-{
-    Sums {
-        over: last.over + (f[i] - f[i - n]),
-        under: last.under + (g[i] - g[i - n]),
     }
 }
 
@@ -228,9 +211,9 @@ fn cells_of_ticks(f: &[f64], g: &[f64], n: usize, m: usize, k: usize, from: usiz
     while i + 1 < f.len() {
         out[i] = cell_of(short, medium, long);
         i += 1;
-        short = slid(f, g, n, i, short);
-        medium = slid(f, g, m, i, medium);
-        long = slid(f, g, k, i, long);
+        short = oscillator_bar::slid(f, g, n, i, short);
+        medium = oscillator_bar::slid(f, g, m, i, medium);
+        long = oscillator_bar::slid(f, g, k, i, long);
     }
     out[i] = cell_of(short, medium, long);
 }

@@ -1,2 +1,3 @@
 -- What the ultimate oscillator is.
 pub mod Oscillator
+pub mod inner

@@ -2,34 +2,11 @@
 use mathlib.Core.Bool.{true}
 use mathlib.Core.Path.{_≡_}
 use mathlib.Core.List.{List}
-use Prim.Native.Nat.{ℕ, _+_, _-_, _<_, _≤_}
+use Prim.Native.Nat.{ℕ, _≤_}
 use lib.ListN.{length}
 use lib.Ieee.{Float}
 use Rattle.limits.specs.Limits.{longestPeriod}
 use Rattle.values.specs.Accepted.{accepted, all}
-use Rattle.cells.specs.Line.{line, plusZero}
-use Rattle.cells.specs.Written.{Writing}
-use Rattle.deviations.specs.Deviation.{deviation}
-
--- a period, accepted closes, and a cell for each
-pub record Spreading (n : ℕ) (s : List Float) (out : ℕ) : Type 0 where
-  pub period : n ≤ longestPeriod
-  pub values : all accepted s ≡ true
-  pub room : length s ≤ out
-
--- a whole window ends at bar i, and the deviations before it stand in `now`
-pub record Begun (n : ℕ) (s : List Float) (i : ℕ) (now : List Float) : Type 0 where
-  pub asked : Spreading n s (length now)
-  pub some : 1 < n
-  pub full : n ≤ i + 1
-  pub inside : i < length s
-  pub cells : Writing i (deviation plusZero (n - 1) n (line s)) now now
-
--- r more were written
-pub record Further (n : ℕ) (s : List Float) (i r : ℕ) (old now : List Float) : Type 0 where
-  pub some : 0 < r
-  pub inside : i + r ≤ length s
-  pub cells : Writing (i + r) (deviation plusZero (n - 1) n (line s)) old now
 
 -- what the stages ask: both periods, accepted closes, and a cell for each in each output
 pub record Ready (n m : ℕ) (s : List Float) (middle upper lower : ℕ) : Type 0 where

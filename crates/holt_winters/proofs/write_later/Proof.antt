@@ -1,6 +1,6 @@
 -- `write_later` meets its contract: each turn makes a bar from the bar before it and from the seasonal part one season
 -- before it, which the last row of work cells has. Assumes nothing.
-use mathlib.Core.Path.{_≡_}
+use mathlib.Core.Path.{_≡_, _∙_}
 use Prim.Native.Nat.{_+_, _-_, _≤_}
 use native.Mathlib.Omega.{arith}
 use lib.ListN.{length}
@@ -16,12 +16,12 @@ use Rattle.holt_winters.proofs.write_later.Statement.{statement}
 use Rattle.holt_winters.proofs.write_later.Tie as tie
 
 abbrev Inv-loop : tie.InvT-loop
-Inv-loop series m w average out₀ work₀ bars row last₀ i₀ out work last i =
+Inv-loop series m w average out₀ work₀ bars last₀ i₀ out work last i =
     (m ≤ i) × (i ≤ length series) × (last ≡ fitLine m w (line series) (i - 1))
     × Smoothed m w (line series) (length series) i out₀ out work₀ work
 
 abbrev μ-loop : tie.MeasureT-loop
-μ-loop series m w average out₀ work₀ bars row last₀ i₀ out work last i = length series - i
+μ-loop series m w average out₀ work₀ bars last₀ i₀ out work last i = length series - i
 
 loop-holds : tie.Need-loop-holds Inv-loop μ-loop
 unfolding ofBits
@@ -34,12 +34,13 @@ loop-again c =
     let put = c .before .before in
     let cell = put .before .before in
     let step = cell .before in
-    let turn = step .before .before .before .before in
+    let season = step .before .before in
+    let turn = season .before .before .before in
     let at = turn .loop in
     let start = turn .before .before .before .before .before in
     let some = start .pre .0 .window .some in
     let done = at .inv .3 in
-    let old = done .seasons .row (at .i - start .args .m) (omega arith) in
+    let old = season .season-before .ensures ∙ done .seasons .row (at .i - start .args .m) (omega arith) in
     let bar = next-is _ _ _ (at .i) (at .inv .2) old (step .next .ensures) (omega arith) in
     let now : at .i + 1 - 1 ≡ at .i = omega arith in
     let next = one-smoothed _ _ _ done bar (cell .cell .ensures) (put .put .ensures) (omega arith) in
@@ -56,16 +57,12 @@ write-later-spec =
     (tie.spec
     Inv-loop
     μ-loop
-    (λ c. search needs)  -- mul-row
-    (λ c. search needs)  -- sub-t11
-    (λ c. search needs)  -- mul-t12
-    (λ c. search needs)  -- shared-slice-read-t14
+    (λ c. search needs)  -- sub-t10
+    (λ c. search needs)  -- mul-t11
+    (λ c. search needs)  -- shared-slice-read-t13
     loop-holds
-    (λ c. search needs)  -- sub-next
-    (λ c. search needs)  -- add-next
+    (λ c κs. search needs)  -- season-before-requires
     (λ c. search needs)  -- mul-next
-    (λ c. search needs)  -- slice-read-next
-    (λ c. search needs)  -- mul-next-2
     (λ c. search needs)  -- shared-slice-read-next
     (λ c κs. search needs)  -- next-requires
     (λ c κs. search needs)  -- cell-requires

@@ -4,12 +4,10 @@ use native.Mathlib.Omega.{arith}
 use borrow.Author.Needs.{needs}
 use denote.Ref.{now}
 use lib.ListN.{length}
-use lib.Ieee.{ofBits}
 use Rattle.cells.specs.Line.{line, plusZero}
 use Rattle.cells.specs.Search.{nonZero}
 use Rattle.cells.proofs.Touched.{written-over-all}
 use Rattle.cells.proofs.Written.{writing-same}
-use Rattle.windows.proofs.Window.{count-is-float}
 use Rattle.averages_blend.specs.Blend.{emaAlpha}
 use Rattle.jurik_bar.specs.inner.Passes.{tested}
 use Rattle.jurik.proofs.Fused.{averages-then}
@@ -18,18 +16,17 @@ use Rattle.jurik.proofs.write_jurik.Statement.{statement}
 use Rattle.jurik.proofs.write_jurik.Tie as tie
 
 returns : tie.Need-returns
-unfolding ofBits
 returns c =
     let cells = c .before .before in
     let then = cells .before .before in
     let both = then .before .before .before in
-    let a = both .before .before .before .before .before .args in
+    let a = both .before .before .before .before .args in
     let l = length (now (a .close)) in
     let averages = both .lean-averages .ensures in
     let yes = then .if1 .taken in
     let last = tested nonZero plusZero (emaAlpha (a .n / 3)) l in
     writing-same
-    (next-stage last (local-tested _ _ _ l) (averages .cells yes) (cells .pass .ensures) (omega arith))
+    (next-stage last (local-tested _ _ _ l) (averages .cells yes) (cells .third-pass .ensures) (omega arith))
     (λ i h. averages-then l (a .n) (a .power) (line (now (a .close))) (averages .first yes) (averages .second yes) i)
 
 returns-2 : tie.Need-returns-2
@@ -42,10 +39,8 @@ pub write-jurik-spec : {M : Type 1} → statement M
 write-jurik-spec =
     tie.close
     (tie.spec
-    (λ c. search needs)  -- add-third
-    (λ c. count-is-float _ (omega arith))  -- int-to-float-third
     (λ c κs. search needs)  -- lean-averages-requires
-    (λ c κs. unfold ofBits in search needs)  -- pass-requires
+    (λ c κs. search needs)  -- third-pass-requires
     (λ c κs. search needs)  -- write-passes-requires
     (λ c. search needs)  -- same-length
     returns

@@ -24,7 +24,7 @@ returns c =
     let second = third .before .before .before .before in
     let first = second .before .before .before .before in
     let swings = first .before .before .before .before in
-    let none = swings .before .before .before .before in
+    let none = swings .before .before .before in
     let a = none .before .before .before .args in
     let l = length (now (a .close)) in
     let half = emaAlpha (a .n / 2) in
@@ -36,8 +36,8 @@ returns c =
     let two = next-stage numbers locally one (rw is-nan at (second .pass2 .ensures)) (omega arith) in
     let leant = next-stage (leaned (a .power)) (local-causal l (causal-leaned (a .power))) two (third .lean-on .ensures)
     (omega arith) in
-    next-stage (tested nonZero plusZero (emaAlpha (a .n / 3)) l) (local-tested _ _ _ l) leant (fourth .pass3 .ensures)
-    (omega arith)
+    next-stage (tested nonZero plusZero (emaAlpha (a .n / 3)) l) (local-tested _ _ _ l) leant
+    (fourth .third-pass .ensures) (omega arith)
 
 pub write-passes-spec : {M : Type 1} → statement M
 write-passes-spec =
@@ -46,13 +46,11 @@ write-passes-spec =
     (λ c κs. search needs)  -- no-number-requires
     (λ c. search needs)  -- add-half
     (λ c. count-is-float _ (omega arith))  -- int-to-float-half
-    (λ c. search needs)  -- add-third
-    (λ c. count-is-float _ (omega arith))  -- int-to-float-third
     (λ c κs. search needs)  -- write-swings-requires
     (λ c κs. search needs)  -- pass-requires
     (λ c κs. search needs)  -- pass-requires-2
     (λ c κs. search needs)  -- lean-on-requires
-    (λ c κs. unfold ofBits in search needs)  -- pass-requires-3
+    (λ c κs. search needs)  -- third-pass-requires
     (λ c. search needs)  -- same-length
     returns
     )

@@ -7,7 +7,7 @@ use Rattle.cells.specs.Line.{line}
 use Rattle.cells.specs.Written.{Writing}
 use Rattle.cells.proofs.Written.{one-more, ends}
 use Rattle.oscillator.specs.inner.Rows.{afresh}
-use Rattle.oscillator.specs.inner.Sliding.{SumsOf}
+use Rattle.oscillator_bar.specs.inner.Sliding.{SumsOf}
 use Rattle.oscillator.proofs.Sliding.{may-slide, cell-of-sums}
 use Rattle.oscillator.proofs.cells_of_ticks.Statement.{statement}
 use Rattle.oscillator.proofs.cells_of_ticks.Tie as tie

@@ -1,0 +1,2 @@
+-- A step of Wilder's average.
+pub mod Step

@@ -1,0 +1,2 @@
+-- A later bar of Holt-Winters smoothing.
+pub mod Later

@@ -1,0 +1,2 @@
+-- What the functions of the oscillator ask of each other.
+pub mod Sliding
