@@ -5,9 +5,9 @@ use borrow.Author.Needs.{needs}
 use lib.Ieee.{ofBits}
 use Rattle.cells.specs.Written.{Writing}
 use Rattle.cells.proofs.Written.{none-written, one-more, ends}
-use Rattle.rules_rank.specs.Rank.{rankOf}
-use Rattle.rules_rank.proofs.write_positions.Statement.{statement}
-use Rattle.rules_rank.proofs.write_positions.Tie as tie
+use Rattle.rules_rank_bar.specs.RankOf.{rankOf}
+use Rattle.rules_rank_bar.proofs.write_positions.Statement.{statement}
+use Rattle.rules_rank_bar.proofs.write_positions.Tie as tie
 
 abbrev Inv-loop : tie.InvT-loop
 Inv-loop n positions₀ below₀ positions below = (below ≤ n) × Writing below (λ c. rankOf c (n - 1)) positions₀ positions

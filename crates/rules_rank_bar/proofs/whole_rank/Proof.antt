@@ -3,9 +3,9 @@ use native.Mathlib.Omega.{arith}
 use borrow.Author.Needs.{needs}
 use lib.Ieee.{ofBits}
 use Rattle.windows.proofs.Window.{count-is-float}
-use Rattle.rules_rank.specs.Rank.{wholeRank}
-use Rattle.rules_rank.proofs.whole_rank.Statement.{statement}
-use Rattle.rules_rank.proofs.whole_rank.Tie as tie
+use Rattle.rules_rank_bar.specs.RankOf.{wholeRank}
+use Rattle.rules_rank_bar.proofs.whole_rank.Statement.{statement}
+use Rattle.rules_rank_bar.proofs.whole_rank.Tie as tie
 
 pub whole-rank-spec : {M : Type 1} → statement M
 whole-rank-spec =
