@@ -1,8 +1,8 @@
 -- `against_mean` meets its contract: its test is that of `againstMean`. Assumes nothing.
 use borrow.Author.Needs.{needs}
 use lib.Ieee.{ofBits}
-use Rattle.rules_single.proofs.against_mean.Statement.{statement}
-use Rattle.rules_single.proofs.against_mean.Tie as tie
+use Rattle.rules_single_bar.proofs.against_mean.Statement.{statement}
+use Rattle.rules_single_bar.proofs.against_mean.Tie as tie
 
 pub against-mean-spec : {M : Type 1} → statement M
 against-mean-spec =

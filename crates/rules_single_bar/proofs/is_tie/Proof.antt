@@ -1,7 +1,7 @@
 -- `is_tie` meets its contract: its tests are those of `tie`. Assumes nothing.
 use lib.Ieee.{ofBits}
-use Rattle.rules_single.proofs.is_tie.Statement.{statement}
-use Rattle.rules_single.proofs.is_tie.Tie as tie
+use Rattle.rules_single_bar.proofs.is_tie.Statement.{statement}
+use Rattle.rules_single_bar.proofs.is_tie.Tie as tie
 
 pub is-tie-spec : {M : Type 1} → statement M
 is-tie-spec =
