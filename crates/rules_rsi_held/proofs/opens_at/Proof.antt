@@ -1,6 +1,6 @@
 -- `opens_at` meets its contract: its tests are those of `opensAt`. Assumes nothing.
-use Rattle.rules_rsi_bar.proofs.opens_at.Statement.{statement}
-use Rattle.rules_rsi_bar.proofs.opens_at.Tie as tie
+use Rattle.rules_rsi_held.proofs.opens_at.Statement.{statement}
+use Rattle.rules_rsi_held.proofs.opens_at.Tie as tie
 
 pub opens-at-spec : {M : Type 1} → statement M
 opens-at-spec =

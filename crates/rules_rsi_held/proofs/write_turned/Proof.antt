@@ -14,9 +14,9 @@ use Rattle.cells.proofs.Recur.{no-step, one-step}
 use Rattle.cells.proofs.Written.{none-written, one-more, ends}
 use Rattle.rules_held.specs.Held.{flat, moved}
 use Rattle.rules_held.proofs.Holding.{held-at}
-use Rattle.rules_rsi_bar.specs.RsiReverse.{turnsAt, turned}
-use Rattle.rules_rsi.proofs.write_turned.Statement.{statement}
-use Rattle.rules_rsi.proofs.write_turned.Tie as tie
+use Rattle.rules_rsi_held.specs.Turned.{turnsAt, turned}
+use Rattle.rules_rsi_held.proofs.write_turned.Statement.{statement}
+use Rattle.rules_rsi_held.proofs.write_turned.Tie as tie
 
 abbrev Inv-loop : tie.InvT-loop
 Inv-loop indexes upper lower exit out₀ position₀ i₀ out position i =

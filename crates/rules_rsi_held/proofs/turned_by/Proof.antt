@@ -3,8 +3,8 @@ use mathlib.Core.Path.{_∙_}
 use borrow.Author.Needs.{needs, sfits-of}
 use mir.Syntax.{w32}
 use mir.ValLaws.{toZ-ofZ}
-use Rattle.rules_rsi_bar.proofs.turned_by.Statement.{statement}
-use Rattle.rules_rsi_bar.proofs.turned_by.Tie as tie
+use Rattle.rules_rsi_held.proofs.turned_by.Statement.{statement}
+use Rattle.rules_rsi_held.proofs.turned_by.Tie as tie
 
 returns : tie.Need-returns
 returns c =
