@@ -6,26 +6,10 @@ ghost use Prim.Native.Nat.{_<_, _≤_};
 ghost use lib.ListN.{length};
 ghost use Rattle.cells.specs.Line.{line};
 ghost use Rattle.cells.specs.Written.{Writing};
-ghost use Rattle.windows.specs.Window.{addThenSubtract};
-ghost use Rattle.windows.specs.inner.Sums.{Running};
 ghost use Rattle.rules_double_bar.specs.Double.{doubleLine, doubleAnswer};
 ghost use Rattle.rules_double_bar.specs.inner.Stages.{Started};
 ghost use Rattle.rules_double_bar.specs.inner.Ticks.{tickCells, TickRoom, OverTicks, Spread};
 ghost use Rattle.limits.specs.Limits.{Window};
-
-// The running sum of the n bars before bar i.
-fn running_sum(series: &[f64], n: usize, i: usize) -> f64
-    requires { ⌜ Window n × (n ≤ i) × (i ≤ length (now series)) ⌝ }
-    ensures { λ r. ⌜ Running addThenSubtract n (line (now (series .entry))) i r ⌝ }
-{
-    let mut sum = windows::sum_at(series, n, n - 1);
-    let mut j = n;
-    while j < i {
-        sum = sum + series[j] - series[j - n];
-        j += 1;
-    }
-    sum
-}
 
 // Writes the positions from bar m - 1 on, where both averages are there, by running sums.
 fn write_crossings(series: &[f64], n: usize, m: usize, out: &mut [f64])
@@ -33,14 +17,14 @@ fn write_crossings(series: &[f64], n: usize, m: usize, out: &mut [f64])
     ensures { λ _. ⌜ Writing (length (now (series .entry))) (doubleLine n m (line (now (series .entry))))
         (now (out .entry)) (now (out .exit)) ⌝ }
 {
-    let mut short = running_sum(series, n, m);
-    let mut long = running_sum(series, m, m);
+    let mut short = rules_double_sums::running_sum(series, n, m);
+    let mut long = rules_double_sums::running_sum(series, m, m);
     let mut i = m - 1;
     while i + 1 < series.len() {
         out[i] = rules_double_bar::cross(short, n, long, m);
         i += 1;
-        short = short + series[i] - series[i - n];
-        long = long + series[i] - series[i - m];
+        short = rules_double_sums::slide_sum(series, n, i, short);
+        long = rules_double_sums::slide_sum(series, m, i, long);
     }
     out[i] = rules_double_bar::cross(short, n, long, m);
 }

@@ -17,7 +17,6 @@ use Rattle.rounding.specs.Literals.{tenToMinus}
 use Rattle.values.specs.Accepted.{accepted, all}
 use Rattle.values.proofs.All.{all-at}
 use Rattle.ranks.specs.Counted.{belowBy, countFrom}
-use Rattle.ranks.specs.inner.Counting.{Counting}
 use Rattle.ranks.proofs.Counted.{countFrom-same, countFrom-most, last-failed}
 use Rattle.limits.specs.Limits.{longestWindow}
 use Rattle.calls.specs.declared.Answer.{Answer}
@@ -27,6 +26,7 @@ use Rattle.calls.proofs.Room.{andThen-cells, unless-cells, emptyIf-cells, same-
 use Rattle.checks.specs.inner.Due.{CellsDue}
 use Rattle.checks.proofs.Due.{some-due, clearable-then, room-then}
 use Rattle.rounding_order.proofs.Outward.{lt-self}
+use Rattle.rules_rank_bar.specs.inner.Place.{countedPlace}
 use Rattle.rules_rank.specs.RollingRank.{wellBelow, rollingRankLine, rollingRankAnswer}
 use Rattle.rules_rank.specs.inner.Rows.{RankRoom}
 use Rattle.values.proofs.Numbers.{accepted-finite}
@@ -72,17 +72,16 @@ no-window zero f v h = v
 no-window (suc k) f v h = absurd (omega arith)
 
 -- the rank at bar i, from the count by one difference
-pub placed : (s : List Float) (w i : ℕ) {c : ℕ} → all accepted s ≡ true
-    → Counting (belowBy (tenToMinus 8) (line s i)) (line s) (i + 1 - w) (w - 1) c
-    → (0 < w) × (w ≤ i + 1) × (i < length s)
-    → c + 1 ≡ rollingRankLine w (line s) i
-placed s w i a k (p, h, l) =
+pub placed : (s : List Float) (w i : ℕ) → all accepted s ≡ true → (0 < w) × (w ≤ i + 1) × (i < length s)
+    → countedPlace w (line s) i ≡ rollingRankLine w (line s) i
+unfolding countedPlace
+placed s w i a (p, h, l) =
     let number : (j : ℕ) → j < length s → finite (line s j) ≡ true =
     λ j m. accepted-finite (line s j) (all-at accepted s j a m) in
     let same =
     countFrom-same (belowBy (tenToMinus 8) (line s i)) (wellBelow (line s i)) (line s) (line s) (i + 1 - w) (w - 1)
     (λ j m. well-below-is (line s i) (line s j) (number i l) (number j (omega arith))) in
-    add-one _ ∙ ap suc (k .is ∙ same) ∙ sym (rolling-from w (line s) i p h)
+    add-one _ ∙ ap suc same ∙ sym (rolling-from w (line s) i p h)
 
 -- ---- the answer
 

@@ -4,38 +4,16 @@ use calls::Refusal;
 use limits::LONGEST_WINDOW;
 ghost use mathlib.Core.Path.{_≡_};
 ghost use mathlib.Core.Bool.{true};
-ghost use Prim.Native.Nat.{_-_, _*_, _<_, _≤_};
+ghost use Prim.Native.Nat.{_*_, _<_, _≤_};
 ghost use lib.ListN.{length};
-ghost use Rattle.limits.specs.Limits.{longestWindow, Window};
 ghost use Rattle.cells.specs.Line.{line};
 ghost use Rattle.cells.specs.Written.{Writing};
 ghost use Rattle.cells.specs.inner.Touched.{Touched};
 ghost use Rattle.values.specs.Accepted.{accepted, all};
 ghost use Rattle.checks.specs.inner.Due.{Priced};
-ghost use Rattle.rules_rank.specs.Rank.{wholeRank, rankOf, rankLine};
+ghost use Rattle.rules_rank.specs.Rank.{rankLine};
 ghost use Rattle.rules_rank.specs.RollingRank.{rollingRankAnswer, rollingRankLine};
 ghost use Rattle.rules_rank.specs.inner.Rows.{RankRows};
-
-// The whole hundredths, from -100 to 100, for `below` of `others`; NaN where there are no others.
-pub fn whole_rank(below: usize, others: usize) -> f64
-    requires { ⌜ (below ≤ longestWindow) × (others ≤ longestWindow) ⌝ }
-    ensures { λ r. ⌜ r ≡ wholeRank below others ⌝ }
-{
-    let share = (below as f64) / (others as f64);
-    rounding::round_to_whole((share - 0.5) * 2.0 * 100.0)
-}
-
-// Writes the position for each number of means below, of n - 1.
-fn write_positions(n: usize, positions: &mut [f64])
-    requires { ⌜ Window n × (n ≤ length (now positions)) ⌝ }
-    ensures { λ _. ⌜ Writing n (λ c. rankOf c (n - 1)) (now (positions .entry)) (now (positions .exit)) ⌝ }
-{
-    let mut below = 0;
-    while below < n {
-        positions[below] = whole_rank(below, n - 1) / 100.0;
-        below += 1;
-    }
-}
 
 // Writes each bar's position: a count of means picks it. The rows of `work` are the means and the positions.
 fn write_by_count(series: &[f64], work: &[f64], n: usize, out: &mut [f64])
@@ -63,7 +41,7 @@ pub fn write_rank(series: &[f64], n: usize, out: &mut [f64], work: &mut [f64])
     let bars = series.len();
     if bars > 2 * n - 2 {
         window_means::write_means_of_prices(series, n, work);
-        write_positions(n, &mut work[bars..]);
+        rules_rank_bar::write_positions(n, &mut work[bars..]);
         write_by_count(series, work, n, out);
     } else {
         cells::fill(out, bars, 0.0);
@@ -80,9 +58,6 @@ pub fn answer_rolling_rank(series: &[f64], window: usize, out: usize, work: usiz
     let next = checks::unless_refused(window <= LONGEST_WINDOW, Refusal::WindowTooLong, some);
     checks::and_then(due, next)
 }
-
-// A value less than this far away takes the present one's place.
-const NEAR: f64 = 1e-8;
 
 // Writes 0, for none, to the first n cells.
 fn fill_none(out: &mut [u64], n: usize)
@@ -106,8 +81,7 @@ fn write_places(series: &[f64], window: usize, out: &mut [u64])
     let mut i = cells::smaller(window - 1, bars);
     fill_none(out, i);
     while i < bars {
-        let below = ranks::count_below_by(series, i + 1 - window, window - 1, series[i], NEAR);
-        out[i] = below as u64 + 1;
+        out[i] = rules_rank_bar::place_at(series, window, i);
         i += 1;
     }
 }

@@ -13,7 +13,6 @@ ghost use Rattle.windows.specs.Window.{mean};
 ghost use Rattle.checks.specs.inner.Due.{Priced};
 ghost use Rattle.rules_rsi_bar.specs.RsiReverse.{
   rsiBefore,
-  turned,
   rsiReverseLine,
   rsiReverseAnswer,
 };
@@ -142,21 +141,6 @@ fn write_indexes(series: &[f64], n: usize, work: &mut [f64])
     }
 }
 
-// Writes each bar's position by the indexes.
-fn write_turned(indexes: &[f64], upper: f64, lower: f64, exit: f64, out: &mut [i32])
-    requires { ⌜ length (now indexes) ≤ length (now out) ⌝ }
-    ensures { λ _. ⌜ Writing (length (now (indexes .entry))) (turned upper lower exit (line (now (indexes .entry))))
-        (now (out .entry)) (now (out .exit)) ⌝ }
-{
-    let mut position = 0;
-    let mut i = 0;
-    while i < indexes.len() {
-        position = rules_rsi_bar::turned_by(position, indexes[i], upper, lower, exit);
-        out[i] = position;
-        i += 1;
-    }
-}
-
 // Writes each bar's position. The first three rows of `work` are used.
 pub fn write_rsi_reverse(
     series: &[f64],
@@ -176,5 +160,5 @@ pub fn write_rsi_reverse(
     let bars = series.len();
     write_changes(series, n, work);
     write_indexes(series, n, work);
-    write_turned(&work[..bars], upper, lower, exit, out);
+    rules_rsi_held::write_turned(&work[..bars], upper, lower, exit, out);
 }

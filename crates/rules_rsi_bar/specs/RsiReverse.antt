@@ -6,17 +6,18 @@ use Prim.Native.Nat.{ℕ, _-_, min}
 use lib.Dec.{leb}
 use lib.IntN.{ℤ}
 use lib.ListN.{length}
-use lib.Ieee.{Float, nan, lt, eq}
+use lib.Ieee.{Float, nan, eq}
 use Rattle.rounding.specs.Literals.{hundred}
 use Rattle.cells.specs.Line.{Line, line, plusZero}
 use Rattle.windows.specs.Window.{sumFrom, over, mean}
 use Rattle.changes.specs.Changes.{gains, losses, rsiFormula}
-use Rattle.rules_held.specs.Held.{flat, long, short, Signal, hold}
 use Rattle.values.specs.Accepted.{accepted}
 use Rattle.calls.specs.declared.Answer.{Answer}
 use Rattle.calls.specs.declared.Answer.the-variants.{Cells}
 use Rattle.calls.specs.Answer.{andThen, checked, limited, unlessEmpty}
 use Rattle.calls.specs.Call.{WorkCall}
+pub use Rattle.rules_rsi_held.specs.Turned.{opensAt, turnsAt}
+unfoldable pub use Rattle.rules_rsi_held.specs.Turned.{turned}
 
 -- How many changes of means there are at bars max(0, i - n) to i - 1. The first is that of bar n, since the means begin
 -- at bar n - 1; the present bar is left out.
@@ -37,22 +38,6 @@ rsiBefore n means i =
     cond (leb (n - 1) (changesBefore n i))
     (indexOf (changesBefore n i) (sumBefore n (gains means) i) (sumBefore n (losses means) i))
     nan
-
--- what a flat position opens: long below `lower`, else short above `upper`
-abbrev pub opensAt : Float → Float → Float → ℤ
-opensAt upper lower x = cond (lt x lower) long (cond (lt upper x) short flat)
-
--- A long position closes above `exit`, and a short one below it. A NaN opens and closes nothing.
-abbrev pub turnsAt : Float → Float → Float → Float → Signal
-turnsAt upper lower exit x = record {
-  opens = opensAt upper lower x;
-  closesLong = lt exit x;
-  closesShort = lt x exit;
-}
-
--- the position that is held by a line of indexes
-unfoldable pub turned : Float → Float → Float → Line → ℕ → ℤ
-turned upper lower exit g = hold (λ i. turnsAt upper lower exit (g i))
 
 -- the indexes are those of the means of the last n prices
 unfoldable pub rsiReverseLine : ℕ → Float → Float → Float → Line → ℕ → ℤ

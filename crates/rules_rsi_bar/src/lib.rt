@@ -1,12 +1,11 @@
-// The rule against the relative strength index, one bar: the index, and the position after it.
+// The rule against the relative strength index: the index of one bar.
 ghost use mathlib.Core.Path.{_≡_};
 ghost use Prim.Native.Nat.{_<_};
 ghost use lib.ListN.{length};
 ghost use Rattle.limits.specs.Limits.{Window};
 ghost use Rattle.cells.specs.Line.{line};
 ghost use Rattle.windows.specs.Window.{mean};
-ghost use Rattle.rules_held.specs.Held.{moved};
-ghost use Rattle.rules_rsi_bar.specs.RsiReverse.{changesBefore, rsiBefore, opensAt, turnsAt};
+ghost use Rattle.rules_rsi_bar.specs.RsiReverse.{changesBefore, rsiBefore};
 ghost use Rattle.rules_rsi_bar.specs.inner.Stages.{Changed, indexBy};
 
 // The index of two sums of changes: 100 where there are no losses.
@@ -47,25 +46,4 @@ pub fn index_at(series: &[f64], n: usize, i: usize, work: &[f64]) -> f64
     let up = windows::sum_at(work, count, bars + i - 1);
     let down = windows::sum_at(work, count, 2 * bars + i - 1);
     index_by(up, down, count as f64)
-}
-
-// What a flat position opens: long below `lower`, else short above `upper`.
-fn opens_at(x: f64, upper: f64, lower: f64) -> i32
-    ensures { λ r. ⌜ r ≡ opensAt upper lower x ⌝ }
-{
-    if x < lower {
-        return 1;
-    }
-    if x > upper {
-        return -1;
-    }
-    0
-}
-
-// The position after a bar, by its index.
-pub fn turned_by(position: i32, x: f64, upper: f64, lower: f64, exit: f64) -> i32
-    ensures { λ r. ⌜ r ≡ moved position (turnsAt upper lower exit x) ⌝ }
-{
-    let opens = opens_at(x, upper, lower);
-    rules_held::move_position(position, opens, x > exit, x < exit)
 }

@@ -32,7 +32,8 @@ use Rattle.rules_single.proofs.Single.{single-at}
 use Rattle.exact_ticks.proofs.TickMeans.{tick-line}
 use Rattle.exact_ticks.proofs.Runs.{run-exact, runs-whole, size-times, some-abs, times-one}
 use Rattle.windows.specs.inner.Runs.{runs}
-use Rattle.rules_single.specs.inner.Ticks.{TickRows, tie}
+use Rattle.rules_single_bar.specs.inner.Tie.{tie}
+use Rattle.rules_single.specs.inner.Ticks.{TickRows}
 
 module _ {l : ℕ} {f : Line} {t : ℕ → ℤ} (w : TickLine l f t) where
   pub single-exact : (n i : ℕ) → 0 < n → n ≤ 1022 → 2 * n ≤ i + 2 → i < l

@@ -7,22 +7,13 @@ ghost use Rattle.values.specs.Accepted.{tick, all};
 ghost use Rattle.cells.specs.Line.{line};
 ghost use Rattle.cells.specs.Written.{Writing};
 ghost use Rattle.windows.specs.Window.{mean};
-ghost use Rattle.rules_single.specs.inner.Ticks.{tie, TickRows};
-ghost use Rattle.rules_single.specs.Single.{againstMean, singleLine};
+ghost use Rattle.rules_single.specs.inner.Ticks.{TickRows};
+ghost use Rattle.rules_single.specs.Single.{singleLine};
 ghost use Rattle.rules_single.specs.inner.Runs.{positions, Decided};
 ghost use Rattle.windows.specs.inner.Eight.{WindowRoom};
 ghost use Rattle.cells.specs.inner.Touched.{Touched};
 ghost use Rattle.checks.specs.inner.Due.{Priced};
 ghost use Rattle.window_means.specs.inner.Ticks.{longTicks};
-
-// The sign of a price less its average, 0 where that average is 0.0. The sign is taken first, so that a loop takes
-// several bars at a time.
-fn against_mean(price: f64, average: f64) -> f64
-    ensures { λ r. ⌜ r ≡ againstMean price average ⌝ }
-{
-    let side = rounding::sign(price - average);
-    if average == 0.0 { 0.0 } else { side }
-}
 
 // Writes each bar's position over the average that stands in its cell.
 fn write_against_means(series: &[f64], n: usize, out: &mut [f64])
@@ -32,16 +23,9 @@ fn write_against_means(series: &[f64], n: usize, out: &mut [f64])
 {
     let mut i = cells::fill_lead(out, 2 * n - 2, series.len(), 0.0);
     while i < series.len() {
-        out[i] = against_mean(series[i], out[i]);
+        out[i] = rules_single_bar::against_mean(series[i], out[i]);
         i += 1;
     }
-}
-
-// Whether n * n * price is the sum of the last n window sums, or that sum is 0.
-fn is_tie(scaled: f64, total: f64) -> bool
-    ensures { λ r. ⌜ r ≡ tie scaled total ⌝ }
-{
-    if scaled == total { true } else { total == 0.0 }
 }
 
 // The position of bar i. The rows of `work` are the means, which decide a tie, and the sums of the last n window sums.
@@ -52,8 +36,8 @@ fn tick_position(series: &[f64], work: &[f64], n: usize, i: usize) -> f64
 {
     let scaled = series[i] * ((n * n) as f64);
     let total = work[series.len() + i];
-    if is_tie(scaled, total) {
-        against_mean(series[i], windows::mean_at(work, n, i))
+    if rules_single_bar::is_tie(scaled, total) {
+        rules_single_bar::against_mean(series[i], windows::mean_at(work, n, i))
     } else if scaled < total {
         -1.0
     } else {

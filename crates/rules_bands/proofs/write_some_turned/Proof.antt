@@ -50,8 +50,8 @@ loop-again c =
     let start = spread .before .before .before .before in
     let a = start .args in
     let j = at .loop .j in
-    let middle = read-back j nan (spread .write-spreads .ensures .middles) (omega arith) in
-    let variance = read-back j nan (spread .write-spreads .ensures .variances) (omega arith) in
+    let middle = read-back j nan (spread .write-reverse-spreads .ensures .middles) (omega arith) in
+    let variance = read-back j nan (spread .write-reverse-spreads .ensures .variances) (omega arith) in
     let call = c .turned-by in
     let signal = turns-at (a .n) (a .k) _ (a .i + j) middle variance (omega arith) (omega arith) in
     let is = toZ-ofZ w32 (call .result) (sfits-of (call .ok)) ∙ call .ensures
@@ -62,7 +62,7 @@ loop-again c =
 returns : tie.Need-returns Inv-loop μ-loop
 returns c =
     let at = c .before in
-    let spread = at .before .before .before .before .before .write-spreads .ensures in
+    let spread = at .before .before .before .before .before .write-reverse-spreads .ensures in
     record { some = spread .some; inside = spread .inside; cells = ends (at .loop .inv .1) (omega arith) }
 
 pub write-some-turned-spec : {M : Type 1} → statement M
@@ -71,9 +71,9 @@ write-some-turned-spec =
     (tie.spec
     Inv-loop
     μ-loop
-    (λ c. search needs)  -- slice-aggregate-write-spreads
-    (λ c. search needs)  -- slice-aggregate-write-spreads-2
-    (λ c κs. search needs)  -- write-spreads-requires
+    (λ c. search needs)  -- slice-aggregate-write-reverse-spreads
+    (λ c. search needs)  -- slice-aggregate-write-reverse-spreads-2
+    (λ c κs. search needs)  -- write-reverse-spreads-requires
     (λ c κs. search needs)  -- position-before-requires
     loop-holds
     (λ c. search needs)  -- add-turned-by

@@ -38,13 +38,13 @@ loop-holds c =
 
 loop-again : tie.Need-loop-again Inv-loop μ-loop
 loop-again c =
-    let here = c .before .before .before .before in
+    let here = c .before .before in
     let inv = here .before .before .loop .inv in (
       omega arith,
       omega arith,
       one-more (inv .2) (here .cross .ensures ∙ double-at _ (inv .3) (inv .4) (omega arith)) (omega arith),
-      next-running (inv .3) (omega arith),
-      next-running (inv .4) (omega arith),
+      rw (c .before .slide-sum .ensures) (next-running (inv .3) (omega arith)),
+      rw (c .slide-sum2 .ensures) (next-running (inv .4) (omega arith)),
     )
 
 returns : tie.Need-returns Inv-loop μ-loop
@@ -68,16 +68,8 @@ write-crossings-spec =
     (λ c. search needs)  -- mul-out
     (λ c. search needs)  -- slice-write-out
     (λ c. search needs)  -- add-i
-    (λ c. search needs)  -- mul-short
-    (λ c. search needs)  -- shared-slice-read-short
-    (λ c. search needs)  -- sub-short
-    (λ c. search needs)  -- mul-short-2
-    (λ c. search needs)  -- shared-slice-read-short-2
-    (λ c. search needs)  -- mul-long
-    (λ c. search needs)  -- shared-slice-read-long
-    (λ c. search needs)  -- sub-long
-    (λ c. search needs)  -- mul-long-2
-    (λ c. search needs)  -- shared-slice-read-long-2
+    (λ c κs. search needs)  -- slide-sum-requires
+    (λ c κs. search needs)  -- slide-sum-requires-2
     (λ c. search needs)  -- loop-less
     loop-again
     (λ c κs. search needs)  -- cross-requires-2

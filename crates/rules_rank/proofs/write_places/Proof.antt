@@ -1,15 +1,13 @@
--- `write_places` meets its contract: each turn counts the values well below the bar's own and writes its place.
--- Assumes nothing.
+-- `write_places` meets its contract: each turn writes one bar's place. Assumes nothing.
+use mathlib.Core.Path.{_∙_}
 use Prim.Native.Nat.{_-_, _≤_, min}
 use native.Mathlib.Omega.{arith}
 use borrow.Author.Needs.{needs}
 use denote.Ref.{now}
-use lib.Ieee.{ofBits, round}
 use lib.ListN.{length}
 use Rattle.cells.specs.Line.{line}
 use Rattle.cells.specs.Written.{Writing}
 use Rattle.cells.proofs.Written.{one-more, stands, then-written, ends}
-use Rattle.rounding.specs.Literals.{tenToMinus}
 use Rattle.rules_rank.specs.RollingRank.{rollingRankLine}
 use Rattle.rules_rank.proofs.RollingCells.{none-placed, placed}
 use Rattle.rules_rank.proofs.write_places.Statement.{statement}
@@ -28,12 +26,11 @@ loop-holds c =
     (omega arith, omega arith, stands (none-placed _ _ (c .before .before .fill-none .ensures) (omega arith)))
 
 loop-again : tie.Need-loop-again Inv-loop μ-loop
-unfolding tenToMinus round ofBits
 loop-again c =
-    let at = c .before .before .before in
+    let at = c .before .before in
     let start = at .before .before .before .before .before .before .before .before in
-    let count = c .count-below-by .ensures in
-    let place = placed (now (start .args .series)) _ (at .loop .i) (start .pre .2) count (omega arith) in
+    let series = now (start .args .series) in
+    let place = c .place-at .ensures ∙ placed series _ (at .loop .i) (start .pre .2) (omega arith) in
     (omega arith, omega arith, one-more (at .loop .inv .2) place (omega arith))
 
 returns : tie.Need-returns Inv-loop μ-loop
@@ -51,13 +48,7 @@ write-places-spec =
     (λ c κs. search needs)  -- smaller-requires
     (λ c κs. search needs)  -- fill-none-requires
     loop-holds
-    (λ c. search needs)  -- add-count-below-by
-    (λ c. search needs)  -- sub-count-below-by
-    (λ c. search needs)  -- sub-count-below-by-2
-    (λ c. search needs)  -- mul-count-below-by
-    (λ c. search needs)  -- shared-slice-read-count-below-by
-    (λ c κs. search needs)  -- count-below-by-requires
-    (λ c. search needs)  -- add-out
+    (λ c κs. search needs)  -- place-at-requires
     (λ c. search needs)  -- mul-out
     (λ c. search needs)  -- slice-write-out
     (λ c. search needs)  -- add-i

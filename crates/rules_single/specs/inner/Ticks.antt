@@ -1,25 +1,17 @@
 -- The one-average rule on whole ticks, decided by whole numbers, which running sums give exactly. Assumes nothing.
 use mathlib.Core.Path.{_≡_}
-use mathlib.Core.Bool.{Bool, true, _||_}
+use mathlib.Core.Bool.{true}
 use mathlib.Core.List.{List}
 use Prim.Native.Nat.{ℕ, _+_, _*_, _≤_}
 use lib.ListN.{length}
-use lib.Ieee.{Float, eq}
+use lib.Ieee.{Float}
 use Rattle.limits.specs.Limits.{Window}
 use Rattle.values.specs.Accepted.{tick, all}
-use Rattle.cells.specs.Line.{line, plusZero}
+use Rattle.cells.specs.Line.{line}
 use Rattle.cells.specs.inner.Rows.{beside}
 use Rattle.cells.specs.Written.{Writing}
 use Rattle.windows.specs.Window.{mean}
 use Rattle.windows.specs.inner.Runs.{runs}
-
--- ---- the decision
-
--- n · n · price is the sum of the last n window sums, or that sum is 0: there the rounded average decides
-abbrev pub tie : Float → Float → Bool
-tie scaled total = eq scaled total || eq total plusZero
-
--- ---- the stages
 
 -- the means of s, and the sums of its last n window sums, in two rows
 abbrev pub Totals : ℕ → List Float → List Float → List Float → Type 0

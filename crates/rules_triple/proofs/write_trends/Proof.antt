@@ -41,7 +41,7 @@ loop-again c =
 returns : tie.Need-returns Inv-loop μ-loop
 returns c =
     let at = c .before in
-    lead-then (at .before .before .fill-flat .ensures) (at .loop .inv .2) (omega arith)
+    lead-then (at .before .before .fill-before-trends .ensures) (at .loop .inv .2) (omega arith)
 
 pub write-trends-spec : {M : Type 1} → statement M
 write-trends-spec =
@@ -49,9 +49,7 @@ write-trends-spec =
     (tie.spec
     Inv-loop
     μ-loop
-    (λ c. search needs)  -- add-fill-flat
-    (λ c. search needs)  -- sub-fill-flat
-    (λ c κs. search needs)  -- fill-flat-requires
+    (λ c κs. search needs)  -- fill-before-trends-requires
     (λ c. unfold tripleLine in search (needs, lead-stands))  -- loop-holds
     (λ c. search needs)  -- mul-trend
     (λ c. search needs)  -- shared-slice-read-trend

@@ -1,0 +1,3 @@
+-- One bar of the ranks.
+pub mod RankOf
+pub mod inner

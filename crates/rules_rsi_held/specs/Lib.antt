@@ -1,0 +1,2 @@
+-- The positions that a line of indexes holds.
+pub mod Turned
