@@ -1,6 +1,7 @@
 // The mean of a window that slides, and what the other averages share with it.
 use calls::Answer;
 use calls::Refusal;
+use values_series::Pass;
 ghost use mathlib.Core.Path.{_≡_};
 ghost use mathlib.Core.Bool.{false};
 ghost use mathlib.Core.List.{[], _∷_};
@@ -12,17 +13,10 @@ ghost use Rattle.calls.specs.Answer.{answered};
 ghost use Rattle.calls.specs.inner.Fits.{windowFits};
 ghost use Rattle.calls.specs.Call.{Call};
 ghost use Rattle.cells.specs.Line.{Line, line, fromBar};
-ghost use Rattle.cells.specs.inner.Leads.{Led};
 ghost use Rattle.cells.specs.Written.{Writing};
 ghost use Rattle.sliding_means.specs.inner.Means.{Summed};
 ghost use Rattle.averages.specs.Sma.{smaLine, SmaCall};
 ghost use Rattle.averages.specs.inner.Stages.{First};
-
-// What is found on the way through a series: the bits of the prices together, and a sum or a cell.
-pub struct Pass {
-    pub bits: u64,
-    pub value: f64,
-}
 
 // The sum of the first n prices, and their bits. An addition waits for the one before it, and the bits are gathered
 // meanwhile.
@@ -41,21 +35,13 @@ pub fn sum_first(series: &[f64], n: usize) -> Pass
     Pass { bits, value: sum }
 }
 
-// Writes NaN before bar `first`, and gives the bar after those cells.
-pub fn fill_nan(out: &mut [f64], first: usize, bars: usize) -> usize
-    requires { ⌜ bars ≤ length (now out) ⌝ }
-    ensures { λ r. ⌜ Led first bars nan r (now (out .entry)) (now (out .exit)) ⌝ }
-{
-    cells::fill_lead(out, first, bars, 0.0 / 0.0)
-}
-
 // Writes the cells of `sma` from the sum of the first n prices.
 fn write_means(series: &[f64], n: usize, sum: f64, out: &mut [f64])
     requires { ⌜ Summed (now series) n sum (length (now out)) ⌝ }
     ensures { λ _. ⌜ Writing (length (now (series .entry))) (smaLine n (line (now (series .entry))))
         (now (out .entry)) (now (out .exit)) ⌝ }
 {
-    fill_nan(out, n - 1, series.len());
+    cells::fill_nan(out, n - 1, series.len());
     out[n - 1] = sum / (n as f64);
     sliding_means::slide_means(series, n, sum, out);
 }
@@ -70,7 +56,7 @@ pub fn answer_lead(series: &[f64], n: usize, out: &mut [f64]) -> Answer
 {
     let due = checks::answer_window(series, n, out.len());
     if calls::has_cells(due) {
-        fill_nan(out, n - 1, series.len());
+        cells::fill_nan(out, n - 1, series.len());
     }
     due
 }

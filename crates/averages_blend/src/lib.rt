@@ -1,5 +1,5 @@
 // The step of the exponential averages, and a line of such steps written from its seed on.
-use averages::Pass;
+use values_series::Pass;
 ghost use mathlib.Core.Path.{_≡_};
 ghost use Prim.Native.Nat.{_+_};
 ghost use Rattle.averages_blend.specs.Blend.{blend};
@@ -71,7 +71,7 @@ pub fn write_smooth(
     requires { ⌜ Smoothing (now series) alpha first seed 0 (now out) × Middle (now series) alpha first seed middle ⌝ }
     ensures { λ _. ⌜ Smooth (now (series .entry)) alpha first seed (now (out .entry)) (now (out .exit)) ⌝ }
 {
-    averages::fill_nan(out, first, series.len());
+    cells::fill_nan(out, first, series.len());
     out[first] = seed;
     blend_halves(series, alpha, first, seed, middle, out);
 }

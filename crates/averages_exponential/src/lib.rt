@@ -1,8 +1,8 @@
 // The exponential averages: each cell blends its price with the cell before it.
-use averages::Pass;
 use calls::Answer;
 use calls::Refusal;
 use limits::LARGEST_VALUE_BITS;
+use values_series::Pass;
 ghost use mathlib.Core.Path.{_≡_};
 ghost use Prim.Native.Nat.{_-_, _<_, _≤_};
 ghost use lib.IntN.{pos};

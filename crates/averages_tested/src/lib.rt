@@ -1,6 +1,6 @@
 // The prices of an exponential average tested one by one, while its seed is summed and its first half is blended.
-use averages::Pass;
 use limits::LARGEST_VALUE;
+use values_series::Pass;
 ghost use mathlib.Core.Path.{_≡_};
 ghost use Prim.Native.Nat.{_<_, _≤_};
 ghost use lib.Dec.{eqb};

@@ -48,7 +48,7 @@ pub fn write_average(series: &[f64], n: usize, out: &mut [f64])
     ensures { λ _. ⌜ Writing (length (now (series .entry))) (wilder n (n - 1) (line (now (series .entry))))
         (now (out .entry)) (now (out .exit)) ⌝ }
 {
-    let first = averages::fill_nan(out, n - 1, series.len());
+    let first = cells::fill_nan(out, n - 1, series.len());
     if first < series.len() {
         write_from_mean(series, n, out);
     }
@@ -126,7 +126,7 @@ fn write_wilder_rsi(series: &[f64], n: usize, out: &mut [f64], work: &mut [f64])
         (now (out .exit)) (now (work .entry)) (now (work .exit)) ⌝ }
 {
     let bars = series.len();
-    let first = averages::fill_nan(out, n, bars);
+    let first = cells::fill_nan(out, n, bars);
     work_rows::clear_bars(work, bars, first);
     if first < bars {
         write_from_seed(series, n, out, work);

@@ -29,7 +29,7 @@ fn write_deviations(close: &[f64], n: usize, out: &mut [f64])
     ensures { λ _. ⌜ Writing (length (now (close .entry))) (deviation plusZero (n - 1) n (line (now (close .entry))))
         (now (out .entry)) (now (out .exit)) ⌝ }
 {
-    let mut i = averages::fill_nan(out, n - 1, close.len());
+    let mut i = cells::fill_nan(out, n - 1, close.len());
     while i < close.len() {
         i += bands_deviations::write_some_deviations(close, n, i, out);
     }

@@ -2,6 +2,7 @@
 ghost use mathlib.Core.Path.{_≡_};
 ghost use Prim.Native.Nat.{_≤_, min};
 ghost use lib.ListN.{length};
+ghost use lib.Ieee.{nan};
 ghost use Rattle.cells.specs.Line.{plusZero};
 ghost use Rattle.cells.specs.inner.Leads.{Led};
 ghost use Rattle.cells.specs.Written.{Writing};
@@ -42,6 +43,14 @@ pub fn fill_lead(cells: &mut [f64], b: usize, bars: usize, x: f64) -> usize
     let first = smaller(b, bars);
     fill(cells, first, x);
     first
+}
+
+// Writes NaN before bar b, and gives the bar after those cells.
+pub fn fill_nan(cells: &mut [f64], b: usize, bars: usize) -> usize
+    requires { ⌜ bars ≤ length (now cells) ⌝ }
+    ensures { λ r. ⌜ Led b bars nan r (now (cells .entry)) (now (cells .exit)) ⌝ }
+{
+    fill_lead(cells, b, bars, 0.0 / 0.0)
 }
 
 // Moves the bytes from `from` to `to` to the front of the block, and gives how many they are.

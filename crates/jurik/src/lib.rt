@@ -39,7 +39,7 @@ fn write_swings(close: &[f64], out: &mut [f64])
     ensures { λ _. ⌜ Writing (length (now (close .entry))) (swings (line (now (close .entry)))) (now (out .entry))
         (now (out .exit)) ⌝ }
 {
-    let mut i = averages::fill_nan(out, 1, close.len());
+    let mut i = cells::fill_nan(out, 1, close.len());
     while i < close.len() {
         out[i] = swing_at(close, i);
         i += 1;

@@ -251,7 +251,7 @@ fn write_shares(f: &[f64], g: &[f64], n: usize, m: usize, k: usize, out: &mut [f
     ensures { λ _. ⌜ Writing (length (now (f .entry))) (afresh n m k (now (f .entry)) (now (g .entry)))
         (now (out .entry)) (now (out .exit)) ⌝ }
 {
-    let first = averages::fill_nan(out, longest(n, m, k) - 1, f.len());
+    let first = cells::fill_nan(out, longest(n, m, k) - 1, f.len());
     cells_from(f, g, n, m, k, first, out);
 }
 

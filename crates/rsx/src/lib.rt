@@ -38,7 +38,7 @@ fn write_index(close: &[f64], n: usize, index: &mut [f64])
         gain: 0.0,
         loss: 0.0,
     };
-    let mut i = averages::fill_nan(index, 1, close.len());
+    let mut i = cells::fill_nan(index, 1, close.len());
     while i < close.len() {
         averages = next(close, alpha, i, averages);
         index[i] = changes::strength_index(averages.gain, averages.loss);

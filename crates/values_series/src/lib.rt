@@ -9,6 +9,12 @@ ghost use Rattle.values.specs.inner.Quick.{NoneAbove, BitsOf};
 ghost use Rattle.values.specs.inner.Fraction.{comesBack};
 ghost use Rattle.cells.specs.Line.{line};
 
+// What is found on the way through a series: the bits of the prices together, and a sum or a cell.
+pub struct Pass {
+    pub bits: u64,
+    pub value: f64,
+}
+
 // The bits of the numbers of s from index `first` up to `end`, one upon the other (OR), so that none has larger ones.
 // What is not below 2^31 counts as that.
 pub fn bits_together(s: &[f64], first: usize, end: usize) -> u64

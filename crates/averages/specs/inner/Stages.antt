@@ -6,7 +6,7 @@ use lib.Ieee.{Float}
 use Rattle.cells.specs.Line.{line}
 use Rattle.windows.specs.Window.{windowSum}
 use Rattle.values.specs.inner.Quick.{BitsOf}
-use Rattle.averages.specs.declared.Pass.{Pass}
+use Rattle.values_series.specs.declared.Pass.{Pass}
 
 -- the sum of the first n bars, and their bits together
 pub record First (s : List Float) (n : ℕ) (r : Pass) : Type 0 where

@@ -4,7 +4,7 @@ use Prim.Native.Nat.{ℕ, _+_, _<_}
 use lib.ListN.{length}
 use lib.Ieee.{Float}
 use Rattle.values.specs.inner.Quick.{NoneAbove}
-use Rattle.averages.specs.declared.Pass.{Pass}
+use Rattle.values_series.specs.declared.Pass.{Pass}
 use Rattle.averages_blend.specs.inner.Blending.{Middle}
 
 -- the bits of the bars up to the seed's

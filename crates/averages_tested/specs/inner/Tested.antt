@@ -9,7 +9,7 @@ use lib.Ieee.{Float, nan}
 use Rattle.values.specs.Accepted.{accepted, all}
 use Rattle.cells.specs.Line.{line}
 use Rattle.windows.specs.Window.{windowSum}
-use Rattle.averages.specs.declared.Pass.{Pass}
+use Rattle.values_series.specs.declared.Pass.{Pass}
 use Rattle.averages_blend.specs.inner.Blending.{Middle}
 
 -- no bit is set where all prices are accepted

@@ -1,8 +1,8 @@
 -- `fill_nan` meets its contract: 0.0 / 0.0 is NaN. Assumes nothing.
 use borrow.Author.Needs.{needs}
 use lib.Ieee.{ofBits, div}
-use Rattle.averages.proofs.fill_nan.Statement.{statement}
-use Rattle.averages.proofs.fill_nan.Tie as tie
+use Rattle.cells.proofs.fill_nan.Statement.{statement}
+use Rattle.cells.proofs.fill_nan.Tie as tie
 
 pub fill-nan-spec : {M : Type 1} → statement M
 fill-nan-spec =
