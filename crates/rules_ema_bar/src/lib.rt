@@ -1,11 +1,11 @@
-// The exponential rule: its weight, when running sums decide a bar, and how a bar is written.
+// The exponential rule: its weight, and how a bar is written.
 ghost use mathlib.Core.Path.{_≡_};
 ghost use lib.ListN.{length};
 ghost use Rattle.limits.specs.Limits.{Window};
 ghost use Rattle.cells.specs.Line.{plusZero};
 ghost use Rattle.work_rows.specs.inner.Finished.{Finished};
 ghost use Rattle.averages_blend.specs.Blend.{emaAlpha};
-ghost use Rattle.rules_ema_bar.specs.inner.Bar.{distanceOf, decided, BarRoom, PositionPut, LeadRoom};
+ghost use Rattle.rules_ema_bar.specs.inner.Bar.{BarRoom, PositionPut, LeadRoom};
 
 // The weight of a bar's mean in the average.
 pub fn weight(n: usize) -> f64
@@ -13,24 +13,6 @@ pub fn weight(n: usize) -> f64
     ensures { λ r. ⌜ r ≡ emaAlpha n ⌝ }
 {
     2.0 / ((n + 1) as f64)
-}
-
-// How far price and average by running sums have to be apart: on whole ticks those are exact, so any distance will do.
-pub fn distance(series: &[f64], ticks: bool) -> f64
-    ensures { λ r. ⌜ r ≡ distanceOf ticks (now (series .entry)) ⌝ }
-{
-    if ticks {
-        -1.0
-    } else {
-        running_sums::margin(series)
-    }
-}
-
-// Whether they are that far apart.
-pub fn is_decided(d: f64, price: f64, average: f64) -> bool
-    ensures { λ r. ⌜ r ≡ decided d price average ⌝ }
-{
-    d < rounding::magnitude(price - average)
 }
 
 // Writes the position of bar i, and clears the bar's work cells.
