@@ -39,7 +39,7 @@ fn write_over_means(series: &[f64], n: usize, ticks: bool, out: &mut [f64], work
 {
     let bars = series.len();
     window_means::write_means_by(series, n, ticks, out);
-    let start = rules_ema_bar::first_bar(&out[..bars], n);
+    let start = rules_ema_start::first_bar(&out[..bars], n);
     if start < bars {
         let seed = windows::mean_at(&out[..bars], n, start);
         write_from(series, n, start, seed, out, work);

@@ -1,12 +1,11 @@
--- The exponential rule: the search for its start, its cells, and where it does not look ahead. Assumes nothing.
-use mathlib.Core.Path.{_≡_, refl, sym, ap, _∙_}
-use mathlib.Core.Bool.{Bool, true, false, cond}
+-- The exponential rule: its cells, and where it does not look ahead. Assumes nothing.
+use mathlib.Core.Path.{_≡_, sym, ap, _∙_}
+use mathlib.Core.Bool.{Bool, true}
 use mathlib.Core.List.{List}
 use Prim.Native.Nat.{ℕ, suc, _+_, _-_, _*_, _<_, _≤_}
 use native.Mathlib.Nat.{le-refl}
 use native.Mathlib.Omega.{arith}
-use borrow.Author.Tests.{ltb-true, lt-ltb, le-ltb}
-use lib.Dec.{ltb}
+use borrow.Author.Tests.{lt-ltb}
 use lib.ListN.{length, take}
 use lib.Ieee.{Float, binary64, sub}
 use Rattle.cells.specs.Line.{Line, line, plusZero, Same, Causal}
@@ -16,14 +15,7 @@ use Rattle.cells.proofs.Written.{writing-same, stands}
 use Rattle.cells.proofs.Touched.{untouched, touched, touched-more}
 use Rattle.cells.proofs.Parts.{part-long, part-is}
 use Rattle.cells.specs.Search.{firstBar, nonZero}
-use Rattle.cells.proofs.Search.{
-  firstBar-same,
-  firstBar-met,
-  firstBar-most,
-  firstBar-found,
-  firstBar-none,
-  NoneBefore,
-}
+use Rattle.cells.proofs.Search.{firstBar-same, firstBar-met, firstBar-most}
 use Rattle.cells.specs.Recur.{carried}
 use Rattle.cells.proofs.Carried.{carried-same, carried-seed, carried-next}
 use Rattle.work_rows.specs.inner.Finished.{Finished}
@@ -33,34 +25,9 @@ use Rattle.rounding.specs.Leaves.{signOf}
 use Rattle.windows.specs.Window.{mean}
 use Rattle.windows.proofs.Window.{causal-mean}
 use Rattle.averages_blend.specs.Blend.{blend, emaAlpha}
+use Rattle.rules_ema_start.proofs.Search.{usable-same}
 use Rattle.rules_ema_bar.specs.SingleEma.{firstUsable, emaOfMeans, singleEmaFrom, singleEmaLine}
 use Rattle.rules_ema_bar.specs.inner.Bar.{PositionPut}
-
--- ---- the search
-
--- bar k is not 0, and the bars before it are
-pub usable-found : (k l : ℕ) (f : Line) → NoneBefore (λ j. nonZero (f j)) k → nonZero (f k) ≡ true → k < l
-    → firstUsable l f ≡ k
-unfolding firstUsable
-usable-found k l f none e h = rw (firstBar-found (λ j. nonZero (f j)) k l none e h, lt-ltb k l h)
-
--- every bar is 0
-pub usable-none : (l : ℕ) (f : Line) → NoneBefore (λ j. nonZero (f j)) l → firstUsable l f ≡ 0
-unfolding firstUsable
-usable-none l f none = rw (firstBar-none (λ j. nonZero (f j)) l none, le-ltb l l (omega arith))
-
-pub usable-same : (l : ℕ) (f g : Line) → ((j : ℕ) → j < l → f j ≡ g j) → firstUsable l f ≡ firstUsable l g
-unfolding firstUsable
-usable-same l f g same =
-    rw (firstBar-same (λ j. nonZero (f j)) (λ j. nonZero (g j)) l (λ j m. rw (same j m)))
-
-inside : (j l : ℕ) (t : Bool) → ltb j l ≡ t → cond t j 0 ≤ l
-inside j l true e = let h = ltb-true j l e in omega arith
-inside j l false e = omega arith
-
-pub usable-inside : (l : ℕ) (f : Line) → firstUsable l f ≤ l
-unfolding firstUsable
-usable-inside l f = inside (firstBar (λ j. nonZero (f j)) l) l _ refl
 
 -- ---- the cells
 

@@ -1,14 +1,11 @@
 -- single_ema_positions: the price against the exponential average of its means, as TA-Lib's EMA takes it from a first
 -- bar on. That bar is searched for among all bars, so it may look ahead. Assumes nothing.
-use mathlib.Core.Bool.{cond}
 use mathlib.Core.List.{List, [], _∷_}
 use Prim.Native.Nat.{ℕ, _+_, _-_}
-use lib.Dec.{ltb}
 use lib.ListN.{length}
 use lib.Ieee.{Float, binary64, sub}
 use Rattle.cells.specs.Line.{Line, line, plusZero, fromBar}
 use Rattle.cells.specs.Recur.{carried}
-use Rattle.cells.specs.Search.{firstBar, nonZero}
 use Rattle.rounding.specs.Leaves.{signOf}
 use Rattle.windows.specs.Window.{mean}
 use Rattle.averages_blend.specs.Blend.{blend, emaAlpha}
@@ -16,10 +13,7 @@ use Rattle.values.specs.Accepted.{accepted}
 use Rattle.calls.specs.Answer.{answered}
 use Rattle.calls.specs.Call.{WorkCall}
 use Rattle.calls.specs.declared.Answer.{Answer}
-
--- the first of l bars at which the line is not 0, and bar 0 where there is none
-unfoldable pub firstUsable : ℕ → Line → ℕ
-firstUsable l f = let j = firstBar (λ i. nonZero (f i)) l in cond (ltb j l) j 0
+unfoldable pub use Rattle.rules_ema_start.specs.FirstUsable.{firstUsable}
 
 -- the exponential average of the line's means over n: at bar `start` the mean of the last n means, then 2 / (n + 1)
 -- of each mean

@@ -1,37 +1,11 @@
-// The exponential rule: where it starts, its weight, when running sums decide a bar, and how a bar is written.
+// The exponential rule: its weight, and how a bar is written.
 ghost use mathlib.Core.Path.{_≡_};
-ghost use Prim.Native.Nat.{_+_, _-_};
 ghost use lib.ListN.{length};
 ghost use Rattle.limits.specs.Limits.{Window};
-ghost use Rattle.cells.specs.Line.{line, plusZero};
+ghost use Rattle.cells.specs.Line.{plusZero};
 ghost use Rattle.work_rows.specs.inner.Finished.{Finished};
 ghost use Rattle.averages_blend.specs.Blend.{emaAlpha};
-ghost use Rattle.rules_ema_bar.specs.SingleEma.{firstUsable};
-ghost use Rattle.rules_ema_bar.specs.inner.Bar.{distanceOf, decided, BarRoom, PositionPut, LeadRoom};
-
-// The bar of the first mean that is not 0, or bar 0 where every mean is.
-fn first_usable(means: &[f64]) -> usize
-    ensures { λ r. ⌜ r ≡ firstUsable (length (now (means .entry))) (line (now (means .entry))) ⌝ }
-{
-    let mut i = 0;
-    loop {
-        if i == means.len() {
-            break 0;
-        }
-        if means[i] != 0.0 {
-            break i;
-        }
-        i += 1;
-    }
-}
-
-// The bar at which the average starts, from the means over n of all bars.
-pub fn first_bar(means: &[f64], n: usize) -> usize
-    requires { ⌜ Window n ⌝ }
-    ensures { λ r. ⌜ r ≡ firstUsable (length (now (means .entry))) (line (now (means .entry))) + (n - 1) ⌝ }
-{
-    first_usable(means) + (n - 1)
-}
+ghost use Rattle.rules_ema_bar.specs.inner.Bar.{BarRoom, PositionPut, LeadRoom};
 
 // The weight of a bar's mean in the average.
 pub fn weight(n: usize) -> f64
@@ -39,24 +13,6 @@ pub fn weight(n: usize) -> f64
     ensures { λ r. ⌜ r ≡ emaAlpha n ⌝ }
 {
     2.0 / ((n + 1) as f64)
-}
-
-// How far price and average by running sums have to be apart: on whole ticks those are exact, so any distance will do.
-pub fn distance(series: &[f64], ticks: bool) -> f64
-    ensures { λ r. ⌜ r ≡ distanceOf ticks (now (series .entry)) ⌝ }
-{
-    if ticks {
-        -1.0
-    } else {
-        running_sums::margin(series)
-    }
-}
-
-// Whether they are that far apart.
-pub fn is_decided(d: f64, price: f64, average: f64) -> bool
-    ensures { λ r. ⌜ r ≡ decided d price average ⌝ }
-{
-    d < rounding::magnitude(price - average)
 }
 
 // Writes the position of bar i, and clears the bar's work cells.

@@ -31,7 +31,7 @@ use Rattle.running_sums.proofs.Twice.{known, prices}
 use Rattle.window_means.specs.inner.Ticks.{longTicks}
 use Rattle.window_means.proofs.Ticks.{run-mean, known-ticks}
 use Rattle.rules_ema_bar.specs.SingleEma.{emaOfMeans, singleEmaFrom}
-use Rattle.rules_ema_bar.specs.inner.Bar.{distanceOf, decided}
+use Rattle.rules_ema_far.specs.inner.Far.{distanceOf, decided}
 use Rattle.rules_ema_bar.proofs.SingleEma.{first-average, next-average, position-at}
 use Rattle.rules_ema_runs.specs.inner.Runs.{slidFrom, runEma, Decides}
 use Rattle.rules_ema_runs.proofs.Runs.{Beside, begins, goes-on, decides}

@@ -20,7 +20,7 @@ use Rattle.windows.proofs.Runs.{run-at}
 use Rattle.sliding_means.specs.inner.Means.{runMeans}
 use Rattle.sliding_means.proofs.Means.{causal-run-means}
 use Rattle.rules_ema_bar.specs.SingleEma.{firstUsable, singleEmaFrom, singleEmaLine}
-use Rattle.rules_ema_bar.proofs.SingleEma.{usable-found}
+use Rattle.rules_ema_start.proofs.Search.{usable-found}
 use Rattle.rules_ema_runs.specs.inner.Runs.{HeadWritten}
 
 pub head-long : (k : ℕ) (s : List Float) → k ≤ length s → length (take k s) ≡ k

@@ -29,7 +29,7 @@ fn write_from_runs(
     let mut i = start;
     rules_ema_bar::clear_lead(series.len(), start, out, work);
     loop {
-        if rules_ema_bar::is_decided(d, series[i], average) {
+        if rules_ema_far::is_decided(d, series[i], average) {
             rules_ema_bar::put_position(series, i, average, out, work);
             i += 1;
         } else {
@@ -74,7 +74,7 @@ pub fn write_by_runs(
     if start < series.len() {
         let seed = write_head(series, n, out);
         if out[n - 1] != 0.0 {
-            let d = rules_ema_bar::distance(series, ticks);
+            let d = rules_ema_far::distance(series, ticks);
             return write_from_runs(series, n, start, seed, d, out, work);
         }
     }

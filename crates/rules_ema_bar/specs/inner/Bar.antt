@@ -1,22 +1,12 @@
--- One bar of the exponential rule: when it is decided, and what is written. Assumes nothing.
+-- One bar of the exponential rule: what is written. Assumes nothing.
 use mathlib.Core.Path.{_≡_}
-use mathlib.Core.Bool.{Bool, cond}
 use mathlib.Core.List.{List}
 use Prim.Native.Nat.{ℕ, _*_, _<_, _≤_}
 use lib.ListN.{length, set}
-use lib.Ieee.{Float, binary64, sub, lt}
-use Rattle.rounding.specs.Leaves.{minusOne, magnitudeOf, signOf}
+use lib.Ieee.{Float, binary64, sub}
+use Rattle.rounding.specs.Leaves.{signOf}
 use Rattle.cells.specs.Line.{line, plusZero}
 use Rattle.work_rows.specs.inner.Scratch.{putAt}
-use Rattle.running_sums.specs.inner.Margin.{largestOf, marginOf}
-
--- how far price and average by running sums have to be apart: the margin, and on whole ticks any distance will do
-abbrev pub distanceOf : Bool → List Float → Float
-distanceOf ticks s = cond ticks minusOne (marginOf (largestOf (line s) (length s)))
-
--- they are
-abbrev pub decided : Float → Float → Float → Bool
-decided d price average = lt d (magnitudeOf (sub binary64 price average))
 
 -- bar i is one of s, and has a cell of `out` and eight of `work`
 pub record BarRoom (s : List Float) (i out work : ℕ) : Type 0 where

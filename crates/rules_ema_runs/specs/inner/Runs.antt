@@ -17,7 +17,7 @@ use Rattle.windows.specs.Window.{over, windowSum, mean}
 use Rattle.averages_blend.specs.Blend.{blend, emaAlpha}
 use Rattle.sliding_means.specs.inner.Means.{runMeans}
 use Rattle.rules_ema_bar.specs.SingleEma.{singleEmaFrom}
-use Rattle.rules_ema_bar.specs.inner.Bar.{decided}
+use Rattle.rules_ema_far.specs.inner.Far.{decided}
 
 -- the sum of n bars: at bar `start` summed afresh, then each bar adds its difference
 unfoldable pub slidFrom : ℕ → ℕ → Line → Line

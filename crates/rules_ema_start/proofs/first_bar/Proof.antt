@@ -3,9 +3,9 @@ use lib.ListN.{length}
 use borrow.Author.Needs.{needs}
 use denote.Ref.{now}
 use Rattle.cells.specs.Line.{line}
-use Rattle.rules_ema_bar.proofs.SingleEma.{usable-inside}
-use Rattle.rules_ema_bar.proofs.first_bar.Statement.{statement}
-use Rattle.rules_ema_bar.proofs.first_bar.Tie as tie
+use Rattle.rules_ema_start.proofs.Search.{usable-inside}
+use Rattle.rules_ema_start.proofs.first_bar.Statement.{statement}
+use Rattle.rules_ema_start.proofs.first_bar.Tie as tie
 
 add-result : tie.Need-add-result
 add-result c =

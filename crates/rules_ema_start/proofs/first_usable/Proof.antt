@@ -10,9 +10,9 @@ use Rattle.cells.specs.Line.{line}
 use Rattle.cells.specs.Search.{nonZero}
 use Rattle.cells.proofs.Search.{NoneBefore}
 use borrow.Author.Count.{below-more}
-use Rattle.rules_ema_bar.proofs.SingleEma.{usable-found, usable-none}
-use Rattle.rules_ema_bar.proofs.first_usable.Statement.{statement}
-use Rattle.rules_ema_bar.proofs.first_usable.Tie as tie
+use Rattle.rules_ema_start.proofs.Search.{usable-found, usable-none}
+use Rattle.rules_ema_start.proofs.first_usable.Statement.{statement}
+use Rattle.rules_ema_start.proofs.first_usable.Tie as tie
 
 abbrev Inv-loop : tie.InvT-loop
 Inv-loop means i₀ i = (i ≤ length means) × NoneBefore (λ j. nonZero (line means j)) i

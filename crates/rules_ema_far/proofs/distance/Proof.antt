@@ -1,8 +1,8 @@
 -- `distance` meets its contract: a distance below 0 on whole ticks, and else the margin. Assumes nothing.
 use lib.Ieee.{ofBits, neg}
 use borrow.Author.Needs.{needs}
-use Rattle.rules_ema_bar.proofs.distance.Statement.{statement}
-use Rattle.rules_ema_bar.proofs.distance.Tie as tie
+use Rattle.rules_ema_far.proofs.distance.Statement.{statement}
+use Rattle.rules_ema_far.proofs.distance.Tie as tie
 
 returns : tie.Need-returns
 unfolding ofBits neg

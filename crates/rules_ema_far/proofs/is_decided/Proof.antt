@@ -1,7 +1,7 @@
 -- `is_decided` meets its contract: its test is that of `decided`. Assumes nothing.
 use borrow.Author.Needs.{needs}
-use Rattle.rules_ema_bar.proofs.is_decided.Statement.{statement}
-use Rattle.rules_ema_bar.proofs.is_decided.Tie as tie
+use Rattle.rules_ema_far.proofs.is_decided.Statement.{statement}
+use Rattle.rules_ema_far.proofs.is_decided.Tie as tie
 
 pub is-decided-spec : {M : Type 1} → statement M
 is-decided-spec =

@@ -1,0 +1,2 @@
+-- When running sums decide a bar of the exponential rule.
+pub mod inner

@@ -1,0 +1,2 @@
+-- Where the exponential rule starts.
+pub mod FirstUsable
