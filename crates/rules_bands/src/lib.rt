@@ -81,13 +81,7 @@ fn write_some_turned(means: &[f64], n: usize, k: f64, i: usize, out: &mut [i32])
 {
     let mut middles = [0.0; 8];
     let mut variances = [0.0; 8];
-    let count = rules_bands_reverse::write_reverse_spreads(
-        means,
-        n,
-        i,
-        &mut middles,
-        &mut variances,
-    );
+    let count = rules_bands_bar::write_reverse_spreads(means, n, i, &mut middles, &mut variances);
     let inverse = 1.0 / k;
     let mut position = rules_bands_bar::position_before(out, i);
     let mut j = 0;

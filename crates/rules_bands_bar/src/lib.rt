@@ -1,4 +1,4 @@
-// Both Bollinger rules, one bar: outside a band, and the position after it.
+// Both Bollinger rules, one bar: outside a band, and the position after it; and the bands of the reverse rule.
 ghost use mathlib.Core.Path.{_≡_};
 ghost use Prim.Native.Nat.{_≤_};
 ghost use lib.ListN.{length};
@@ -8,6 +8,7 @@ ghost use Rattle.rules_bands_bar.specs.Boll.{outsideAt};
 ghost use Rattle.rules_bands_bar.specs.BollReverse.{opensAt, turnsAt};
 ghost use Rattle.rules_bands_bar.specs.inner.Stages.{positionBefore};
 ghost use Rattle.rules_held.specs.Held.{moved};
+ghost use Rattle.deviations.specs.inner.Spread.{SpreadRoom, Spread};
 
 // +1 above the band, -1 below it and else 0, each by more than 1e-10.
 fn outside_at(average: f64, middle: f64, k: f64, width: f64) -> i32
@@ -137,4 +138,19 @@ pub fn position_before(out: &[i32], i: usize) -> i32
     ensures { λ r. ⌜ r ≡ positionBefore i (now (out .entry)) ⌝ }
 {
     if i > 0 { out[i - 1] } else { 0 }
+}
+
+// Writes the middles of a few bars from bar i on, and the variances over n, and gives how many they are.
+pub fn write_reverse_spreads(
+    means: &[f64],
+    n: usize,
+    i: usize,
+    middles: &mut [f64],
+    variances: &mut [f64],
+) -> usize
+    requires { ⌜ SpreadRoom n n i (length (now means)) (length (now middles)) (length (now variances)) ⌝ }
+    ensures { λ r. ⌜ Spread n n (now (means .entry)) i r (now (middles .entry)) (now (variances .entry))
+        (now (middles .exit)) (now (variances .exit)) ⌝ }
+{
+    deviations::write_spreads(means, n, n, i, middles, variances)
 }

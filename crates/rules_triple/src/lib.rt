@@ -30,7 +30,7 @@ fn write_trends(series: &[f64], m1: usize, m2: usize, m3: usize, out: &mut [i32]
         (now (out .entry)) (now (out .exit)) ⌝ }
 {
     let bars = series.len();
-    let mut i = rules_triple_lead::fill_before_trends(out, m1, m3, bars);
+    let mut i = rules_triple_bar::fill_before_trends(out, m1, m3, bars);
     while i < bars {
         out[i] = rules_triple_bar::trend(
             work[i],

@@ -1,7 +1,12 @@
-// The rule of three averages: the answer of a call, and one bar's position.
+// The rule of three averages: the answer of a call, the bars before the first position, and one bar's position.
 use calls::Answer;
 use calls::Refusal;
 ghost use mathlib.Core.Path.{_≡_};
+ghost use Prim.Native.Nat.{_+_, _-_, _≤_};
+ghost use lib.ListN.{length};
+ghost use Rattle.limits.specs.Limits.{Window};
+ghost use Rattle.cells.specs.inner.Leads.{Led};
+ghost use Rattle.rules_held.specs.Held.{flat};
 ghost use Rattle.rules_triple_bar.specs.Triple.{trendOf, tripleAnswer};
 
 // 1 if the mean is above ma3 and ma1 above ma2, -1 if both are below, else 0.
@@ -37,4 +42,12 @@ pub fn answer_triple(
     let long = checks::unless_refused(m3 <= bars, Refusal::SeriesTooShort, order);
     let next = checks::check_three_windows(bars, m1, m2, m3, long);
     checks::and_then(due, next)
+}
+
+// Writes flat positions before bar m1 + m3 - 2, from which on all averages are there, and gives the bar after them.
+pub fn fill_before_trends(out: &mut [i32], m1: usize, m3: usize, bars: usize) -> usize
+    requires { ⌜ Window m1 × Window m3 × (bars ≤ length (now out)) ⌝ }
+    ensures { λ r. ⌜ Led (m1 + m3 - 2) bars flat r (now (out .entry)) (now (out .exit)) ⌝ }
+{
+    rules_held::fill_flat(out, m1 + m3 - 2, bars)
 }

@@ -1,7 +1,7 @@
 -- `fill_before_trends` meets its contract: the lead ends where all averages are there. Assumes nothing.
 use borrow.Author.Needs.{needs}
-use Rattle.rules_triple_lead.proofs.fill_before_trends.Statement.{statement}
-use Rattle.rules_triple_lead.proofs.fill_before_trends.Tie as tie
+use Rattle.rules_triple_bar.proofs.fill_before_trends.Statement.{statement}
+use Rattle.rules_triple_bar.proofs.fill_before_trends.Tie as tie
 
 returns : tie.Need-returns
 returns c = c .before .fill-flat .ensures

@@ -1,7 +1,7 @@
 -- `write_reverse_spreads` meets its contract: the divisor is n. Assumes nothing.
 use borrow.Author.Needs.{needs}
-use Rattle.rules_bands_reverse.proofs.write_reverse_spreads.Statement.{statement}
-use Rattle.rules_bands_reverse.proofs.write_reverse_spreads.Tie as tie
+use Rattle.rules_bands_bar.proofs.write_reverse_spreads.Statement.{statement}
+use Rattle.rules_bands_bar.proofs.write_reverse_spreads.Tie as tie
 
 returns : tie.Need-returns
 returns c = c .before .before .before .before .write-spreads .ensures
