@@ -1,4 +1,3 @@
-pub mod Ends
 pub mod Feeding
 pub mod Lines
 pub mod Prices

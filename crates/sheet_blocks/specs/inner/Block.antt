@@ -1,16 +1,12 @@
--- What reading a block to its end and ending the sheet promise, and what holds between two blocks. Assumes nothing.
+-- What reading a block to its end promises, and what holds between two blocks. Assumes nothing.
 use mathlib.Core.Path.{_≡_}
 use mathlib.Core.List.{List, _++_}
-use Prim.Native.Nat.{ℕ, _+_, _-_, _<_, _≤_}
-use lib.ListN.{length, take}
+use Prim.Native.Nat.{ℕ, _-_, _<_}
+use lib.ListN.{length}
 use lib.Ieee.{Float}
 use Rattle.sheet_blocks.specs.declared.Sheet.{Sheet}
 use Rattle.sheet_blocks.specs.declared.Place.{Place}
-use Rattle.sheet_status.specs.declared.Status.{Status}
-use Rattle.sheet_lines.specs.Printed.{headBytes}
-use Rattle.sheet_requests.specs.Counts.{closingBytes}
 use Rattle.sheet_requests.specs.Sheet.{lines, outcome}
-use Rattle.sheet_blocks.specs.Whole.{last}
 use Rattle.sheet_blocks.specs.inner.Place.{stateOf, due, Sound}
 use Rattle.sheet_blocks.specs.inner.Onward.{Well, total}
 
@@ -22,16 +18,6 @@ pub record Fed (sheet : Sheet) (block : List ℕ) (series : List Float) (q : Pla
       ≡ total block q series′ text more
   pub well : Well block q
   pub few : length block - q .at < due (q .sheet .stage)
-
--- the bytes that are printed where the input ends inside a request; src/lib.rt has a constant of the same number
-abbrev pub cutBytes : ℕ
-cutBytes = headBytes + closingBytes
-
--- The first r bytes are all that is still to be printed, after `kept` bytes that are too few for a line.
-pub record Finished (status : Status) (sheet : Sheet) (kept r : ℕ) (text : List ℕ) : Type 0 where
-  pub within : r ≤ length text
-  pub is : (series : List Float) (rest : List ℕ) → length rest ≡ kept
-      → take r text ≡ last status (stateOf (sheet .stage) (sheet .counts) series) rest
 
 -- What holds between two blocks: `kept` bytes are left, too few for the next line.
 pub record Between (sheet : Sheet) (kept : ℕ) : Type 0 where

@@ -2,8 +2,8 @@
 use mathlib.Core.Path.{sym}
 use borrow.Author.Needs.{needs}
 use lib.Seq.{length-take-le}
-use Rattle.sheet_run.proofs.write_text.Statement.{statement}
-use Rattle.sheet_run.proofs.write_text.Tie as tie
+use Rattle.sheet_input.proofs.write_text.Statement.{statement}
+use Rattle.sheet_input.proofs.write_text.Tie as tie
 
 pub write-text-spec : {M : Type 1} → statement M
 write-text-spec =

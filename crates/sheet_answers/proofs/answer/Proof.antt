@@ -4,9 +4,9 @@ use mathlib.Core.Path.{refl, sym}
 use native.Mathlib.Omega.{arith}
 use borrow.Author.Needs.{needs}
 use lib.Seq.{length-take-le}
 use Rattle.sheet_requests.proofs.Answers.{by-single, by-double, by-middle}
-use Rattle.sheet_requests.proofs.answer.Statement.{statement}
-use Rattle.sheet_requests.proofs.answer.Tie as tie
+use Rattle.sheet_answers.proofs.answer.Statement.{statement}
+use Rattle.sheet_answers.proofs.answer.Tie as tie
 
 returns : tie.Need-returns
 returns c =

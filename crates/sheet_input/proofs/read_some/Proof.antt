@@ -3,9 +3,9 @@ use Prim.Native.Nat.{ℕ, zero, suc, _≤_, min}
 use native.Mathlib.Omega.{arith}
 use borrow.Author.Needs.{needs}
 use lib.IntN.{ℤ, pos, negsuc}
-use Rattle.sheet_run.specs.Run.{inputFrom, inputOf, came}
-use Rattle.sheet_run.proofs.read_some.Statement.{statement}
-use Rattle.sheet_run.proofs.read_some.Tie as tie
+use Rattle.sheet_input.specs.Input.{inputFrom, inputOf, came}
+use Rattle.sheet_input.proofs.read_some.Statement.{statement}
+use Rattle.sheet_input.proofs.read_some.Tie as tie
 
 from-few : (n : ℕ) → came (inputFrom n) ≤ n
 from-few zero = omega arith

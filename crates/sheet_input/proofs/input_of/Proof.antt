@@ -11,10 +11,10 @@ use lib.ListN.{length}
 use lib.Signed.{ltZ}
 use mir.Facts.{toZ-ofZ}
 use Rattle.io.specs.Counts.{clamped}
-use Rattle.sheet_run.specs.declared.Input.the-variants.{Came, Failed}
-use Rattle.sheet_run.specs.Run.{inputFrom, inputOf}
-use Rattle.sheet_run.proofs.input_of.Statement.{statement}
-use Rattle.sheet_run.proofs.input_of.Tie as tie
+use Rattle.sheet_input.specs.declared.Input.the-variants.{Came, Failed}
+use Rattle.sheet_input.specs.Input.{inputFrom, inputOf}
+use Rattle.sheet_input.proofs.input_of.Statement.{statement}
+use Rattle.sheet_input.proofs.input_of.Tie as tie
 
 below : (z : ℤ) (room : ℕ) → ltZ z (pos 0) ≡ true → Failed ≡ inputOf z room
 unfolding inputOf

@@ -4,8 +4,8 @@ use borrow.Author.Needs.{needs}
 use denote.Ref.{now}
 use lib.ListN.{take, length-drop, length-take}
 use lib.Seq.{take-at, length-take-le}
-use Rattle.sheet_run.proofs.read_on.Statement.{statement}
-use Rattle.sheet_run.proofs.read_on.Tie as tie
+use Rattle.sheet_input.proofs.read_on.Statement.{statement}
+use Rattle.sheet_input.proofs.read_on.Tie as tie
 
 returns : tie.Need-returns
 returns c =

@@ -2,8 +2,8 @@
 use native.Mathlib.Omega.{arith}
 use borrow.Author.Needs.{needs}
 use Rattle.sheet_columns.proofs.Printing.{add-more}
-use Rattle.sheet_blocks.proofs.print_cut.Statement.{statement}
-use Rattle.sheet_blocks.proofs.print_cut.Tie as tie
+use Rattle.sheet_closing.proofs.print_cut.Statement.{statement}
+use Rattle.sheet_closing.proofs.print_cut.Tie as tie
 
 returns : tie.Need-returns
 returns c =

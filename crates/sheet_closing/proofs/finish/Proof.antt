@@ -1,8 +1,8 @@
 -- `finish` meets its contract: after a failed read or write nothing is printed. Assumes nothing.
 use borrow.Author.Needs.{needs}
-use Rattle.sheet_blocks.proofs.Ends.{nothing-last}
-use Rattle.sheet_blocks.proofs.finish.Statement.{statement}
-use Rattle.sheet_blocks.proofs.finish.Tie as tie
+use Rattle.sheet_closing.proofs.Ends.{nothing-last}
+use Rattle.sheet_closing.proofs.finish.Statement.{statement}
+use Rattle.sheet_closing.proofs.finish.Tie as tie
 
 pub finish-spec : {M : Type 1} → statement M
 finish-spec =

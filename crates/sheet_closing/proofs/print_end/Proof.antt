@@ -2,9 +2,9 @@
 use mathlib.Core.Path.{_∙_}
 use native.Mathlib.Omega.{arith}
 use borrow.Author.Needs.{needs}
-use Rattle.sheet_blocks.proofs.Ends.{ends-waiting, ends-stopped, cut-waiting, cut-collecting}
-use Rattle.sheet_blocks.proofs.print_end.Statement.{statement}
-use Rattle.sheet_blocks.proofs.print_end.Tie as tie
+use Rattle.sheet_closing.proofs.Ends.{ends-waiting, ends-stopped, cut-waiting, cut-collecting}
+use Rattle.sheet_closing.proofs.print_end.Statement.{statement}
+use Rattle.sheet_closing.proofs.print_end.Tie as tie
 
 returns : tie.Need-returns
 returns c =
