@@ -1,6 +1,4 @@
-pub mod Feeding
 pub mod Lines
 pub mod Prices
 pub mod Steps
 pub mod Strict
-pub mod Whole

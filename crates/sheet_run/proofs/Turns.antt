@@ -11,8 +11,8 @@ use Rattle.sheet_status.specs.declared.Status.the-variants.{Reading, Done, Read
 use Rattle.sheet_requests.specs.Sheet.{State}
 use Rattle.sheet_blocks.specs.Whole.{Reached, last}
 use Rattle.sheet_blocks.specs.inner.Place.{stateOf}
-use Rattle.sheet_blocks.specs.inner.Block.{Fed}
-use Rattle.sheet_blocks.proofs.Whole.{reached-none, reached-block, reached-end}
+use Rattle.sheet_run.specs.inner.Block.{Fed}
+use Rattle.sheet_run.proofs.Whole.{reached-none, reached-block, reached-end}
 use Rattle.sheet_run.specs.declared.Carried.{Carried}
 use Rattle.sheet_run.specs.Run.{Ran}
 use Rattle.sheet_run.specs.inner.Turn.{start, Carrying, Turned}

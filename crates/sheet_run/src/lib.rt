@@ -1,6 +1,6 @@
 // A run of the sheet: requests on standard input, answers on standard output. All
-// that it reads and prints is the work of `sheet_blocks` and the crates below it;
-// here are the buffers, and the loop that reads blocks, feeds them and writes.
+// that it reads and prints is the work of the crates below; here are the buffers,
+// the loop that feeds a block, and the loop that reads blocks, feeds them and writes.
 use sheet_blocks::Place;
 use sheet_blocks::Sheet;
 use sheet_blocks::Stage;
@@ -13,8 +13,12 @@ use sheet_status::Status;
 ghost use mathlib.Core.Path.{_≡_};
 ghost use Prim.Native.Nat.{_≤_, _+_, _-_};
 ghost use lib.ListN.{length, take};
+ghost use Rattle.sheet_blocks.specs.inner.Place.{Sound};
+ghost use Rattle.sheet_answers.specs.inner.Lent.{Lent};
+ghost use Rattle.sheet_blocks.specs.inner.Taken.{textRoom};
 ghost use Rattle.sheet_closing.specs.inner.Finished.{cutBytes, Finished};
 ghost use Rattle.sheet_run.specs.Run.{statusOf, Ran};
+ghost use Rattle.sheet_run.specs.inner.Block.{Fed};
 ghost use Rattle.sheet_run.specs.inner.Buffers.{Buffers};
 ghost use Rattle.sheet_run.specs.inner.Turn.{start, Carrying, Turned};
 
@@ -56,6 +60,32 @@ fn status(carried: Carried) -> Status
     }
 }
 
+// Reads a block as far as its bytes make whole lines, and prints the answers from the start of the text on.
+fn feed(
+    sheet: Sheet,
+    block: &[u8],
+    series: &mut [f64],
+    out: &mut [f64],
+    work: &mut [f64],
+    text: &mut [u8],
+) -> Place
+    requires { ⌜ Sound (sheet .stage) × Lent (now series) (now out) (now work)
+        × (length (now block) + textRoom ≤ length (now text)) ⌝ }
+    ensures { λ r. ⌜ Fed sheet (now (block .entry)) (now (series .entry)) r (now (series .exit)) (now (text .exit))
+        × (now (work .exit) ≡ now (work .entry)) ⌝ }
+{
+    let mut place = Place {
+        sheet: sheet,
+        at: 0,
+        filled: 0,
+    };
+    while sheet_blocks::wanted(place) <= block.len() - place.at {
+        let read = sheet_blocks::take_lines(place, block, series, text);
+        place = sheet_answers::gather(read, series, out, work, text);
+    }
+    place
+}
+
 // Moves the bytes that are left to the front of the block, reads
 // once behind them, feeds them all, and writes the answers.
 fn turn(
@@ -75,7 +105,7 @@ fn turn(
     let read = sheet_input::refill(block, place.at, carried.end);
     let end = read.end;
     let input = read.input;
-    let next = sheet_blocks::feed(place.sheet, &block[..end], series, out, work, text);
+    let next = feed(place.sheet, &block[..end], series, out, work, text);
     let output = sheet_input::write_text(text, next.filled);
     Carried {
         place: next,

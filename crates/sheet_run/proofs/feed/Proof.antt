@@ -5,9 +5,9 @@ use native.Mathlib.Nat.{zero-add}
 use native.Mathlib.Omega.{arith}
 use borrow.Author.Needs.{needs}
 use lib.ListN.{length}
-use Rattle.sheet_blocks.proofs.Feeding.{Feeding, owed-few}
-use Rattle.sheet_blocks.proofs.feed.Statement.{statement}
-use Rattle.sheet_blocks.proofs.feed.Tie as tie
+use Rattle.sheet_run.proofs.Feeding.{Feeding, onward, owed-few}
+use Rattle.sheet_run.proofs.feed.Statement.{statement}
+use Rattle.sheet_run.proofs.feed.Tie as tie
 
 abbrev Inv-loop : tie.InvT-loop
 Inv-loop block series₀ out₀ work₀ text₀ place₀ series out work text place =
@@ -31,37 +31,56 @@ loop-holds c =
       long = refl;
     }
 
-advance-requires : tie.Need-advance-requires Inv-loop μ-loop
-advance-requires c κs =
-    let test = c .before .before .before .before in
+take-lines-requires : tie.Need-take-lines-requires Inv-loop μ-loop
+take-lines-requires c κs =
+    let test = c .before .before in
     let at = test .before .before .before in
     let start = at .before .before .before .before .before .before in
     let inv = at .loop .inv in (
       rw (← test .before .before .wanted .ensures) (test .if1 .taken),
       inv .well,
-      inv .lent,
+      inv .lent .series-long,
       rw (inv .long) (start .pre .2),
+    )
+
+gather-requires : tie.Need-gather-requires Inv-loop μ-loop
+gather-requires c κs =
+    let take = c .before .before .before .before .before .before .before .before in
+    let at = take .before .before .before .before .before .before in
+    let start = at .before .before .before .before .before .before in
+    let taken = take .take-lines .ensures in
+    let kept = take .take-lines .kept in
+    let inv = at .loop .inv in
+    let lent = inv .lent in
+    let long = inv .long in (
+      taken .fits,
+      record { series-long = search needs; out-long = lent .out-long; work-clear = lent .work-clear },
+      omega (arith, taken .room, taken .within, start .pre .2, long, kept .1 .1 .1 .0),
     )
 
 loop-less : tie.Need-loop-less Inv-loop μ-loop
 loop-less c =
-    let advance = c .before .before .before .before .before .before .before .before in
-    let at = advance .before .before .before .before .before .before .before .before in
-    let onward = advance .advance .ensures .0 in
-    omega (arith, onward .forth, onward .well .within, at .loop .inv .well .within)
+    let gather = c .before .before .before .before .before .before in
+    let take = gather .before .before .before .before .before .before .before .before .before in
+    let at = take .before .before .before .before .before .before in
+    let on = onward (take .take-lines .ensures) (gather .gather .ensures .0) in
+    omega (arith, on .forth, on .well .within, at .loop .inv .well .within)
 
 loop-again : tie.Need-loop-again Inv-loop μ-loop
 loop-again c =
-    let advance = c .before .before .before .before .before .before .before .before in
-    let at = advance .before .before .before .before .before .before .before .before in
-    let kept = advance .advance .kept in
-    let (onward, clear) = advance .advance .ensures in
+    let gather = c .before .before .before .before .before .before in
+    let take = gather .before .before .before .before .before .before .before .before .before in
+    let at = take .before .before .before .before .before .before in
+    let on = onward (take .take-lines .ensures) (gather .gather .ensures .0) in
+    let kept = gather .gather .kept in
+    let kept-read = take .take-lines .kept in
+    let clear = gather .gather .ensures .1 in
     let inv = at .loop .inv in
     let lent = inv .lent in
     let long = inv .long in
     record {
-      same = λ more. inv .same more ∙ onward .same more;
-      well = onward .well;
+      same = λ more. inv .same more ∙ on .same more;
+      well = on .well;
       lent = record { series-long = search needs; out-long = search needs; work-clear = clear ∙ lent .work-clear };
       clear = clear ∙ inv .clear;
       long = search needs;
@@ -87,7 +106,8 @@ feed-spec =
     loop-holds
     (λ c κs. search needs)  -- wanted-requires
     (λ c. search needs)  -- sub-if1
-    advance-requires
+    take-lines-requires
+    gather-requires
     loop-less
     loop-again
     (λ c. search needs)  -- same-length

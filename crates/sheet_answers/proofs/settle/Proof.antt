@@ -10,8 +10,8 @@ use Rattle.calls.specs.Answer.{countOf}
 use Rattle.sheet_requests.specs.Answer.{ruleLine}
 use Rattle.sheet_lines.proofs.Positions.{text-same}
 use Rattle.sheet_requests.proofs.Answers.{clear-long, stays-clear, rule-most}
-use Rattle.sheet_blocks.proofs.settle.Statement.{statement}
-use Rattle.sheet_blocks.proofs.settle.Tie as tie
+use Rattle.sheet_answers.proofs.settle.Statement.{statement}
+use Rattle.sheet_answers.proofs.settle.Tie as tie
 
 -- there are no more positions than prices
 few : (c : tie.After-answer)

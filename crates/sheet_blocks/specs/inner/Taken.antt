@@ -1,4 +1,4 @@
--- What a step through a block promises: nothing that is to be printed is lost. Assumes nothing.
+-- What reading lines of a block promises: nothing that is to be printed is lost. Assumes nothing.
 use mathlib.Core.Path.{_≡_}
 use mathlib.Core.List.{List, _++_}
 use Prim.Native.Nat.{ℕ, _+_, _*_, _<_, _≤_}
@@ -7,15 +7,8 @@ use lib.Ieee.{Float}
 use Rattle.sheet_blocks.specs.declared.Place.{Place}
 use Rattle.sheet_lines.specs.Header.{mostBars}
 use Rattle.sheet_lines.specs.Printed.{headBytes, positionBytes}
-use Rattle.sheet_requests.specs.Answer.{clearWork}
 use Rattle.sheet_requests.specs.Sheet.{lines, outcome}
-use Rattle.sheet_blocks.specs.inner.Place.{stateOf, owed, Sound}
-
--- what the program lends for one request: cells for its prices and positions, and a clear work slice
-pub record Lent (series out work : List Float) : Type 0 where
-  pub series-long : length series ≡ mostBars
-  pub out-long : length out ≡ mostBars
-  pub work-clear : work ≡ clearWork
+use Rattle.sheet_blocks.specs.inner.Place.{stateOf, owed, pending, Sound, Fits, finally}
 
 -- The room for text beyond a byte for each byte read: the longest answer. src/lib.rt has a constant of the same number.
 abbrev pub textRoom : ℕ
@@ -33,9 +26,14 @@ total block p series text more =
     take (p .filled) text ++ outcome (stateOf (p .sheet .stage) (p .sheet .counts) series)
     (lines (drop (p .at) block ++ more))
 
--- From p to q nothing is lost: all that is printed in the end is the same, whatever follows the block.
-pub record Onward (block : List ℕ) (p : Place) (series : List Float) (text : List ℕ) (q : Place) (series′ : List Float)
+-- Lines were read from p to q, and a request that now has all its prices is still to be
+-- answered: with its answer all that is printed in the end is the same, whatever follows the block.
+pub record Taken (block : List ℕ) (p : Place) (series : List Float) (text : List ℕ) (q : Place) (series′ : List Float)
     (text′ : List ℕ) : Type 0 where
-  pub same : (more : List ℕ) → total block p series text more ≡ total block q series′ text′ more
-  pub well : Well block q
+  pub same : (more : List ℕ) → total block p series text more
+      ≡ take (q .filled) text′ ++ finally (pending (q .sheet .stage) (q .sheet .counts) series′)
+      (lines (drop (q .at) block ++ more))
+  pub fits : Fits (q .sheet .stage)
+  pub within : q .at ≤ length block
+  pub room : q .filled + owed (q .sheet .stage) ≤ q .at + textRoom
   pub forth : p .at < q .at
