@@ -9,7 +9,7 @@ ghost use mathlib.Core.Path.{_≡_};
 ghost use Prim.Native.Nat.{_≤_, _+_, _*_};
 ghost use lib.ListN.{length, take};
 ghost use Rattle.sheet_lines.specs.Header.{mostBars};
-ghost use Rattle.sheet_lines.specs.Printed.{headBytes, positionBytes};
+ghost use Rattle.sheet_text.specs.Printed.{headBytes, positionBytes};
 ghost use Rattle.sheet_requests.specs.Answer.{workCells, RequestCall};
 ghost use Rattle.sheet_requests.specs.Sheet.{settled};
 ghost use Rattle.sheet_blocks.specs.inner.Place.{owed, pending, Fits, Stepped, Gathered};
@@ -52,7 +52,7 @@ fn settle(
         × (now (work .exit) ≡ now (work .entry)) ⌝ }
 {
     let given = answer(request, series, out, work);
-    let end = sheet_lines::print_answer(text, filled, request, given, out);
+    let end = sheet_text::print_answer(text, filled, request, given, out);
     Place {
         sheet: Sheet {
             stage: Stage::Waiting,

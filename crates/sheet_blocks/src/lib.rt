@@ -9,14 +9,14 @@ ghost use Prim.Native.Nat.{_<_, _≤_, _+_, _-_};
 ghost use lib.ListN.{length};
 ghost use lib.Ieee.{Float};
 ghost use Rattle.sheet_lines.specs.Header.{mostBars};
-ghost use Rattle.sheet_lines.specs.Printed.{headBytes};
+ghost use Rattle.sheet_text.specs.Printed.{headBytes};
 ghost use Rattle.sheet_requests.specs.Sheet.{broken};
 ghost use Rattle.sheet_blocks.specs.inner.Place.{beginning, due, Stepped, Ran};
 ghost use Rattle.sheet_blocks.specs.inner.Taken.{textRoom, Well, Taken};
 
 // The room for text beyond a byte for each byte read: the longest answer.
-pub const TEXT_ROOM: usize = sheet_lines::HEAD_BYTES
-    + sheet_lines::POSITION_BYTES * sheet_lines::MOST_BARS;
+pub const TEXT_ROOM: usize = sheet_text::HEAD_BYTES
+    + sheet_text::POSITION_BYTES * sheet_lines::MOST_BARS;
 
 // Where a request stands: before its first line; with so many of its prices; or where a line broke its columns.
 pub enum Stage {
@@ -79,14 +79,14 @@ fn stop(counts: Counts, at: usize, text: &mut [u8], filled: usize) -> Place
         → Stepped (broken counts) series at filled r (now (text .entry)) (now (text .exit)))
         × (r .sheet .stage ≡ Stage.Stopped) × (r .filled ≡ filled + headBytes) ⌝ }
 {
-    sheet_lines::print_head(text, filled, 0, 0, 10, 0);
+    sheet_text::print_head(text, filled, 0, 0, 10, 0);
     Place {
         sheet: Sheet {
             stage: Stage::Stopped,
             counts: counts.broken(),
         },
         at: at,
-        filled: filled + sheet_lines::HEAD_BYTES,
+        filled: filled + sheet_text::HEAD_BYTES,
     }
 }
 

@@ -14,15 +14,15 @@ ghost use Rattle.sheet_blocks.specs.inner.Place.{due};
 ghost use Rattle.sheet_closing.specs.inner.Finished.{cutBytes, Finished};
 
 // The bytes that are printed where the input ends inside a request.
-const CUT_BYTES: usize = sheet_lines::HEAD_BYTES + CLOSING_BYTES;
+const CUT_BYTES: usize = sheet_text::HEAD_BYTES + CLOSING_BYTES;
 
 // Prints that a request broke off, and what is printed last.
 fn print_cut(text: &mut [u8], counts: Counts)
     requires { ⌜ cutBytes ≤ length (now text) ⌝ }
     ensures { λ _. ⌜ take cutBytes (now (text .exit)) ≡ broken counts .prints ++ closing (afterBroken counts) ⌝ }
 {
-    sheet_lines::print_head(text, 0, 0, 0, 10, 0);
-    counts.broken().print(text, sheet_lines::HEAD_BYTES);
+    sheet_text::print_head(text, 0, 0, 0, 10, 0);
+    counts.broken().print(text, sheet_text::HEAD_BYTES);
 }
 
 // Prints what the end of the input gives, with `kept` bytes that are too few for a line, and gives how many bytes.

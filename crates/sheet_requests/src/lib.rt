@@ -11,7 +11,7 @@ ghost use Rattle.sheet_requests.specs.Counts.{noneRefused, oneMore, afte
 pub const WORK_CELLS: usize = 8 * sheet_lines::MOST_BARS;
 
 // The bytes of what is printed last.
-pub const CLOSING_BYTES: usize = sheet_lines::LAST_BYTES;
+pub const CLOSING_BYTES: usize = sheet_text::LAST_BYTES;
 
 // The refused requests so far.
 pub struct Counts {
@@ -61,6 +61,6 @@ impl Counts {
         requires { ⌜ at + closingBytes ≤ length (now text) ⌝ }
         ensures { λ _. ⌜ Adds at (closing self) (at + closingBytes) (now (text .entry)) (now (text .exit)) ⌝ }
     {
-        sheet_lines::print_last(text, at, self.refused);
+        sheet_text::print_last(text, at, self.refused);
     }
 }

@@ -12,7 +12,7 @@ use sheet_requests::WORK_CELLS;
 use sheet_status::Status;
 ghost use mathlib.Core.Path.{_≡_};
 ghost use Prim.Native.Nat.{_≤_, _+_, _-_};
-ghost use lib.ListN.{length, take};
+ghost use lib.ListN.{length};
 ghost use Rattle.sheet_blocks.specs.inner.Place.{Sound};
 ghost use Rattle.sheet_answers.specs.inner.Lent.{Lent};
 ghost use Rattle.sheet_blocks.specs.inner.Taken.{textRoom};

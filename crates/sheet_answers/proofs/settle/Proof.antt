@@ -8,7 +8,7 @@ use lib.ListN.{take}
 use lib.Seq.{length-take-le}
 use Rattle.calls.specs.Answer.{countOf}
 use Rattle.sheet_requests.specs.Answer.{ruleLine}
-use Rattle.sheet_lines.proofs.Positions.{text-same}
+use Rattle.sheet_text.proofs.Positions.{text-same}
 use Rattle.sheet_requests.proofs.Answers.{clear-long, stays-clear, rule-most}
 use Rattle.sheet_answers.proofs.settle.Statement.{statement}
 use Rattle.sheet_answers.proofs.settle.Tie as tie

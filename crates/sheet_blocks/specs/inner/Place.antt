@@ -9,7 +9,7 @@ use lib.Ieee.{Float}
 use Rattle.sheet_columns.specs.inner.Adds.{Adds}
 use Rattle.sheet_lines.specs.declared.Request.{Request}
 use Rattle.sheet_lines.specs.Header.{mostBars}
-use Rattle.sheet_lines.specs.Printed.{headBytes, positionBytes}
+use Rattle.sheet_text.specs.Printed.{headBytes, positionBytes}
 use Rattle.sheet_requests.specs.declared.Counts.{Counts}
 use Rattle.sheet_requests.specs.Counts.{noneRefused}
 use Rattle.sheet_blocks.specs.declared.Stage.{Stage}

@@ -6,7 +6,7 @@ use lib.ListN.{length, take, drop}
 use lib.Ieee.{Float}
 use Rattle.sheet_blocks.specs.declared.Place.{Place}
 use Rattle.sheet_lines.specs.Header.{mostBars}
-use Rattle.sheet_lines.specs.Printed.{headBytes, positionBytes}
+use Rattle.sheet_text.specs.Printed.{headBytes, positionBytes}
 use Rattle.sheet_requests.specs.Sheet.{lines, outcome}
 use Rattle.sheet_blocks.specs.inner.Place.{stateOf, owed, pending, Sound, Fits, finally}
 

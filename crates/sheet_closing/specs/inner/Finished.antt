@@ -6,7 +6,7 @@ use lib.ListN.{length, take}
 use lib.Ieee.{Float}
 use Rattle.sheet_blocks.specs.declared.Sheet.{Sheet}
 use Rattle.sheet_status.specs.declared.Status.{Status}
-use Rattle.sheet_lines.specs.Printed.{headBytes}
+use Rattle.sheet_text.specs.Printed.{headBytes}
 use Rattle.sheet_requests.specs.Counts.{closingBytes}
 use Rattle.sheet_blocks.specs.Whole.{last}
 use Rattle.sheet_blocks.specs.inner.Place.{stateOf}

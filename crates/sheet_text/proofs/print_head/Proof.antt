@@ -5,9 +5,9 @@ use native.Mathlib.Omega.{arith}
 use borrow.Author.Needs.{needs}
 use lib.ListN.{length-set}
 use Rattle.sheet_columns.proofs.Printing.{add-byte, add-more}
-use Rattle.sheet_lines.specs.Printed.{headLine}
-use Rattle.sheet_lines.proofs.print_head.Statement.{statement}
-use Rattle.sheet_lines.proofs.print_head.Tie as tie
+use Rattle.sheet_text.specs.Printed.{headLine}
+use Rattle.sheet_text.proofs.print_head.Statement.{statement}
+use Rattle.sheet_text.proofs.print_head.Tie as tie
 
 same-length : tie.Need-same-length
 same-length c =

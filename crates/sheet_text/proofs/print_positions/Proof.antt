@@ -4,9 +4,9 @@ use Prim.Native.Nat.{_-_, _≤_}
 use native.Mathlib.Omega.{arith}
 use borrow.Author.Needs.{needs}
 use Rattle.cells.specs.Line.{line}
-use Rattle.sheet_lines.proofs.Positions.{Printed, none-printed, one-printed}
-use Rattle.sheet_lines.proofs.print_positions.Statement.{statement}
-use Rattle.sheet_lines.proofs.print_positions.Tie as tie
+use Rattle.sheet_text.proofs.Positions.{Printed, none-printed, one-printed}
+use Rattle.sheet_text.proofs.print_positions.Statement.{statement}
+use Rattle.sheet_text.proofs.print_positions.Tie as tie
 
 abbrev Inv-loop : tie.InvT-loop
 Inv-loop text₀ at cells count i₀ text i = (i ≤ count) × Printed at i (line cells) text₀ text

@@ -3,9 +3,9 @@ use Prim.Native.Nat.{_+_}
 use native.Mathlib.Omega.{arith}
 use borrow.Author.Needs.{needs}
 use Rattle.sheet_columns.proofs.Printing.{add-byte}
-use Rattle.sheet_lines.specs.Printed.{lastLine}
-use Rattle.sheet_lines.proofs.print_last.Statement.{statement}
-use Rattle.sheet_lines.proofs.print_last.Tie as tie
+use Rattle.sheet_text.specs.Printed.{lastLine}
+use Rattle.sheet_text.proofs.print_last.Statement.{statement}
+use Rattle.sheet_text.proofs.print_last.Tie as tie
 
 returns : tie.Need-returns
 unfolding lastLine

@@ -1,8 +1,8 @@
 -- `print_position` meets its contract: its tests are those of `positionLine`. Assumes nothing.
 use borrow.Author.Needs.{needs}
 use lib.Ieee.{ofBits}
-use Rattle.sheet_lines.proofs.print_position.Statement.{statement}
-use Rattle.sheet_lines.proofs.print_position.Tie as tie
+use Rattle.sheet_text.proofs.print_position.Statement.{statement}
+use Rattle.sheet_text.proofs.print_position.Tie as tie
 
 returns : tie.Need-returns
 unfolding ofBits

@@ -4,8 +4,8 @@ use native.Mathlib.Omega.{arith}
 use borrow.Author.Needs.{needs}
 use lib.ListN.{length-set}
 use Rattle.sheet_columns.proofs.Printing.{add-none, add-byte}
-use Rattle.sheet_lines.proofs.print_cell.Statement.{statement}
-use Rattle.sheet_lines.proofs.print_cell.Tie as tie
+use Rattle.sheet_text.proofs.print_cell.Statement.{statement}
+use Rattle.sheet_text.proofs.print_cell.Tie as tie
 
 returns : tie.Need-returns
 returns c =

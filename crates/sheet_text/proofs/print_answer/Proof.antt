@@ -4,9 +4,9 @@ use mathlib.Core.Path.{refl, ap}
 use Prim.Native.Nat.{ℕ, _+_, _*_}
 use borrow.Author.Needs.{needs}
 use Rattle.sheet_columns.proofs.Printing.{add-more}
-use Rattle.sheet_lines.specs.Printed.{headBytes, positionBytes, answerText}
-use Rattle.sheet_lines.proofs.print_answer.Statement.{statement}
-use Rattle.sheet_lines.proofs.print_answer.Tie as tie
+use Rattle.sheet_text.specs.Printed.{headBytes, positionBytes, answerText}
+use Rattle.sheet_text.proofs.print_answer.Statement.{statement}
+use Rattle.sheet_text.proofs.print_answer.Tie as tie
 
 returns : tie.Need-returns
 unfolding answerText

@@ -14,8 +14,8 @@ use Rattle.cells.specs.Written.{written}
 use Rattle.cells.proofs.Written.{getD-written}
 use Rattle.sheet_columns.specs.inner.Adds.{Adds}
 use Rattle.sheet_columns.proofs.Printing.{add-none, add-more}
 use Rattle.sheet_lines.specs.declared.Request.{Request}
-use Rattle.sheet_lines.specs.Printed.{positionLine, positionLines, answerText}
+use Rattle.sheet_text.specs.Printed.{positionLine, positionLines, answerText}
 
 -- the text of the first i positions of f
 pub record Printed (at i : ℕ) (f : Line) (old now : List ℕ) : Type 0 where
