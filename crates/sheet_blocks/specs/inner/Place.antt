@@ -53,7 +53,7 @@ pending Waiting counts series = record { prints = []; state = waiting counts }
 pending (Collecting r got) counts series = gathered counts r (take got series)
 pending Stopped counts series = record { prints = []; state = stopped counts }
 
--- of a request that may still be to be answered no more prices were read than it has, and all fit the series
+-- of a request that may have all its prices no more were read than it has bars, and all fit the series
 abbrev pub Fits : Stage → Type 0
 Fits Waiting = Unit {0}
 Fits (Collecting r got) = (got ≤ r .bars) × (r .bars ≤ mostBars)
