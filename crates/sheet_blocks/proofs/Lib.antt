@@ -1,7 +1,4 @@
-pub mod Ends
-pub mod Feeding
 pub mod Lines
 pub mod Prices
 pub mod Steps
 pub mod Strict
-pub mod Whole

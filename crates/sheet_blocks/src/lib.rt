@@ -1,30 +1,22 @@
-// The sheet's state and its steps: where a request stands in a block of bytes, a line or a run of
-// prices read, a request that has all its prices answered, and requests carried from block to block.
+// The sheet's state and its lines: where a request stands in a block of bytes, and a line or a run of prices read.
 use sheet_columns::Price;
 use sheet_lines::Header;
 use sheet_lines::Request;
-use sheet_requests::CLOSING_BYTES;
 use sheet_requests::Counts;
-use sheet_status::Status;
 ghost use mathlib.Core.Path.{_≡_};
-ghost use mathlib.Core.List.{_++_, List};
-ghost use Prim.Native.Nat.{_<_, _≤_, _+_, _-_, _*_};
-ghost use lib.ListN.{length, take};
+ghost use mathlib.Core.List.{List};
+ghost use Prim.Native.Nat.{_<_, _≤_, _+_, _-_};
+ghost use lib.ListN.{length};
 ghost use lib.Ieee.{Float};
 ghost use Rattle.sheet_lines.specs.Header.{mostBars};
-ghost use Rattle.sheet_lines.specs.Printed.{headBytes, positionBytes};
-ghost use Rattle.sheet_requests.specs.Counts.{afterBroken, closing};
-ghost use Rattle.sheet_requests.specs.Sheet.{broken, settled, gathered};
-ghost use Rattle.sheet_blocks.specs.inner.Place.{beginning, Sound, due, Stepped, Gathered, Ran};
-ghost use Rattle.sheet_blocks.specs.inner.Onward.{Lent, textRoom, Well, Onward};
-ghost use Rattle.sheet_blocks.specs.inner.Block.{Fed, cutBytes, Finished};
+ghost use Rattle.sheet_text.specs.Printed.{headBytes};
+ghost use Rattle.sheet_requests.specs.Sheet.{broken};
+ghost use Rattle.sheet_blocks.specs.inner.Place.{beginning, due, Stepped, Ran};
+ghost use Rattle.sheet_blocks.specs.inner.Taken.{textRoom, Well, Taken};
 
 // The room for text beyond a byte for each byte read: the longest answer.
-pub const TEXT_ROOM: usize = sheet_lines::HEAD_BYTES
-    + sheet_lines::POSITION_BYTES * sheet_lines::MOST_BARS;
-
-// The bytes that are printed where the input ends inside a request.
-const CUT_BYTES: usize = sheet_lines::HEAD_BYTES + CLOSING_BYTES;
+pub const TEXT_ROOM: usize = sheet_text::HEAD_BYTES
+    + sheet_text::POSITION_BYTES * sheet_lines::MOST_BARS;
 
 // Where a request stands: before its first line; with so many of its prices; or where a line broke its columns.
 pub enum Stage {
@@ -54,7 +46,7 @@ pub struct Run {
 }
 
 // Reads prices from `at` on until the request has all or too few bytes are left.
-pub fn read_prices(block: &[u8], at: usize, request: Request, got: usize, series: &mut [f64]) -> Run
+fn read_prices(block: &[u8], at: usize, request: Request, got: usize, series: &mut [f64]) -> Run
     requires { ⌜ (at + 13 ≤ length (now block)) × (got < request .bars) × (request .bars ≤ length (now series)) ⌝ }
     ensures { λ r. ⌜ Ran (now (block .entry)) at request got (now (series .entry)) r (now (series .exit)) ⌝ }
 {
@@ -81,101 +73,29 @@ pub fn read_prices(block: &[u8], at: usize, request: Request, got: usize, series
 }
 
 // A broken line is answered, and nothing more is read.
-pub fn stop(counts: Counts, at: usize, text: &mut [u8], filled: usize) -> Place
+fn stop(counts: Counts, at: usize, text: &mut [u8], filled: usize) -> Place
     requires { ⌜ filled + headBytes ≤ length (now text) ⌝ }
     ensures { λ r. ⌜ ((series : List Float)
         → Stepped (broken counts) series at filled r (now (text .entry)) (now (text .exit)))
         × (r .sheet .stage ≡ Stage.Stopped) × (r .filled ≡ filled + headBytes) ⌝ }
 {
-    sheet_lines::print_head(text, filled, 0, 0, 10, 0);
+    sheet_text::print_head(text, filled, 0, 0, 10, 0);
     Place {
         sheet: Sheet {
             stage: Stage::Stopped,
             counts: counts.broken(),
         },
         at: at,
-        filled: filled + sheet_lines::HEAD_BYTES,
-    }
-}
-
-// Answers a request whose prices are all there, and prints the answer.
-fn settle(
-    request: Request,
-    counts: Counts,
-    at: usize,
-    series: &[f64],
-    out: &mut [f64],
-    work: &mut [f64],
-    text: &mut [u8],
-    filled: usize,
-) -> Place
-    requires { ⌜ (request .bars ≤ mostBars) × Lent (now series) (now out) (now work)
-        × (filled + headBytes + positionBytes * request .bars ≤ length (now text)) ⌝ }
-    ensures { λ r. ⌜ Stepped (settled counts request (take (request .bars) (now (series .entry))))
-        (now (series .entry)) at filled r (now (text .entry)) (now (text .exit))
-        × (r .sheet .stage ≡ Stage.Waiting) × (r .filled ≤ filled + headBytes + positionBytes * request .bars)
-        × (now (work .exit) ≡ now (work .entry)) ⌝ }
-{
-    let given = sheet_requests::answer(request, series, out, work);
-    let end = sheet_lines::print_answer(text, filled, request, given, out);
-    Place {
-        sheet: Sheet {
-            stage: Stage::Waiting,
-            counts: counts.after(request, given),
-        },
-        at: at,
-        filled: end,
-    }
-}
-
-// A request with so many of its prices: it waits for the others, or is answered where they are all there.
-fn gather(
-    request: Request,
-    got: usize,
-    counts: Counts,
-    at: usize,
-    series: &[f64],
-    out: &mut [f64],
-    work: &mut [f64],
-    text: &mut [u8],
-    filled: usize,
-) -> Place
-    requires { ⌜ (got ≤ request .bars) × (request .bars ≤ mostBars) × Lent (now series) (now out) (now work)
-        × (filled + headBytes + positionBytes * got ≤ length (now text)) ⌝ }
-    ensures { λ r. ⌜ Gathered (gathered counts request (take got (now (series .entry))))
-        (now (series .entry)) at filled r (now (text .entry)) (now (text .exit))
-        (filled + headBytes + positionBytes * got)
-        × (now (work .exit) ≡ now (work .entry)) ⌝ }
-{
-    if got == request.bars {
-        settle(request, counts, at, series, out, work, text, filled)
-    } else {
-        Place {
-            sheet: Sheet {
-                stage: Stage::Collecting(request, got),
-                counts: counts,
-            },
-            at: at,
-            filled: filled,
-        }
+        filled: filled + sheet_text::HEAD_BYTES,
     }
 }
 
 // Reads the first line of a request.
-fn take_header(
-    place: Place,
-    block: &[u8],
-    series: &[f64],
-    out: &mut [f64],
-    work: &mut [f64],
-    text: &mut [u8],
-) -> Place
+fn take_header(place: Place, block: &[u8], text: &mut [u8]) -> Place
     requires { ⌜ (place .sheet .stage ≡ Stage.Waiting) × (place .at + 27 ≤ length (now block))
-        × Well (now block) place × Lent (now series) (now out) (now work)
-        × (length (now block) + textRoom ≤ length (now text)) ⌝ }
-    ensures { λ r. ⌜ Onward (now (block .entry)) place (now (series .entry)) (now (text .entry))
-        r (now (series .entry)) (now (text .exit))
-        × (now (work .exit) ≡ now (work .entry)) ⌝ }
+        × Well (now block) place × (length (now block) + textRoom ≤ length (now text)) ⌝ }
+    ensures { λ r. ⌜ ((series : List Float)
+        → Taken (now (block .entry)) place series (now (text .entry)) r series (now (text .exit))) ⌝ }
 {
     let sheet = place.sheet;
     let counts = sheet.counts;
@@ -184,7 +104,14 @@ fn take_header(
     let Header::Asked(request) = sheet_lines::read_header(block, at) else {
         return stop(counts, block.len(), text, filled);
     };
-    gather(request, 0, counts, at + 27, series, out, work, text, filled)
+    Place {
+        sheet: Sheet {
+            stage: Stage::Collecting(request, 0),
+            counts: counts,
+        },
+        at: at + 27,
+        filled: filled,
+    }
 }
 
 // Reads prices of the request.
@@ -194,16 +121,13 @@ fn take_prices(
     got: usize,
     block: &[u8],
     series: &mut [f64],
-    out: &mut [f64],
-    work: &mut [f64],
     text: &mut [u8],
 ) -> Place
     requires { ⌜ (place .sheet .stage ≡ Stage.Collecting request got) × (place .at + 13 ≤ length (now block))
-        × Well (now block) place × Lent (now series) (now out) (now work)
+        × Well (now block) place × (length (now series) ≡ mostBars)
         × (length (now block) + textRoom ≤ length (now text)) ⌝ }
-    ensures { λ r. ⌜ Onward (now (block .entry)) place (now (series .entry)) (now (text .entry))
-        r (now (series .exit)) (now (text .exit))
-        × (now (work .exit) ≡ now (work .entry)) ⌝ }
+    ensures { λ r. ⌜ Taken (now (block .entry)) place (now (series .entry)) (now (text .entry))
+        r (now (series .exit)) (now (text .exit)) ⌝ }
 {
     let sheet = place.sheet;
     let counts = sheet.counts;
@@ -211,52 +135,32 @@ fn take_prices(
     let filled = place.filled;
     let run = read_prices(block, at, request, got, series);
     if run.whole {
-        gather(
-            request,
-            run.got,
-            counts,
-            run.at,
-            series,
-            out,
-            work,
-            text,
-            filled,
-        )
+        Place {
+            sheet: Sheet {
+                stage: Stage::Collecting(request, run.got),
+                counts: counts,
+            },
+            at: run.at,
+            filled: filled,
+        }
     } else {
         stop(counts, block.len(), text, filled)
     }
 }
 
-// Reads on: the first line of a request, or prices.
-pub fn advance(
-    place: Place,
-    block: &[u8],
-    series: &mut [f64],
-    out: &mut [f64],
-    work: &mut [f64],
-    text: &mut [u8],
-) -> Place
+// Reads on: the first line of a request, or prices. A request that has all its prices is still to be answered.
+pub fn take_lines(place: Place, block: &[u8], series: &mut [f64], text: &mut [u8]) -> Place
     requires { ⌜ (due (place .sheet .stage) ≤ length (now block) - place .at)
-        × Well (now block) place × Lent (now series) (now out) (now work)
+        × Well (now block) place × (length (now series) ≡ mostBars)
         × (length (now block) + textRoom ≤ length (now text)) ⌝ }
-    ensures { λ r. ⌜ Onward (now (block .entry)) place (now (series .entry)) (now (text .entry))
-        r (now (series .exit)) (now (text .exit))
-        × (now (work .exit) ≡ now (work .entry)) ⌝ }
+    ensures { λ r. ⌜ Taken (now (block .entry)) place (now (series .entry)) (now (text .entry))
+        r (now (series .exit)) (now (text .exit)) ⌝ }
 {
     let sheet = place.sheet;
     let stage = sheet.stage;
     match stage {
-        Stage::Waiting => take_header(place, block, series, out, work, text),
-        Stage::Collecting(request, got) => take_prices(
-            place,
-            request,
-            got,
-            block,
-            series,
-            out,
-            work,
-            text,
-        ),
+        Stage::Waiting => take_header(place, block, text),
+        Stage::Collecting(request, got) => take_prices(place, request, got, block, series, text),
         Stage::Stopped => Place {
             sheet: sheet,
             at: block.len(),
@@ -266,7 +170,7 @@ pub fn advance(
 }
 
 // How many bytes the next line has.
-fn wanted(place: Place) -> usize
+pub fn wanted(place: Place) -> usize
     ensures { λ r. ⌜ r ≡ due (place .sheet .stage) ⌝ }
 {
     let sheet = place.sheet;
@@ -278,31 +182,6 @@ fn wanted(place: Place) -> usize
     }
 }
 
-// Reads a block as far as its bytes make whole lines, and prints the answers from the start of the text on.
-pub fn feed(
-    sheet: Sheet,
-    block: &[u8],
-    series: &mut [f64],
-    out: &mut [f64],
-    work: &mut [f64],
-    text: &mut [u8],
-) -> Place
-    requires { ⌜ Sound (sheet .stage) × Lent (now series) (now out) (now work)
-        × (length (now block) + textRoom ≤ length (now text)) ⌝ }
-    ensures { λ r. ⌜ Fed sheet (now (block .entry)) (now (series .entry)) r (now (series .exit)) (now (text .exit))
-        × (now (work .exit) ≡ now (work .entry)) ⌝ }
-{
-    let mut place = Place {
-        sheet: sheet,
-        at: 0,
-        filled: 0,
-    };
-    while wanted(place) <= block.len() - place.at {
-        place = advance(place, block, series, out, work, text);
-    }
-    place
-}
-
 // Before the first request.
 pub fn begin() -> Sheet
     ensures { λ r. ⌜ r ≡ beginning ⌝ }
@@ -310,56 +189,5 @@ pub fn begin() -> Sheet
     Sheet {
         stage: Stage::Waiting,
         counts: Counts::none(),
-    }
-}
-
-// Prints that a request broke off, and what is printed last.
-fn print_cut(text: &mut [u8], counts: Counts)
-    requires { ⌜ cutBytes ≤ length (now text) ⌝ }
-    ensures { λ _. ⌜ take cutBytes (now (text .exit)) ≡ broken counts .prints ++ closing (afterBroken counts) ⌝ }
-{
-    sheet_lines::print_head(text, 0, 0, 0, 10, 0);
-    counts.broken().print(text, sheet_lines::HEAD_BYTES);
-}
-
-// Prints what the end of the input gives, with `kept` bytes that are too few for a line, and gives how many bytes.
-fn print_end(sheet: Sheet, kept: usize, text: &mut [u8]) -> usize
-    requires { ⌜ (kept < due (sheet .stage)) × (cutBytes ≤ length (now text)) ⌝ }
-    ensures { λ r. ⌜ Finished Status.Done sheet kept r (now (text .exit)) ⌝ }
-{
-    let stage = sheet.stage;
-    let counts = sheet.counts;
-    match stage {
-        Stage::Waiting => {
-            if kept == 0 {
-                counts.print(text, 0);
-                CLOSING_BYTES
-            } else {
-                print_cut(text, counts);
-                CUT_BYTES
-            }
-        }
-        Stage::Collecting(_, _) => {
-            print_cut(text, counts);
-            CUT_BYTES
-        }
-        Stage::Stopped => {
-            counts.print(text, 0);
-            CLOSING_BYTES
-        }
-    }
-}
-
-// Prints what is printed last, and gives how many bytes: none where not
-// all was read and written, so that no last line follows a failed read.
-pub fn finish(status: Status, sheet: Sheet, kept: usize, text: &mut [u8]) -> usize
-    requires { ⌜ (kept < due (sheet .stage)) × (cutBytes ≤ length (now text)) ⌝ }
-    ensures { λ r. ⌜ Finished status sheet kept r (now (text .exit)) ⌝ }
-{
-    match status {
-        Status::Done => print_end(sheet, kept, text),
-        Status::Reading => 0,
-        Status::ReadFailed => 0,
-        Status::WriteFailed => 0,
     }
 }

@@ -1,3 +1,2 @@
 pub mod Bars
 pub mod Places
-pub mod Positions

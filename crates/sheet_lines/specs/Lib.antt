@@ -1,4 +1,3 @@
--- What a request's lines say, and what an answer prints.
+-- What a request's lines say.
 pub mod Cases
 pub mod Header
-pub mod Printed

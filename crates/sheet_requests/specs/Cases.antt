@@ -16,7 +16,7 @@ use Rattle.sheet_columns.specs.inner.Text.{bytes}
 use Rattle.sheet_columns.specs.Read.{number, readField, signed, readPrice}
 use Rattle.sheet_columns.specs.Print.{printField}
 use Rattle.sheet_lines.specs.Header.{requestOf, readHeader, readPriceLine}
-use Rattle.sheet_lines.specs.Printed.{headLine, positionLines, answerText, lastLine}
+use Rattle.sheet_text.specs.Printed.{headLine, positionLines, answerText, lastLine}
 use Rattle.sheet_requests.specs.Answer.{ruleAnswer, ruleLine}
 use Rattle.sheet_requests.specs.Counts.{closing}
 use Rattle.sheet_requests.specs.Sheet.{lines, gathered, ending, outcome, sheet}

@@ -11,7 +11,7 @@ use Rattle.sheet_lines.specs.declared.Request.{Request}
 use Rattle.sheet_lines.specs.declared.Header.{Header}
 use Rattle.sheet_lines.specs.declared.Header.the-variants.{Asked, Malformed}
 use Rattle.sheet_lines.specs.Header.{readHeader, readPriceLine}
-use Rattle.sheet_lines.specs.Printed.{headLine, answerText}
+use Rattle.sheet_text.specs.Printed.{headLine, answerText}
 use Rattle.sheet_requests.specs.declared.Counts.{Counts}
 use Rattle.sheet_requests.specs.Answer.{ruleAnswer, ruleLine}
 use Rattle.sheet_requests.specs.Counts.{noneRefused, after, afterBroken, closing}

@@ -1,19 +1,17 @@
-// A request's answer, the count of refused requests, and what is printed last.
+// The count of refused requests, and what is printed last.
 use calls::Answer;
 use sheet_lines::Request;
 ghost use mathlib.Core.Path.{_≡_};
 ghost use Prim.Native.Nat.{_≤_, _+_};
-ghost use lib.ListN.{length, take};
+ghost use lib.ListN.{length};
 ghost use Rattle.sheet_columns.specs.inner.Adds.{Adds};
-ghost use Rattle.sheet_lines.specs.Header.{mostBars};
-ghost use Rattle.sheet_requests.specs.Answer.{workCells, RequestCall};
 ghost use Rattle.sheet_requests.specs.Counts.{noneRefused, oneMore, after, afterBroken, closing, closingBytes};
 
 // Eight work cells for each of the most bars.
 pub const WORK_CELLS: usize = 8 * sheet_lines::MOST_BARS;
 
 // The bytes of what is printed last.
-pub const CLOSING_BYTES: usize = sheet_lines::LAST_BYTES;
+pub const CLOSING_BYTES: usize = sheet_text::LAST_BYTES;
 
 // The refused requests so far.
 pub struct Counts {
@@ -63,24 +61,6 @@ impl Counts {
         requires { ⌜ at + closingBytes ≤ length (now text) ⌝ }
         ensures { λ _. ⌜ Adds at (closing self) (at + closingBytes) (now (text .entry)) (now (text .exit)) ⌝ }
     {
-        sheet_lines::print_last(text, at, self.refused);
-    }
-}
-
-// Answers the request by its rule, on the first prices of the series; the positions are in `out`.
-pub fn answer(request: Request, series: &[f64], out: &mut [f64], work: &mut [f64]) -> Answer
-    requires { ⌜ (request .bars ≤ length (now series))
-        × (length (now out) ≡ mostBars) × (length (now work) ≡ workCells) ⌝ }
-    ensures { λ r. ⌜ RequestCall request (take (request .bars) (now (series .entry)))
-        (now (out .entry)) (now (work .entry)) r (now (out .exit)) (now (work .exit)) ⌝ }
-{
-    let bars = request.bars;
-    let prices = &series[..bars];
-    if request.rule == 1 {
-        rules::single_sma_positions(prices, request.n, out, work)
-    } else if request.rule == 2 {
-        rules::double_sma_positions(prices, request.n, request.m, out)
-    } else {
-        rules::mid_positions(prices, request.n, out, work)
+        sheet_text::print_last(text, at, self.refused);
     }
 }

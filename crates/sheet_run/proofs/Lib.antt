@@ -1,1 +1,3 @@
+pub mod Feeding
 pub mod Turns
+pub mod Whole

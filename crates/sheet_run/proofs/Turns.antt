@@ -1,33 +1,21 @@
--- How many bytes the program keeps between two turns, and what the turns come to. Assumes nothing.
+-- What the turns come to. Assumes nothing.
 use mathlib.Core.Path.{_≡_, refl, sym, _∙_}
 use mathlib.Core.List.{List, [], _++_}
-use Prim.Native.Nat.{ℕ, _+_, _-_, _<_, _≤_}
+use Prim.Native.Nat.{ℕ, _-_}
 use native.Mathlib.Omega.{arith}
-use lib.ListN.{length, take, take-append-drop}
+use lib.ListN.{take, take-append-drop}
 use lib.Seq.{slice, take-take}
 use lib.Ieee.{Float}
-use Rattle.sheet_blocks.specs.declared.Stage.{Stage}
-use Rattle.sheet_blocks.specs.declared.Stage.the-variants.{Waiting, Collecting, Stopped}
-use Rattle.sheet_blocks.specs.declared.Sheet.{Sheet}
 use Rattle.sheet_status.specs.declared.Status.{Status}
 use Rattle.sheet_status.specs.declared.Status.the-variants.{Reading, Done, ReadFailed, WriteFailed}
 use Rattle.sheet_requests.specs.Sheet.{State}
 use Rattle.sheet_blocks.specs.Whole.{Reached, last}
-use Rattle.sheet_blocks.specs.inner.Place.{stateOf, due}
-use Rattle.sheet_blocks.specs.inner.Block.{Fed, Between}
-use Rattle.sheet_blocks.proofs.Whole.{reached-none, reached-block, reached-end}
+use Rattle.sheet_blocks.specs.inner.Place.{stateOf}
+use Rattle.sheet_run.specs.inner.Block.{Fed}
+use Rattle.sheet_run.proofs.Whole.{reached-none, reached-block, reached-end}
 use Rattle.sheet_run.specs.declared.Carried.{Carried}
 use Rattle.sheet_run.specs.Run.{Ran}
 use Rattle.sheet_run.specs.inner.Turn.{start, Carrying, Turned}
-
-due-few : (stage : Stage) → due stage ≤ 27
-due-few Waiting = omega arith
-due-few (Collecting r got) = omega arith
-due-few Stopped = omega arith
-
--- fewer than the longest line has
-pub kept-few : {sheet : Sheet} {kept : ℕ} → Between sheet kept → kept < 27
-kept-few {sheet} b = omega (arith, b .few, due-few (sheet .stage))
 
 -- the bytes that came and those that were handed over so far, with what is carried after them
 pub record Progress (c : Carried) (block : List ℕ) (series : List Float) : Type 0 where

@@ -1,33 +1,16 @@
--- What the program makes of the answers of a read and a write, and what a run comes to. Assumes nothing.
+-- How the program stands after a turn, and what a run comes to. Assumes nothing.
 use mathlib.Core.Path.{_≡_}
 use mathlib.Core.Bool.{Bool, true, false}
 use mathlib.Core.List.{List}
-use Prim.Native.Nat.{ℕ, zero, suc, min}
-use lib.IntN.{ℤ, pos, negsuc}
+use Prim.Native.Nat.{ℕ}
 use Rattle.sheet_requests.specs.Sheet.{State, sheet}
 use Rattle.sheet_blocks.specs.declared.Stage.{Stage}
 use Rattle.sheet_blocks.specs.declared.Stage.the-variants.{Waiting, Collecting, Stopped}
 use Rattle.sheet_status.specs.declared.Status.{Status}
 use Rattle.sheet_status.specs.declared.Status.the-variants.{Reading, Done, ReadFailed, WriteFailed}
 use Rattle.sheet_blocks.specs.Whole.{Reached}
-use Rattle.sheet_run.specs.declared.Input.{Input}
-use Rattle.sheet_run.specs.declared.Input.the-variants.{Came, Ended, Failed}
-
--- what so many bytes say, of which 0 are the end of the input
-abbrev pub inputFrom : ℕ → Input
-inputFrom zero = Ended
-inputFrom (suc k) = Came (suc k)
-
--- what the answer of a read into so much room says: below 0 it failed
-unfoldable pub inputOf : ℤ → ℕ → Input
-inputOf (pos k) room = inputFrom (min k room)
-inputOf (negsuc k) room = Failed
-
--- how many bytes came
-abbrev pub came : Input → ℕ
-came (Came n) = n
-came Ended = 0
-came Failed = 0
+use Rattle.sheet_input.specs.declared.Input.{Input}
+use Rattle.sheet_input.specs.declared.Input.the-variants.{Came, Ended, Failed}
 
 -- how the program stands, by whether all was written, what the read answered, and the stage after it
 abbrev pub statusOf : Bool → Input → Stage → Status
@@ -37,13 +20,6 @@ statusOf true Ended stage = Done
 statusOf true (Came n) Waiting = Reading
 statusOf true (Came n) (Collecting r got) = Reading
 statusOf true (Came n) Stopped = Done
-
--- whether more is to be read
-abbrev pub goesOn : Status → Bool
-goesOn Reading = true
-goesOn Done = false
-goesOn ReadFailed = false
-goesOn WriteFailed = false
 
 -- the beginning of a sheet: after `input` and `out` something is still to be printed
 pub record Begun (input out : List ℕ) : Type 0 where

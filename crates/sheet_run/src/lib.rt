@@ -1,24 +1,24 @@
 // A run of the sheet: requests on standard input, answers on standard output. All
-// that it reads and prints is the work of `sheet_blocks` and the crates below it;
-// here are the buffers, and the loop that reads blocks, feeds them and writes.
-//
-// No contract of the kit says which bytes a call of C's reads or writes. That the block
-// holds what came, and that the bytes handed over are written, is assumed here, and
-// tested by tools/sheet_compare; what is done with the bytes in the buffers is proved.
-use libc::STDIN_FILENO;
-use libc::STDOUT_FILENO;
+// that it reads and prints is the work of the crates below; here are the buffers,
+// the loop that feeds a block, and the loop that reads blocks, feeds them and writes.
 use sheet_blocks::Place;
 use sheet_blocks::Sheet;
 use sheet_blocks::Stage;
 use sheet_blocks::TEXT_ROOM;
+use sheet_input::Input;
+use sheet_input::Output;
 use sheet_lines::MOST_BARS;
 use sheet_requests::WORK_CELLS;
 use sheet_status::Status;
 ghost use mathlib.Core.Path.{_≡_};
 ghost use Prim.Native.Nat.{_≤_, _+_, _-_};
-ghost use lib.ListN.{length, take};
-ghost use Rattle.sheet_blocks.specs.inner.Block.{cutBytes, Finished};
-ghost use Rattle.sheet_run.specs.Run.{inputOf, came, statusOf, goesOn, Ran};
+ghost use lib.ListN.{length};
+ghost use Rattle.sheet_blocks.specs.inner.Place.{Sound};
+ghost use Rattle.sheet_answers.specs.inner.Lent.{Lent};
+ghost use Rattle.sheet_blocks.specs.inner.Taken.{textRoom};
+ghost use Rattle.sheet_closing.specs.inner.Finished.{cutBytes, Finished};
+ghost use Rattle.sheet_run.specs.Run.{statusOf, Ran};
+ghost use Rattle.sheet_run.specs.inner.Block.{Fed};
 ghost use Rattle.sheet_run.specs.inner.Buffers.{Buffers};
 ghost use Rattle.sheet_run.specs.inner.Turn.{start, Carrying, Turned};
 
@@ -27,19 +27,6 @@ const BLOCK_BYTES: usize = 65536;
 
 const TEXT_BYTES: usize = BLOCK_BYTES + TEXT_ROOM;
 
-// What a read answered: so many bytes came, the input has ended, or it could not be read.
-enum Input {
-    Came(usize),
-    Ended,
-    Failed,
-}
-
-// What became of a text: how many bytes were handed over to be written, and whether all were taken.
-struct Output {
-    bytes: usize,
-    taken: bool,
-}
-
 // What is carried from turn to turn: the sheet and its place in the
 // block, where the bytes in the block end, and what was answered last.
 struct Carried {
@@ -47,68 +34,6 @@ struct Carried {
     end: usize,
     input: Input,
     output: Output,
-}
-
-// What the answer of a read says: below 0 it failed, and with no byte the input has ended.
-fn input_of(got: isize, room: &[u8]) -> Input
-    ensures { λ r. ⌜ r ≡ inputOf got (length (now (room .entry))) ⌝ }
-{
-    if got < 0 {
-        return Input::Failed;
-    }
-    let count = io::count(got, room);
-    if count == 0 {
-        Input::Ended
-    } else {
-        Input::Came(count)
-    }
-}
-
-// Reads once. The reason why a read failed goes to standard error.
-fn read_some(room: &mut [u8]) -> Input
-    ensures { λ r. ⌜ came r ≤ length (now (room .entry)) ⌝ }
-{
-    let got = libc::read(STDIN_FILENO, room);
-    if got < 0 {
-        os::fail(b"sheet: reading");
-    }
-    input_of(got, room)
-}
-
-// Reads once behind the first `kept` bytes of the block, which stay.
-fn read_on(block: &mut [u8], kept: usize) -> Input
-    requires { ⌜ kept ≤ length (now block) ⌝ }
-    ensures { λ r. ⌜ (kept + came r ≤ length (now (block .entry)))
-        × (take kept (now (block .exit)) ≡ take kept (now (block .entry))) ⌝ }
-{
-    read_some(&mut block[kept..])
-}
-
-// How many bytes came.
-fn count_of(input: Input) -> usize
-    ensures { λ r. ⌜ r ≡ came input ⌝ }
-{
-    match input {
-        Input::Came(count) => count,
-        Input::Ended => 0,
-        Input::Failed => 0,
-    }
-}
-
-// Writes the first `filled` bytes of the text. The reason why a write failed goes to standard error.
-fn write_text(text: &[u8], filled: usize) -> Output
-    requires { ⌜ filled ≤ length (now text) ⌝ }
-    ensures { λ r. ⌜ r .bytes ≡ filled ⌝ }
-{
-    let bytes = &text[..filled];
-    let taken = io::write_all(STDOUT_FILENO, bytes);
-    if !taken {
-        os::fail(b"sheet: writing");
-    }
-    Output {
-        bytes: bytes.len(),
-        taken: taken,
-    }
 }
 
 // How the program stands after a turn.
@@ -135,16 +60,30 @@ fn status(carried: Carried) -> Status
     }
 }
 
-// Whether more is to be read.
-fn goes_on(status: Status) -> bool
-    ensures { λ r. ⌜ r ≡ goesOn status ⌝ }
+// Reads a block as far as its bytes make whole lines, and prints the answers from the start of the text on.
+fn feed(
+    sheet: Sheet,
+    block: &[u8],
+    series: &mut [f64],
+    out: &mut [f64],
+    work: &mut [f64],
+    text: &mut [u8],
+) -> Place
+    requires { ⌜ Sound (sheet .stage) × Lent (now series) (now out) (now work)
+        × (length (now block) + textRoom ≤ length (now text)) ⌝ }
+    ensures { λ r. ⌜ Fed sheet (now (block .entry)) (now (series .entry)) r (now (series .exit)) (now (text .exit))
+        × (now (work .exit) ≡ now (work .entry)) ⌝ }
 {
-    match status {
-        Status::Reading => true,
-        Status::Done => false,
-        Status::ReadFailed => false,
-        Status::WriteFailed => false,
+    let mut place = Place {
+        sheet: sheet,
+        at: 0,
+        filled: 0,
+    };
+    while sheet_blocks::wanted(place) <= block.len() - place.at {
+        let read = sheet_blocks::take_lines(place, block, series, text);
+        place = sheet_answers::gather(read, series, out, work, text);
     }
+    place
 }
 
 // Moves the bytes that are left to the front of the block, reads
@@ -163,11 +102,11 @@ fn turn(
         × (now (work .exit) ≡ now (work .entry)) ⌝ }
 {
     let place = carried.place;
-    let kept = cells::keep(block, place.at, carried.end);
-    let input = read_on(block, kept);
-    let end = kept + count_of(input);
-    let next = sheet_blocks::feed(place.sheet, &block[..end], series, out, work, text);
-    let output = write_text(text, next.filled);
+    let read = sheet_input::refill(block, place.at, carried.end);
+    let end = read.end;
+    let input = read.input;
+    let next = feed(place.sheet, &block[..end], series, out, work, text);
+    let output = sheet_input::write_text(text, next.filled);
     Carried {
         place: next,
         end: end,
@@ -202,8 +141,8 @@ fn close(carried: Carried, text: &mut [u8]) -> Output
         (carried .place .sheet) (carried .end - carried .place .at) (r .bytes) (now (text .exit)) ⌝ }
 {
     let place = carried.place;
-    let count = sheet_blocks::finish(status(carried), place.sheet, carried.end - place.at, text);
-    write_text(text, count)
+    let count = sheet_closing::finish(status(carried), place.sheet, carried.end - place.at, text);
+    sheet_input::write_text(text, count)
 }
 
 // Reads to the end of the input, or to where a line breaks its columns, and gives what became of input and output.
@@ -220,7 +159,7 @@ fn run(
 {
     let mut carried = first();
     let mut turns = u64::MAX;
-    while turns > 0 && goes_on(status(carried)) {
+    while turns > 0 && sheet_status::goes_on(status(carried)) {
         carried = turn(carried, block, series, out, work, text);
         turns -= 1;
     }

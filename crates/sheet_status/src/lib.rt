@@ -1,6 +1,6 @@
 // How a run of the sheet stands, and its exit status.
 ghost use mathlib.Core.Path.{_≡_};
-ghost use Rattle.sheet_status.specs.Status.{exitOf};
+ghost use Rattle.sheet_status.specs.Status.{goesOn, exitOf};
 
 // How the program stands: it reads on; all is read, to the end of the
 // input or to a line that broke its columns; or a read or a write failed.
@@ -9,6 +9,18 @@ pub enum Status {
     Done,
     ReadFailed,
     WriteFailed,
+}
+
+// Whether more is to be read.
+pub fn goes_on(status: Status) -> bool
+    ensures { λ r. ⌜ r ≡ goesOn status ⌝ }
+{
+    match status {
+        Status::Reading => true,
+        Status::Done => false,
+        Status::ReadFailed => false,
+        Status::WriteFailed => false,
+    }
 }
 
 // The exit status of a run that ended so.

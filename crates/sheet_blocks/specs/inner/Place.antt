@@ -2,14 +2,14 @@
 -- and buffers, and what reading its prices promises. Assumes nothing.
 use mathlib.Core.Path.{_≡_}
 use mathlib.Core.Bool.{true, cond}
-use mathlib.Core.List.{List, _++_}
+use mathlib.Core.List.{List, [], _++_}
 use Prim.Native.Nat.{ℕ, _+_, _-_, _*_, _<_, _≤_}
 use lib.ListN.{length, take, drop}
 use lib.Ieee.{Float}
 use Rattle.sheet_columns.specs.inner.Adds.{Adds}
 use Rattle.sheet_lines.specs.declared.Request.{Request}
 use Rattle.sheet_lines.specs.Header.{mostBars}
-use Rattle.sheet_lines.specs.Printed.{headBytes, positionBytes}
+use Rattle.sheet_text.specs.Printed.{headBytes, positionBytes}
 use Rattle.sheet_requests.specs.declared.Counts.{Counts}
 use Rattle.sheet_requests.specs.Counts.{noneRefused}
 use Rattle.sheet_blocks.specs.declared.Stage.{Stage}
@@ -46,6 +46,18 @@ abbrev pub Sound : Stage → Type 0
 Sound Waiting = Unit {0}
 Sound (Collecting r got) = (got < r .bars) × (r .bars ≤ mostBars)
 Sound Stopped = Unit {0}
+
+-- the step that is still to be made: a request that has all its prices is to be answered
+abbrev pub pending : Stage → Counts → List Float → Step
+pending Waiting counts series = record { prints = []; state = waiting counts }
+pending (Collecting r got) counts series = gathered counts r (take got series)
+pending Stopped counts series = record { prints = []; state = stopped counts }
+
+-- of a request that may have all its prices no more were read than it has bars, and all fit the series
+abbrev pub Fits : Stage → Type 0
+Fits Waiting = Unit {0}
+Fits (Collecting r got) = (got ≤ r .bars) × (r .bars ≤ mostBars)
+Fits Stopped = Unit {0}
 
 -- a step, and what comes after it
 abbrev pub finally : Step → List (List ℕ) → List ℕ

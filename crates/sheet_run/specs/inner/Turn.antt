@@ -7,10 +7,10 @@ use lib.ListN.{take}
 use lib.Seq.{slice}
 use lib.Ieee.{Float}
 use Rattle.sheet_blocks.specs.inner.Place.{beginning}
-use Rattle.sheet_blocks.specs.inner.Block.{Fed, Between}
+use Rattle.sheet_run.specs.inner.Block.{Fed, Between}
 use Rattle.sheet_run.specs.declared.Carried.{Carried}
-use Rattle.sheet_run.specs.declared.Input.the-variants.{Came}
-use Rattle.sheet_run.specs.Run.{came}
+use Rattle.sheet_input.specs.declared.Input.the-variants.{Came}
+use Rattle.sheet_input.specs.Input.{came}
 use Rattle.sheet_run.specs.inner.Buffers.{blockBytes}
 
 -- before the first turn

@@ -1,0 +1,3 @@
+-- What the answer of a read says.
+pub mod Input
+pub mod inner

@@ -1,0 +1,2 @@
+-- What filling a block again promises.
+pub mod Refills

@@ -1,0 +1,118 @@
+-- `feed` meets its contract: each step goes onward, and the last one leaves too few bytes for a line. Assumes nothing.
+use mathlib.Core.Path.{refl, _∙_}
+use Prim.Native.Nat.{_-_}
+use native.Mathlib.Nat.{zero-add}
+use native.Mathlib.Omega.{arith}
+use borrow.Author.Needs.{needs}
+use lib.ListN.{length}
+use Rattle.sheet_run.proofs.Feeding.{Feeding, onward, owed-few}
+use Rattle.sheet_run.proofs.feed.Statement.{statement}
+use Rattle.sheet_run.proofs.feed.Tie as tie
+
+abbrev Inv-loop : tie.InvT-loop
+Inv-loop block series₀ out₀ work₀ text₀ place₀ series out work text place =
+    Feeding block place₀ series₀ work₀ text₀ place series out work text
+
+abbrev μ-loop : tie.MeasureT-loop
+μ-loop block series₀ out₀ work₀ text₀ place₀ series out work text place = length block - place .at
+
+loop-holds : tie.Need-loop-holds Inv-loop μ-loop
+loop-holds c =
+    let start = c .before .before .before .before .before in
+    record {
+      same = λ more. refl;
+      well = record {
+        sound = start .pre .0;
+        within = omega arith;
+        room = rw zero-add (owed-few (start .args .sheet .stage) (start .pre .0));
+      };
+      lent = start .pre .1;
+      clear = refl;
+      long = refl;
+    }
+
+take-lines-requires : tie.Need-take-lines-requires Inv-loop μ-loop
+take-lines-requires c κs =
+    let test = c .before .before in
+    let at = test .before .before .before in
+    let start = at .before .before .before .before .before .before in
+    let inv = at .loop .inv in (
+      rw (← test .before .before .wanted .ensures) (test .if1 .taken),
+      inv .well,
+      inv .lent .series-long,
+      rw (inv .long) (start .pre .2),
+    )
+
+gather-requires : tie.Need-gather-requires Inv-loop μ-loop
+gather-requires c κs =
+    let take = c .before .before .before .before .before .before .before .before in
+    let at = take .before .before .before .before .before .before in
+    let start = at .before .before .before .before .before .before in
+    let taken = take .take-lines .ensures in
+    let kept = take .take-lines .kept in
+    let inv = at .loop .inv in
+    let lent = inv .lent in
+    let long = inv .long in (
+      taken .fits,
+      record { series-long = search needs; out-long = lent .out-long; work-clear = lent .work-clear },
+      omega (arith, taken .room, taken .within, start .pre .2, long, kept .1 .1 .1 .0),
+    )
+
+loop-less : tie.Need-loop-less Inv-loop μ-loop
+loop-less c =
+    let gather = c .before .before .before .before .before .before in
+    let take = gather .before .before .before .before .before .before .before .before .before in
+    let at = take .before .before .before .before .before .before in
+    let on = onward (take .take-lines .ensures) (gather .gather .ensures .0) in
+    omega (arith, on .forth, on .well .within, at .loop .inv .well .within)
+
+loop-again : tie.Need-loop-again Inv-loop μ-loop
+loop-again c =
+    let gather = c .before .before .before .before .before .before in
+    let take = gather .before .before .before .before .before .before .before .before .before in
+    let at = take .before .before .before .before .before .before in
+    let on = onward (take .take-lines .ensures) (gather .gather .ensures .0) in
+    let kept = gather .gather .kept in
+    let kept-read = take .take-lines .kept in
+    let clear = gather .gather .ensures .1 in
+    let inv = at .loop .inv in
+    let lent = inv .lent in
+    let long = inv .long in
+    record {
+      same = λ more. inv .same more ∙ on .same more;
+      well = on .well;
+      lent = record { series-long = search needs; out-long = search needs; work-clear = clear ∙ lent .work-clear };
+      clear = clear ∙ inv .clear;
+      long = search needs;
+    }
+
+returns : tie.Need-returns Inv-loop μ-loop
+returns c =
+    let inv = c .before .before .before .loop .inv in (
+      record {
+        same = inv .same;
+        well = inv .well;
+        few = rw (← c .before .before .wanted .ensures) (c .if1 .left);
+      },
+      inv .clear,
+    )
+
+pub feed-spec : {M : Type 1} → statement M
+feed-spec =
+    tie.close
+    (tie.spec
+    Inv-loop
+    μ-loop
+    loop-holds
+    (λ c κs. search needs)  -- wanted-requires
+    (λ c. search needs)  -- sub-if1
+    take-lines-requires
+    gather-requires
+    loop-less
+    loop-again
+    (λ c. search needs)  -- same-length
+    (λ c. search needs)  -- same-length-2
+    (λ c. search needs)  -- same-length-3
+    (λ c. c .before .before .before .loop .inv .long)  -- same-length-4
+    returns
+    )

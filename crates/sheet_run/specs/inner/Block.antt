@@ -1,0 +1,25 @@
+-- What reading a block to its end promises, and what holds between two blocks. Assumes nothing.
+use mathlib.Core.Path.{_≡_}
+use mathlib.Core.List.{List, _++_}
+use Prim.Native.Nat.{ℕ, _-_, _<_}
+use lib.ListN.{length}
+use lib.Ieee.{Float}
+use Rattle.sheet_blocks.specs.declared.Sheet.{Sheet}
+use Rattle.sheet_blocks.specs.declared.Place.{Place}
+use Rattle.sheet_requests.specs.Sheet.{lines, outcome}
+use Rattle.sheet_blocks.specs.inner.Place.{stateOf, due, Sound}
+use Rattle.sheet_blocks.specs.inner.Taken.{Well, total}
+
+-- A block was read up to where too few bytes for a line are left.
+pub record Fed (sheet : Sheet) (block : List ℕ) (series : List Float) (q : Place) (series′ : List Float)
+    (text : List ℕ) : Type 0 where
+  pub same : (more : List ℕ)
+      → outcome (stateOf (sheet .stage) (sheet .counts) series) (lines (block ++ more))
+      ≡ total block q series′ text more
+  pub well : Well block q
+  pub few : length block - q .at < due (q .sheet .stage)
+
+-- What holds between two blocks: `kept` bytes are left, too few for the next line.
+pub record Between (sheet : Sheet) (kept : ℕ) : Type 0 where
+  pub sound : Sound (sheet .stage)
+  pub few : kept < due (sheet .stage)

@@ -1,0 +1,2 @@
+-- What an answer prints.
+pub mod Printed
