@@ -11,8 +11,10 @@ use Rattle.replay_record.specs.Head.{functionOf, formOf}
 use Rattle.replay.specs.declared.Step.{Step}
 use Rattle.replay.specs.declared.Step.the-variants.{Run, Stop}
 use Rattle.replay.specs.Records.{Stood}
-use Rattle.replay.specs.Counts.{RanNext, Next, Runs, none, more, Counts, tallied}
-use Rattle.replay.specs.inner.Reading.{Short, Long, Given, short, long, Rest}
+use Rattle.replay_asked.specs.inner.Given.{Short, Long, Given, short, long}
+use Rattle.replay_counts.specs.Tallied.{tallied}
+use Rattle.replay.specs.Counts.{RanNext, Next, Runs, none, more, Counts}
+use Rattle.replay.specs.inner.Reading.{Rest}
 
 -- ---- the form of a record
 

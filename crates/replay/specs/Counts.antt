@@ -2,13 +2,13 @@
 use mathlib.Core.Bool.{Bool, cond}
 use mathlib.Core.List.{List}
 use mathlib.Core.Path.{_≡_}
-use Prim.Native.Nat.{ℕ, _+_, _%_, _^_, _<_}
-use lib.ListN.{getD, set}
+use Prim.Native.Nat.{ℕ, _+_, _<_}
 use lib.Seq.{slice}
 use Rattle.replay_words.specs.declared.stream.Place.{Place}
 use Rattle.replay.specs.declared.Step.{Step}
 use Rattle.replay.specs.declared.Step.the-variants.{Run, Stop}
 use Rattle.replay_record.specs.Head.{functionOf}
+use Rattle.replay_counts.specs.Tallied.{tallied}
 use Rattle.replay.specs.Records.{Ran, Read}
 
 -- the next record was read and run: its function, and 1 if its call did not leave what was recorded, else 0
@@ -25,14 +25,6 @@ pub record RanNext (unused block : List ℕ) (function differs : ℕ) (place : P
 abbrev pub Next : List ℕ → List ℕ → Step → Type 0
 Next unused block (Run function differs place) = RanNext unused block function differs place
 Next unused block Stop = Unit {0}
-
--- the count at an index with some more; it would take 2^64 records to wrap
-abbrev pub counted : ℕ → ℕ → List ℕ → List ℕ
-counted at more counts = set counts at ((getD counts at 0 + more) % 2 ^ 64)
-
--- one more for the function at its number, and for all functions at 0
-abbrev pub tallied : ℕ → ℕ → List ℕ → List ℕ
-tallied function more counts = counted 0 more (counted function more counts)
 
 -- k records were run one after the other, from a place in a block on: each adds 1 to the calls, and 1 to those that
 -- differ if its call did not leave what was recorded

@@ -14,7 +14,7 @@ use Rattle.replay_words.specs.inner.Blocks.{Taken}
 use Rattle.replay_record.specs.Head.{formOf, firstOf, secondOf, thirdOf, workOf, barsOf, cellsOf}
 use Rattle.replay_record.specs.Left.{floats, untouched}
 use Rattle.replay_record.specs.Rule.{ruled}
-use Rattle.replay_calls.specs.Called.{Called}
+use Rattle.replay.specs.Called.{Called}
 
 -- the series are the first cells of these lines, and every work cell is as before a call
 abbrev pub CallOf : List ℕ → Line → Line → Line → List ℕ → Bool → Type 0

@@ -2,16 +2,17 @@
 // many left something else than was recorded: another refusal, count, cell of an output or work cell. The last line
 // says how many records there are, how many calls differ, and how many were not run: those from the first on that
 // breaks off, is too long or has no function's number.
+use replay_record::Kind;
 use replay_words::stream::Place;
 ghost use mathlib.Core.Path.{_≡_};
-ghost use Prim.Native.Nat.{_+_, _<_};
 ghost use lib.ListN.{length};
 ghost use lib.Seq.{slice};
-ghost use Rattle.replay_record.specs.Head.{Within, barsOf, cellsOf};
+ghost use Rattle.replay_record.specs.Head.{Rooms};
+ghost use Rattle.replay_asked.specs.inner.Given.{Short, Long, Given};
+ghost use Rattle.replay.specs.Called.{Called};
 ghost use Rattle.replay.specs.Records.{WrittenOut, ByRule, Ran};
-ghost use Rattle.replay.specs.Counts.{Next, Counts, counted, tallied};
-ghost use Rattle.replay.specs.inner.Reading.{Parts, InParts, Short, Long, Given, Rest};
-ghost use Rattle.replay.specs.inner.Names.{Named};
+ghost use Rattle.replay.specs.Counts.{Next, Counts};
+ghost use Rattle.replay.specs.inner.Reading.{Parts, InParts, Rest};
 
 // What the next record came to: a call that differs 0 times or once, and the place after it.
 enum Step {
@@ -23,8 +24,31 @@ enum Step {
     Stop,
 }
 
+// The call of a record, by the kind of its function.
+fn compare(
+    head: &[u64; 18],
+    first: &[f64],
+    second: &[f64],
+    third: &[f64],
+    recorded: &[u64],
+    work: &mut [f64],
+) -> bool
+    requires { ⌜ Rooms (now head) ⌝ }
+    ensures { λ r. ⌜ Called (now (head .entry)) (now (first .entry)) (now (second .entry)) (now (third .entry))
+        (now (work .entry)) (now (recorded .entry)) r ⌝ }
+{
+    let kind = replay_record::kind_of(head[0]);
+    match kind {
+        Kind::Floats => replay_floats::floats_agree(head, first, second, third, recorded, work),
+        Kind::Shorts => replay_wholes::shorts_agree(head, first, recorded, work),
+        Kind::Places => replay_wholes::places_agree(head, first, recorded, work),
+        Kind::Wholes => replay_wholes::wholes_agree(head, first, recorded, work),
+        Kind::Three => replay_three::three_agree(head, first, second, third, recorded, work),
+    }
+}
+
 // Whether a call leaves what was recorded, with all its series in one slice. The second and the third begin at an
-// index.
+// index. The cells of the work slice hold what they must before a call.
 fn parts_agree(
     head: &[u64; 18],
     series: &[f64],
@@ -38,12 +62,17 @@ fn parts_agree(
     let one = head[2] as usize;
     let two = second + head[3] as usize;
     let three = third + head[4] as usize;
-    replay_calls::agrees(
+    let room = head[14] as usize;
+    let mut work = [replay_words::floats::float_of(
+        replay_record::UNTOUCHED,
+    ); replay_record::WORK_ROOM];
+    compare(
         head,
         &series[..one],
         &series[second..two],
         &series[third..three],
         recorded,
+        &mut work[..room],
     )
 }
 
@@ -56,7 +85,7 @@ fn written_agrees(head: &[u64; 18], words: &[u64]) -> bool
     let two = one + head[3] as usize;
     let bars = two + head[4] as usize;
     let mut series = [0.0; 180];
-    replay_compare::write_floats(&words[..bars], &mut series);
+    replay_asked::write_floats(&words[..bars], &mut series);
     parts_agree(head, &series, one, two, &words[bars..])
 }
 
@@ -65,7 +94,7 @@ fn with_rule(head: &[u64; 18], words: &[u64], series: &mut [f64]) -> bool
     requires { ⌜ Long (now head) (length (now words)) × (length (now series) ≡ 65539) ⌝ }
     ensures { λ r. ⌜ ByRule (now (head .entry)) (now (words .entry)) r ⌝ }
 {
-    replay_compare::write_rule(series);
+    replay_asked::write_rule(series);
     parts_agree(head, series, 1, 2, words)
 }
 
@@ -107,43 +136,12 @@ fn run_with(head: &[u64; 18], words: &mut [u64], block: &mut [u8], start: Place)
     }
 }
 
-// How many words stand after the head of a record that is written out.
-fn words_written(head: &[u64; 18]) -> usize
-    requires { ⌜ Within 60 79 512 (now head) ⌝ }
-    ensures { λ r. ⌜ r ≡ barsOf (now (head .entry)) + cellsOf (now (head .entry)) ⌝ }
-{
-    (head[2] + head[3] + head[4] + (head[11] + head[12] + head[13])) as usize
-}
-
-// How many words stand after a head, or a number that no record has.
-fn words_after(head: &[u64; 18]) -> usize
-    ensures { λ r. ⌜ (r < 418 → Given (now (head .entry)) r) ⌝ }
-{
-    if head[1] == 0 {
-        if replay_compare::is_within(head, 60, 79, 512) {
-            return words_written(head);
-        }
-        return 418;
-    }
-    if head[1] == 1 {
-        if replay_compare::is_within(
-            head,
-            replay_record::OUTPUT_ROOM as u64,
-            replay_record::OUTPUT_ROOM as u64,
-            replay_record::WORK_ROOM as u64,
-        ) {
-            return 1;
-        }
-    }
-    418
-}
-
 // The same, with room for the words.
 fn run_rest(head: &[u64; 18], block: &mut [u8], start: Place) -> Step
     ensures { λ r. ⌜ Rest (now (head .entry)) (slice (start .at) (start .end) (now (block .entry)))
         (now (block .exit)) r ⌝ }
 {
-    let count = words_after(head);
+    let count = replay_asked::words_after(head);
     if count > 417 {
         return Step::Stop;
     }
@@ -162,24 +160,6 @@ fn run_next(block: &mut [u8], start: Place) -> Step
     }
     let place = read.place;
     run_rest(&head, block, place)
-}
-
-// Adds to the count at an index.
-fn add(counts: &mut [u64; 25], at: u64, more: u64)
-    requires { ⌜ at < 25 ⌝ }
-    ensures { λ _. ⌜ now (counts .exit) ≡ counted at more (now (counts .entry)) ⌝ }
-{
-    let at = at as usize;
-    counts[at] = std::num::wrapping_add_u64(counts[at], more);
-}
-
-// Adds to the count of a function, and to that of all.
-fn tally(counts: &mut [u64; 25], function: u64, more: u64)
-    requires { ⌜ function < 25 ⌝ }
-    ensures { λ _. ⌜ now (counts .exit) ≡ tallied function more (now (counts .entry)) ⌝ }
-{
-    add(counts, function, more);
-    add(counts, 0, more);
 }
 
 // Runs the records, counts the calls of each function and those that differ, and gives how many records are left.
@@ -205,90 +185,12 @@ fn run_all(
         else {
             return left;
         };
-        tally(calls, function, 1);
-        tally(differ, function, differs);
+        replay_counts::tally(calls, function, 1);
+        replay_counts::tally(differ, function, differs);
         place = after;
         left -= 1;
     }
     left
-}
-
-// The last line.
-fn print_totals(records: u64, differ: u64, left: u64) {
-    io::print_decimal(1, records);
-    io::write_all(1, b" records, ");
-    io::print_decimal(1, differ);
-    io::write_all(1, b" differ, ");
-    io::print_decimal(1, left);
-    io::write_all(1, b" not run\n");
-}
-
-// Where the name that begins at an index ends: names follow each other, each with a space at its end. No name has more
-// than 64 bytes.
-fn name_end(names: &[u8], start: usize) -> usize
-    requires { ⌜ start < length (now names) ⌝ }
-    ensures { λ r. ⌜ Named (now (names .entry)) start r ⌝ }
-{
-    let mut end = start + 1;
-    while end < names.len() {
-        if names[end - 1] == b' ' {
-            return end;
-        }
-        if end - start > 63 {
-            return end;
-        }
-        end += 1;
-    }
-    end
-}
-
-// The lines of functions that have their numbers one after another.
-fn print_lines(names: &[u8], first: usize, calls: &[u64; 25], differ: &[u64; 25]) {
-    let mut at = 0;
-    let mut function = first;
-    while function < 25 {
-        if at >= names.len() {
-            return;
-        }
-        let end = name_end(names, at);
-        replay_lines::print_line(&names[at..end], calls[function], differ[function]);
-        at = end;
-        function += 1;
-    }
-}
-
-// The lines of all functions, in the order of their numbers.
-fn print_functions(calls: &[u64; 25], differ: &[u64; 25]) {
-    print_lines(
-        b"sma ema exponential_smoothing double_sma_positions ultimate_smoother true_range ",
-        1,
-        calls,
-        differ,
-    );
-    print_lines(
-        b"single_sma_positions single_ema_positions mid_positions mms_positions rank_positions ",
-        7,
-        calls,
-        differ,
-    );
-    print_lines(
-        b"wilder_rsi rsx_ss2 jurik_volty ultimate_oscillator holt_winters ",
-        12,
-        calls,
-        differ,
-    );
-    print_lines(
-        b"triple_sma_positions boll_positions boll_reverse_positions rsi_reverse_positions ",
-        17,
-        calls,
-        differ,
-    );
-    print_lines(
-        b"rolling_rank tick_mean ultimate_bands ultimate_channel ",
-        21,
-        calls,
-        differ,
-    );
 }
 
 fn main() {
@@ -309,6 +211,6 @@ fn main() {
     let place = read.place;
     let recorded = first[0];
     let left = run_all(&mut block, place, recorded, &mut calls, &mut differ);
-    print_functions(&calls, &differ);
-    print_totals(recorded, differ[0], left);
+    replay_counts::print_functions(&calls, &differ);
+    replay_counts::print_totals(recorded, differ[0], left);
 }

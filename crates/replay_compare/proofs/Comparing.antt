@@ -1,5 +1,5 @@
 -- What a comparison says where its parts are known, and the cells before a call. Assumes nothing.
-use mathlib.Core.Bool.{Bool, true, false, _&&_, true≢false}
+use mathlib.Core.Bool.{Bool, _&&_}
 use mathlib.Core.List.{List, _∷_, _++_, map}
 use mathlib.Core.Path.{_≡_, refl, sym, ap}
 use Prim.Native.Nat.{ℕ, zero, suc, _≤_}
@@ -12,13 +12,10 @@ use Rattle.calls.specs.declared.Answer.{Answer}
 use Rattle.calls.specs.Answer as answers
 use Rattle.replay_words.specs.Decides.{Decides}
 use Rattle.replay_words.specs.FloatWords.{floatWord}
+use Rattle.replay_words.proofs.Deciding.{both}
 use Rattle.replay_compare.specs.Compared.{OneOutput, ThreeOutputs, Compared}
 use Rattle.replay_record.specs.Head.{formOf, refusalOf, countOf, clearedOf}
 use Rattle.replay_record.specs.Left.{Told, Same, worked, Ended, Left}
-
-both : {P Q : Type 0} {a b : Bool} → Decides P a → Decides Q b → Decides (P × Q) (a && b)
-both {a = true} p q = record { yes = λ e. (p .yes refl, q .yes e); no = λ t. q .no (t .1) }
-both {a = false} p q = record { yes = λ e. absurd (true≢false (sym e)); no = λ t. p .no (t .0) }
 
 module _ (h : List ℕ) (r : Answer) (work : List Float) {a b : Bool} where
   -- the answer and the work slice
@@ -32,7 +29,7 @@ module _ (h : List ℕ) (r : Answer) (work : List Float) {a b : Bool} where
       }
 
   -- and the cells
-  left : (recorded told : List ℕ) → Decides (Ended h r work) a → Decides (Told (formOf h) told recorded) b
+  pub left : (recorded told : List ℕ) → Decides (Ended h r work) a → Decides (Told (formOf h) told recorded) b
       → Decides (Left h recorded r told work) (a && b)
   left recorded told x y =
       let all = both x y in
@@ -41,42 +38,31 @@ module _ (h : List ℕ) (r : Answer) (work : List Float) {a b : Bool} where
         no = λ t. all .no (t .ended, t .cells);
       }
 
+module _ (h : List ℕ) (r : Answer) (work : List Float) {same : Bool} where
   pub one-compared : {A : Type 0} (word : A → ℕ) (P : Answer → List A → List Float → Type 0) (recorded : List ℕ)
       (out : List A)
-      → P r out work → Decides (Ended h r work) a → Decides (Told (formOf h) (map word out) recorded) b
-      → Compared (OneOutput word P) h recorded (a && b)
-  one-compared word P recorded out call x y = record {
+      → P r out work → Decides (Left h recorded r (map word out) work) same
+      → Compared (OneOutput word P) h recorded same
+  one-compared word P recorded out call d = record {
     answer = r;
     told = map word out;
     work₁ = work;
     called = record { out = out; call = call; told-is = refl };
-    decides = left recorded (map word out) x y;
+    decides = d;
   }
 
   pub three-compared : (P : Answer → List Float → List Float → List Float → List Float → Type 0)
       (recorded middle upper lower : List _)
-      → P r middle upper lower work → Decides (Ended h r work) a
-      → Decides (Told (formOf h) (map floatWord middle ++ map floatWord upper ++ map floatWord lower) recorded) b
-      → Compared (ThreeOutputs P) h recorded (a && b)
-  three-compared P recorded middle upper lower call x y = record {
+      → P r middle upper lower work
+      → Decides (Left h recorded r (map floatWord middle ++ map floatWord upper ++ map floatWord lower) work) same
+      → Compared (ThreeOutputs P) h recorded same
+  three-compared P recorded middle upper lower call d = record {
     answer = r;
     told = map floatWord middle ++ map floatWord upper ++ map floatWord lower;
     work₁ = work;
     called = record { middle = middle; upper = upper; lower = lower; call = call; told-is = refl };
-    decides = left recorded (map floatWord middle ++ map floatWord upper ++ map floatWord lower) x y;
+    decides = d;
   }
-
--- a call that promises P promises Q
-pub promised : {P Q : Answer → List ℕ → List Float → Type 0} {h recorded : List ℕ} {same : Bool}
-    → ((r : Answer) (told : List ℕ) (work₁ : List Float) → P r told work₁ → Q r told work₁) → Compared P h recorded same
-    → Compared Q h recorded same
-promised more c = record {
-  answer = c .answer;
-  told = c .told;
-  work₁ = c .work₁;
-  called = more (c .answer) (c .told) (c .work₁) (c .called);
-  decides = c .decides;
-}
 
 -- ---- cells that were made and lent in part
 

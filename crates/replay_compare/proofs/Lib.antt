@@ -1,5 +1,3 @@
-pub mod CellByCell
+pub mod Agreeing
+pub mod AllSeen
 pub mod Comparing
-pub mod Complement
-pub mod Deciding
-pub mod Listed

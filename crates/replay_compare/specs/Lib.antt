@@ -1,6 +1,3 @@
--- What a record says of a call, and what it means that a call left that.
-pub mod Asked
-pub mod Cases
+-- What it means that a call left what was recorded.
 pub mod Compared
-pub mod Wholes
 pub mod inner

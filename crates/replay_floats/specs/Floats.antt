@@ -23,8 +23,8 @@ use Rattle.rules_middle.specs.Middle.{MidCall}
 use Rattle.rules_mms.specs.Mms.{MmsCall}
 use Rattle.rules_rank.specs.Rank.{RankCall}
 use Rattle.replay_words.specs.FloatWords.{floatWord}
-use Rattle.replay_compare.specs.declared.asked.Parameters.{Parameters}
-use Rattle.replay_compare.specs.Asked.{asked}
+use Rattle.replay_asked.specs.declared.Parameters.{Parameters}
+use Rattle.replay_asked.specs.Asked.{asked}
 use Rattle.replay_compare.specs.Compared.{OneOutput}
 use Rattle.replay_record.specs.Head.{outOf}
 use Rattle.replay_record.specs.Left.{untouched}

@@ -1,11 +1,10 @@
 // Recorded calls of the functions whose cells are f64. A function joins with a line in one of the functions
 // `answer_..`, one in specs/Floats.antt, and a few in the proof of that `answer_..`.
 use calls::Answer;
-use replay_compare::asked::Parameters;
+use replay_asked::Parameters;
 ghost use mathlib.Core.Path.{_≡_};
 ghost use Prim.Native.Nat.{_≤_};
-ghost use Rattle.replay_words.specs.FloatWords.{floatWord};
-ghost use Rattle.replay_compare.specs.Compared.{OneOutput, Compared};
+ghost use Rattle.replay_compare.specs.Compared.{Compared};
 ghost use Rattle.replay_record.specs.Head.{functionOf, outOf, outputRoom};
 ghost use Rattle.replay_floats.specs.Floats.{
   Plain,
@@ -102,25 +101,6 @@ fn answer_floats(
 }
 
 // Whether such a call leaves what was recorded.
-fn floats_left(
-    head: &[u64; 18],
-    p: Parameters,
-    first: &[f64],
-    second: &[f64],
-    third: &[f64],
-    recorded: &[u64],
-    out: &mut [f64],
-    work: &mut [f64],
-) -> bool
-    ensures { λ r. ⌜ (IsFloats (p .function) → Compared (OneOutput floatWord (FloatsCall p (now (first .entry))
-        (now (second .entry)) (now (third .entry)) (now (out .entry)) (now (work .entry)))) (now (head .entry))
-        (now (recorded .entry)) r) ⌝ }
-{
-    let answer = answer_floats(p, first, second, third, out, work);
-    let ended = replay_compare::same_end(head, answer, work);
-    ended & replay_compare::same_floats(head[1], out, recorded)
-}
-
 pub fn floats_agree(
     head: &[u64; 18],
     first: &[f64],
@@ -138,14 +118,8 @@ pub fn floats_agree(
     let mut out = [replay_words::floats::float_of(
         replay_record::UNTOUCHED,
     ); replay_record::OUTPUT_ROOM];
-    floats_left(
-        head,
-        replay_compare::asked::parameters_of(head),
-        first,
-        second,
-        third,
-        recorded,
-        &mut out[..cells],
-        work,
-    )
+    let lent = &mut out[..cells];
+    let p = replay_asked::parameters_of(head);
+    let answer = answer_floats(p, first, second, third, lent, work);
+    replay_cells::floats_left(head, answer, lent, recorded, work)
 }

@@ -1,6 +1,7 @@
-// What a record says of a call: how many calls differ, and what a work cell must hold.
+// What a record says of a call: the kind of its function, how many calls differ, and what a work cell must hold.
 ghost use mathlib.Core.Path.{_≡_};
 ghost use mathlib.Core.Bool.{cond};
+ghost use Rattle.replay_record.specs.Kind.{kindOf};
 ghost use Rattle.replay_record.specs.Left.{workWord};
 
 // What every output and work cell holds before a call: the pattern of -987654321.125, and a whole number where cells
@@ -17,6 +18,32 @@ pub const UNTOUCHED_PLACE: u64 = 0xffff_ffff_c521_974f;
 pub const OUTPUT_ROOM: usize = 65537;
 
 pub const WORK_ROOM: usize = 524296;
+
+// The cells of a function: f64, i32, u64, i64, or f64 in three outputs.
+pub enum Kind {
+    Floats,
+    Shorts,
+    Places,
+    Wholes,
+    Three,
+}
+
+// The kind of the function that has a number.
+pub fn kind_of(function: u64) -> Kind
+    ensures { λ r. ⌜ r ≡ kindOf function ⌝ }
+{
+    if function < 17 {
+        Kind::Floats
+    } else if function < 21 {
+        Kind::Shorts
+    } else if function < 22 {
+        Kind::Places
+    } else if function < 23 {
+        Kind::Wholes
+    } else {
+        Kind::Three
+    }
+}
 
 // How often a call differs.
 pub fn misses(same: bool) -> u64

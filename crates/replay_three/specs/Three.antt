@@ -8,8 +8,8 @@ use lib.Ieee.{Float}
 use Rattle.calls.specs.declared.Answer.{Answer}
 use Rattle.bands.specs.Bands.{UltimateBandsCall}
 use Rattle.channel_widths.specs.Channel.{ChannelCall}
-use Rattle.replay_compare.specs.declared.asked.Parameters.{Parameters}
-use Rattle.replay_compare.specs.Asked.{asked}
+use Rattle.replay_asked.specs.declared.Parameters.{Parameters}
+use Rattle.replay_asked.specs.Asked.{asked}
 use Rattle.replay_compare.specs.Compared.{ThreeOutputs}
 use Rattle.replay_record.specs.Head.{outOf, upperOf, lowerOf}
 use Rattle.replay_record.specs.Left.{untouched}

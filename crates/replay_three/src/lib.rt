@@ -1,8 +1,8 @@
 // Recorded calls of the functions that have three outputs. A function joins with a line in `answer_three`, one in
 // specs/Three.antt, and a few in the proof of `answer_three`.
 use calls::Answer;
-use replay_compare::asked::Parameters;
-ghost use Rattle.replay_compare.specs.Compared.{ThreeOutputs, Compared};
+use replay_asked::Parameters;
+ghost use Rattle.replay_compare.specs.Compared.{Compared};
 ghost use Rattle.replay_record.specs.Head.{Rooms, functionOf};
 ghost use Rattle.replay_three.specs.Three.{IsThree, ThreeCall, ThreeCalled};
 
@@ -39,27 +39,6 @@ fn answer_three(
 }
 
 // Whether such a call leaves what was recorded.
-fn three_left(
-    head: &[u64; 18],
-    p: Parameters,
-    first: &[f64],
-    second: &[f64],
-    third: &[f64],
-    recorded: &[u64],
-    middle: &mut [f64],
-    upper: &mut [f64],
-    lower: &mut [f64],
-    work: &mut [f64],
-) -> bool
-    ensures { λ r. ⌜ (IsThree (p .function) → Compared (ThreeOutputs (ThreeCall p (now (first .entry))
-        (now (second .entry)) (now (third .entry)) (now (middle .entry)) (now (upper .entry)) (now (lower .entry))
-        (now (work .entry)))) (now (head .entry)) (now (recorded .entry)) r) ⌝ }
-{
-    let answer = answer_three(p, first, second, third, middle, upper, lower, work);
-    let ended = replay_compare::same_end(head, answer, work);
-    ended & replay_compare::same_bands(head[1], middle, upper, lower, recorded)
-}
-
 pub fn three_agree(
     head: &[u64; 18],
     first: &[f64],
@@ -77,19 +56,13 @@ pub fn three_agree(
     let two = head[12] as usize;
     let three = head[13] as usize;
     let untouched = replay_words::floats::float_of(replay_record::UNTOUCHED);
-    let mut middle = [untouched; replay_record::OUTPUT_ROOM];
-    let mut upper = [untouched; replay_record::OUTPUT_ROOM];
-    let mut lower = [untouched; replay_record::OUTPUT_ROOM];
-    three_left(
-        head,
-        replay_compare::asked::parameters_of(head),
-        first,
-        second,
-        third,
-        recorded,
-        &mut middle[..one],
-        &mut upper[..two],
-        &mut lower[..three],
-        work,
-    )
+    let mut middle_room = [untouched; replay_record::OUTPUT_ROOM];
+    let mut upper_room = [untouched; replay_record::OUTPUT_ROOM];
+    let mut lower_room = [untouched; replay_record::OUTPUT_ROOM];
+    let middle = &mut middle_room[..one];
+    let upper = &mut upper_room[..two];
+    let lower = &mut lower_room[..three];
+    let p = replay_asked::parameters_of(head);
+    let answer = answer_three(p, first, second, third, middle, upper, lower, work);
+    replay_cells::bands_left(head, answer, middle, upper, lower, recorded, work)
 }

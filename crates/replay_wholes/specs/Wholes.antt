@@ -13,11 +13,11 @@ use Rattle.rules_bands_bar.specs.BollReverse.{BollReverseCall}
 use Rattle.rules_rank.specs.RollingRank.{RollingRankCall}
 use Rattle.rules_rsi_bar.specs.RsiReverse.{RsiReverseCall}
 use Rattle.rules_triple_bar.specs.Triple.{TripleCall}
-use Rattle.replay_compare.specs.declared.asked.Parameters.{Parameters}
-use Rattle.replay_compare.specs.Asked.{asked}
+use Rattle.replay_asked.specs.declared.Parameters.{Parameters}
+use Rattle.replay_asked.specs.Asked.{asked}
 use Rattle.replay_compare.specs.Compared.{OneOutput}
 use Rattle.replay_record.specs.Head.{outOf}
-use Rattle.replay_compare.specs.Wholes.{wholeWord}
+use Rattle.replay_cells.specs.Wholes.{wholeWord}
 
 -- the numbers of the functions whose cells are i32, u64 and i64
 abbrev pub IsShorts : ℕ → Type 0

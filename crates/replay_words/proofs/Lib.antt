@@ -1,4 +1,5 @@
 pub mod Blocks
+pub mod Deciding
 pub mod FloatWords
 pub mod Texts
 pub mod Words

@@ -11,7 +11,7 @@ use Rattle.replay.proofs.run_rest.Tie as tie
 run-with-requires : tie.Need-run-with-requires
 run-with-requires c κs =
     let count = c .before .before .before .words-after in
-    rw (length-take-le {A = ℕ} (count .result) (replicate 417 0) (omega arith)) (count .ensures (omega arith))
+    rw (length-take-le {A = ℕ} (count .result) (replicate 417 0) (omega arith)) (count .ensures .some (omega arith))
 
 pub run-rest-spec : {M : Type 1} → statement M
 run-rest-spec =

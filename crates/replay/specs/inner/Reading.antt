@@ -8,22 +8,9 @@ use lib.Ieee.{Float}
 use Rattle.replay_words.specs.declared.stream.Place.{Place}
 use Rattle.replay.specs.declared.Step.{Step}
 use Rattle.replay.specs.declared.Step.the-variants.{Run, Stop}
-use Rattle.replay_record.specs.Head.{
-  functionOf,
-  formOf,
-  firstOf,
-  secondOf,
-  thirdOf,
-  workOf,
-  barsOf,
-  cellsOf,
-  outputRoom,
-  workRoom,
-  Within,
-  Rooms,
-}
+use Rattle.replay_record.specs.Head.{functionOf, firstOf, secondOf, thirdOf, workOf, Rooms}
 use Rattle.replay_record.specs.Left.{untouched}
-use Rattle.replay_calls.specs.Called.{Called}
+use Rattle.replay.specs.Called.{Called}
 use Rattle.replay.specs.Records.{Ran, Stood}
 
 -- all series lie in one slice of n cells, the second and the third from an index on
@@ -39,21 +26,6 @@ abbrev pub InParts : List ℕ → List Float → ℕ → ℕ → List ℕ → Bo
 InParts h series second third recorded same =
     Called h (take (firstOf h) series) (take (secondOf h) (drop second series)) (take (thirdOf h) (drop third series))
     (replicate (workOf h) untouched) recorded same
-
--- a record whose form is known, with as many words as it has
-pub record Short (h : List ℕ) (n : ℕ) : Type 0 where
-  pub form : formOf h ≡ 0
-  pub within : Within 60 79 512 h
-  pub words : n ≡ barsOf h + cellsOf h
-
-pub record Long (h : List ℕ) (n : ℕ) : Type 0 where
-  pub form : formOf h ≡ 1
-  pub within : Within outputRoom outputRoom workRoom h
-  pub words : n ≡ 1
-
-pub data Given (h : List ℕ) (n : ℕ) : Type 0 where
-  short : Short h n → Given h n
-  long : Long h n → Given h n
 
 -- a record with this head was run
 pub record RanRest (h unused block : List ℕ) (function differs : ℕ) (place : Place) : Type 0 where

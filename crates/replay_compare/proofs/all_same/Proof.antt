@@ -1,7 +1,7 @@
 -- `all_same` meets its contract: by rule the digest decides, written out the words do. Assumes nothing.
 use borrow.Author.Needs.{needs}
-use Rattle.replay_compare.proofs.Deciding.{equal}
-use Rattle.replay_compare.proofs.CellByCell.{by-words, no-words, by-digest, written-out, by-rule}
+use Rattle.replay_words.proofs.Deciding.{equal}
+use Rattle.replay_compare.proofs.AllSeen.{by-words, no-words, by-digest, written-out, by-rule}
 use Rattle.replay_compare.proofs.all_same.Statement.{statement}
 use Rattle.replay_compare.proofs.all_same.Tie as tie
 

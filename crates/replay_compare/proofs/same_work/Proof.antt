@@ -8,7 +8,7 @@ use lib.ListN.{length}
 use lib.Ieee.{binary64, ofBits}
 use Rattle.cells.specs.Line.{line}
 use Rattle.replay_record.specs.Left.{worked}
-use Rattle.replay_compare.proofs.Deciding.{Agreeing, none-agrees, one-agrees, all-agree, one-differs}
+use Rattle.replay_compare.proofs.Agreeing.{Agreeing, none-agrees, one-agrees, all-agree, one-differs}
 use Rattle.replay_compare.proofs.same_work.Statement.{statement}
 use Rattle.replay_compare.proofs.same_work.Tie as tie
 

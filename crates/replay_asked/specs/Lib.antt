@@ -1,0 +1,4 @@
+-- What a record asks for.
+pub mod Asked
+pub mod Cases
+pub mod inner

@@ -1,2 +1,0 @@
--- What comparing the call of a record comes to.
-pub mod Called

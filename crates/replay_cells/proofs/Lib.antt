@@ -1,0 +1,2 @@
+pub mod CellByCell
+pub mod Complement

@@ -1,0 +1,3 @@
+-- The words that are recorded of cells.
+pub mod Wholes
+pub mod inner

@@ -1,0 +1,3 @@
+-- How calls are counted.
+pub mod Tallied
+pub mod inner
