@@ -5,6 +5,7 @@
 use replay_record::Kind;
 use replay_words::stream::Place;
 ghost use mathlib.Core.Path.{_≡_};
+ghost use Prim.Native.Nat.{_<_};
 ghost use lib.ListN.{length};
 ghost use lib.Seq.{slice};
 ghost use Rattle.replay_record.specs.Head.{Rooms};
@@ -13,6 +14,7 @@ ghost use Rattle.replay.specs.Called.{Called};
 ghost use Rattle.replay.specs.Records.{WrittenOut, ByRule, Ran};
 ghost use Rattle.replay.specs.Counts.{Next, Counts};
 ghost use Rattle.replay.specs.inner.Reading.{Parts, InParts, Rest};
+ghost use Rattle.replay.specs.inner.Names.{Named};
 
 // What the next record came to: a call that differs 0 times or once, and the place after it.
 enum Step {
@@ -193,6 +195,84 @@ fn run_all(
     left
 }
 
+// Where the name that begins at an index ends: names follow each other, each with a space at its end. No name has more
+// than 64 bytes.
+fn name_end(names: &[u8], start: usize) -> usize
+    requires { ⌜ start < length (now names) ⌝ }
+    ensures { λ r. ⌜ Named (now (names .entry)) start r ⌝ }
+{
+    let mut end = start + 1;
+    while end < names.len() {
+        if names[end - 1] == b' ' {
+            return end;
+        }
+        if end - start > 63 {
+            return end;
+        }
+        end += 1;
+    }
+    end
+}
+
+// The lines of functions that have their numbers one after another.
+fn print_lines(names: &[u8], first: usize, calls: &[u64; 25], differ: &[u64; 25]) {
+    let mut at = 0;
+    let mut function = first;
+    while function < 25 {
+        if at >= names.len() {
+            return;
+        }
+        let end = name_end(names, at);
+        replay_lines::print_line(&names[at..end], calls[function], differ[function]);
+        at = end;
+        function += 1;
+    }
+}
+
+// The lines of all functions, in the order of their numbers.
+fn print_functions(calls: &[u64; 25], differ: &[u64; 25]) {
+    print_lines(
+        b"sma ema exponential_smoothing double_sma_positions ultimate_smoother true_range ",
+        1,
+        calls,
+        differ,
+    );
+    print_lines(
+        b"single_sma_positions single_ema_positions mid_positions mms_positions rank_positions ",
+        7,
+        calls,
+        differ,
+    );
+    print_lines(
+        b"wilder_rsi rsx_ss2 jurik_volty ultimate_oscillator holt_winters ",
+        12,
+        calls,
+        differ,
+    );
+    print_lines(
+        b"triple_sma_positions boll_positions boll_reverse_positions rsi_reverse_positions ",
+        17,
+        calls,
+        differ,
+    );
+    print_lines(
+        b"rolling_rank tick_mean ultimate_bands ultimate_channel ",
+        21,
+        calls,
+        differ,
+    );
+}
+
+// The last line.
+fn print_totals(records: u64, differ: u64, left: u64) {
+    io::print_decimal(1, records);
+    io::write_all(1, b" records, ");
+    io::print_decimal(1, differ);
+    io::write_all(1, b" differ, ");
+    io::print_decimal(1, left);
+    io::write_all(1, b" not run\n");
+}
+
 fn main() {
     let mut block = [0u8; 17408];
     let mut calls = [0u64; 25];
@@ -211,6 +291,6 @@ fn main() {
     let place = read.place;
     let recorded = first[0];
     let left = run_all(&mut block, place, recorded, &mut calls, &mut differ);
-    replay_counts::print_functions(&calls, &differ);
-    replay_counts::print_totals(recorded, differ[0], left);
+    print_functions(&calls, &differ);
+    print_totals(recorded, differ[0], left);
 }

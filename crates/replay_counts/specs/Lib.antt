@@ -1,3 +1,2 @@
 -- How calls are counted.
 pub mod Tallied
-pub mod inner

@@ -3,8 +3,8 @@ use Prim.Native.Nat.{_-_}
 use native.Mathlib.Omega.{arith}
 use borrow.Author.Needs.{needs}
 use lib.ListN.{length-take, length-drop}
-use Rattle.replay_counts.proofs.print_lines.Statement.{statement}
-use Rattle.replay_counts.proofs.print_lines.Tie as tie
+use Rattle.replay.proofs.print_lines.Statement.{statement}
+use Rattle.replay.proofs.print_lines.Tie as tie
 
 abbrev Inv-loop : tie.InvT-loop
 Inv-loop names first calls differ at₀ function₀ at function = Unit

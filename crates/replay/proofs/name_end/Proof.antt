@@ -2,9 +2,9 @@
 use Prim.Native.Nat.{_-_}
 use borrow.Author.Needs.{needs}
 use lib.ListN.{length}
-use Rattle.replay_counts.specs.inner.Names.{Named}
-use Rattle.replay_counts.proofs.name_end.Statement.{statement}
-use Rattle.replay_counts.proofs.name_end.Tie as tie
+use Rattle.replay.specs.inner.Names.{Named}
+use Rattle.replay.proofs.name_end.Statement.{statement}
+use Rattle.replay.proofs.name_end.Tie as tie
 
 abbrev Inv-loop : tie.InvT-loop
 Inv-loop names start end₀ end = Named names start end
