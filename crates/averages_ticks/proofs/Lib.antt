@@ -1,4 +1,2 @@
 pub mod Causal
-pub mod Share
 pub mod Ticks
-pub mod Whole

@@ -1,9 +1,9 @@
 -- `half_up` meets its contract: the product is the whole share, or one too many. Assumes nothing.
 use native.Mathlib.Omega.{arith}
 use borrow.Author.Needs.{needs}
-use Rattle.averages_ticks.proofs.Share.{product-fits, back-fits, one-too-many, whole-already}
-use Rattle.averages_ticks.proofs.half_up.Statement.{statement}
-use Rattle.averages_ticks.proofs.half_up.Tie as tie
+use Rattle.averages_ticks_bar.proofs.Share.{product-fits, back-fits, one-too-many, whole-already}
+use Rattle.averages_ticks_bar.proofs.half_up.Statement.{statement}
+use Rattle.averages_ticks_bar.proofs.half_up.Tie as tie
 
 pub half-up-spec : {M : Type 1} → statement M
 half-up-spec =

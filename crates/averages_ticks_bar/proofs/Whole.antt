@@ -10,7 +10,7 @@ use lib.Signed.{ltZ, nonNeg}
 use mir.Syntax.{w64}
 use mir.Val.{SFits, ofZ, toZ}
 use mir.ValLaws.{toZ-ofZ}
-use Rattle.averages_ticks.specs.TickMean.{toTick}
+use Rattle.averages_ticks_bar.specs.ToTick.{toTick}
 
 pub in-i64 : (z : ℤ) → natAbs z ≤ 2 ^ 40 → SFits w64 z
 in-i64 (pos n) h = record { sfits = omega arith }

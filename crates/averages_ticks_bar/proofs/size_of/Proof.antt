@@ -1,9 +1,9 @@
 -- `size_of` meets its contract. Assumes nothing.
 use native.Mathlib.Omega.{arith}
 use lib.IntN.{pos, natAbs}
-use Rattle.averages_ticks.proofs.Whole.{in-i64, kept, below-zero, not-below}
-use Rattle.averages_ticks.proofs.size_of.Statement.{statement}
-use Rattle.averages_ticks.proofs.size_of.Tie as tie
+use Rattle.averages_ticks_bar.proofs.Whole.{in-i64, kept, below-zero, not-below}
+use Rattle.averages_ticks_bar.proofs.size_of.Statement.{statement}
+use Rattle.averages_ticks_bar.proofs.size_of.Tie as tie
 
 sub-result : tie.Need-sub-result
 sub-result c =

@@ -4,7 +4,7 @@ use mathlib.Core.Path.{_≡_}
 use Prim.Native.Nat.{ℕ, _+_, _-_, _*_, _/_, _%_, _^_, _<_, _≤_}
 use native.Mathlib.Nat.{mod-lt, div-add-mod', mul-le-mul-left, mul-le-mul-right, lt-of-mul-lt-mul-right}
 use native.Mathlib.Omega.{arith}
-use Rattle.averages_ticks.specs.inner.Share.{Shared}
+use Rattle.averages_ticks_bar.specs.inner.Share.{Shared}
 
 -- if a / d is below q + 1, and m not much more than k / d, then a * m / k is below q + 2
 below-two : (a d m k q : ℕ) → a < (q + 1) * d → m * d ≤ k + d → a < k → a * m < (q + 2) * k

@@ -3,8 +3,8 @@ use Prim.Native.Nat.{_*_}
 use native.Mathlib.Nat.{div-le-self}
 use native.Mathlib.Omega.{arith}
 use borrow.Author.Needs.{needs}
-use Rattle.averages_ticks.proofs.share_of.Statement.{statement}
-use Rattle.averages_ticks.proofs.share_of.Tie as tie
+use Rattle.averages_ticks_bar.proofs.share_of.Statement.{statement}
+use Rattle.averages_ticks_bar.proofs.share_of.Tie as tie
 
 pub share-of-spec : {M : Type 1} → statement M
 share-of-spec =

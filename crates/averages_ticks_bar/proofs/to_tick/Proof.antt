@@ -4,12 +4,12 @@ use Prim.Native.Nat.{ℕ, _+_, _*_, _/_, _^_, _≤_}
 use native.Mathlib.Nat.{div-le-self}
 use native.Mathlib.Omega.{arith}
 use lib.IntN.{pos, negℤ, natAbs, +ℤ-idl}
-use Rattle.averages_ticks.specs.inner.Share.{Shared}
-use Rattle.averages_ticks.proofs.Share.{sum-near}
+use Rattle.averages_ticks_bar.specs.inner.Share.{Shared}
+use Rattle.averages_ticks_bar.proofs.Share.{sum-near}
 use Rattle.rounding_laws.proofs.Integers.{abs-neg}
-use Rattle.averages_ticks.proofs.Whole.{in-i64, kept, tick-below, tick-above}
-use Rattle.averages_ticks.proofs.to_tick.Statement.{statement}
-use Rattle.averages_ticks.proofs.to_tick.Tie as tie
+use Rattle.averages_ticks_bar.proofs.Whole.{in-i64, kept, tick-below, tick-above}
+use Rattle.averages_ticks_bar.proofs.to_tick.Statement.{statement}
+use Rattle.averages_ticks_bar.proofs.to_tick.Tie as tie
 
 near : {size n share : ℕ} → Shared size n share → size ≤ 2 ^ 40
 near h = let l = sum-near h in omega arith

@@ -1,9 +1,9 @@
 -- `step` meets its contract: the same operations in the same order. Assumes nothing.
 use mathlib.Core.Path.{refl}
 use lib.Ieee.{ofBits}
-use Rattle.smoother.specs.Smoother.{formula}
-use Rattle.smoother.proofs.step.Statement.{statement}
-use Rattle.smoother.proofs.step.Tie as tie
+use Rattle.smoother_bar.specs.Formula.{formula}
+use Rattle.smoother_bar.proofs.step.Statement.{statement}
+use Rattle.smoother_bar.proofs.step.Tie as tie
 
 pub step-spec : {M : Type 1} → statement M
 step-spec =

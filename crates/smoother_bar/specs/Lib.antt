@@ -1,0 +1,2 @@
+-- One cell of the ultimate smoother.
+pub mod Formula
