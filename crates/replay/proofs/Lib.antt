@@ -1,3 +1,4 @@
 pub mod ByKind
 pub mod Parts
 pub mod Running
+pub mod Work

@@ -14,7 +14,6 @@ use Rattle.cells.specs.Written.{Writing}
 use Rattle.cells.proofs.Written.{read-back}
 use Rattle.replay_record.specs.Head.{firstOf, secondOf, thirdOf, workOf, barsOf}
 use Rattle.replay_record.specs.Left.{floats, untouched}
-use Rattle.replay_compare.proofs.Comparing.{take-replicate}
 use Rattle.replay.specs.Called.{Called}
 use Rattle.replay.specs.Records.{WrittenOut}
 use Rattle.replay.specs.inner.Reading.{InParts}
@@ -55,17 +54,15 @@ module _ {n : ℕ} {f : Line} {old now : List Float} (w : Writing n f old now) (
   cut {h} second third a b c p =
       rw (first-is (firstOf h) a, part-is second (secondOf h) b, part-is third (thirdOf h) c) at p
 
--- the parts as the code cuts them, and the work slice as it lends it
-pub in-parts : (n : ℕ) (x : Float) (h : List ℕ) (series : List Float) (second third : ℕ) {recorded : List ℕ}
-    {same : Bool}
-    → x ≡ untouched → workOf h ≤ n
+-- the parts as the code cuts them
+pub in-parts : (h : List ℕ) (series : List Float) (second third : ℕ) {recorded : List ℕ} {same : Bool}
     → Called h (take (firstOf h) series) (take (second + secondOf h - second) (drop second series))
-    (take (third + thirdOf h - third) (drop third series)) (take (workOf h) (replicate n x)) recorded same
+    (take (third + thirdOf h - third) (drop third series)) (replicate (workOf h) untouched) recorded same
     → InParts h series second third recorded same
-in-parts n x h series second third e room c =
+in-parts h series second third c =
     let two : second + secondOf h - second ≡ secondOf h = omega arith in
     let three : third + thirdOf h - third ≡ thirdOf h = omega arith in
-    rw (two, three, take-replicate n (workOf h) x room, e) at c
+    rw (two, three) at c
 
 -- a record that is written out: the series' words stand first, and after them all the others
 pub cut-written : (h words : List ℕ) {old now : List Float} {same : Bool}

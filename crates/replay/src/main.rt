@@ -6,9 +6,10 @@ use replay_record::Kind;
 use replay_words::stream::Place;
 ghost use mathlib.Core.Path.{_≡_};
 ghost use Prim.Native.Nat.{_<_};
-ghost use lib.ListN.{length};
+ghost use lib.ListN.{length, replicate};
 ghost use lib.Seq.{slice};
-ghost use Rattle.replay_record.specs.Head.{Rooms};
+ghost use Rattle.replay_record.specs.Head.{Rooms, workOf};
+ghost use Rattle.replay_record.specs.Left.{untouched};
 ghost use Rattle.replay_asked.specs.inner.Given.{Short, Long, Given};
 ghost use Rattle.replay.specs.Called.{Called};
 ghost use Rattle.replay.specs.Records.{WrittenOut, ByRule, Ran};
@@ -49,8 +50,37 @@ fn compare(
     }
 }
 
+// The call with a work slice whose cells hold what they must before a call.
+fn with_work(
+    head: &[u64; 18],
+    first: &[f64],
+    second: &[f64],
+    third: &[f64],
+    recorded: &[u64],
+    work: &mut [f64],
+) -> bool
+    requires { ⌜ Rooms (now head) ⌝ }
+    ensures { λ r. ⌜ Called (now (head .entry)) (now (first .entry)) (now (second .entry)) (now (third .entry))
+        (replicate (length (now (work .entry))) untouched) (now (recorded .entry)) r ⌝ }
+{
+    let room = work.len();
+    cells::fill(work, room, replay_record::UNTOUCHED_FLOAT);
+    compare(head, first, second, third, recorded, work)
+}
+
+// Whether the call of a record leaves what was recorded.
+fn agrees(head: &[u64; 18], first: &[f64], second: &[f64], third: &[f64], recorded: &[u64]) -> bool
+    requires { ⌜ Rooms (now head) ⌝ }
+    ensures { λ r. ⌜ Called (now (head .entry)) (now (first .entry)) (now (second .entry)) (now (third .entry))
+        (replicate (workOf (now (head .entry))) untouched) (now (recorded .entry)) r ⌝ }
+{
+    let room = head[14] as usize;
+    let mut work = [0.0; replay_record::WORK_ROOM];
+    with_work(head, first, second, third, recorded, &mut work[..room])
+}
+
 // Whether a call leaves what was recorded, with all its series in one slice. The second and the third begin at an
-// index. The cells of the work slice hold what they must before a call.
+// index.
 fn parts_agree(
     head: &[u64; 18],
     series: &[f64],
@@ -64,17 +94,12 @@ fn parts_agree(
     let one = head[2] as usize;
     let two = second + head[3] as usize;
     let three = third + head[4] as usize;
-    let room = head[14] as usize;
-    let mut work = [replay_words::floats::float_of(
-        replay_record::UNTOUCHED,
-    ); replay_record::WORK_ROOM];
-    compare(
+    agrees(
         head,
         &series[..one],
         &series[second..two],
         &series[third..three],
         recorded,
-        &mut work[..room],
     )
 }
 

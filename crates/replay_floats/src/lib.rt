@@ -115,9 +115,7 @@ pub fn floats_agree(
         (now (recorded .entry)) r) ⌝ }
 {
     let cells = head[11] as usize;
-    let mut out = [replay_words::floats::float_of(
-        replay_record::UNTOUCHED,
-    ); replay_record::OUTPUT_ROOM];
+    let mut out = [replay_record::UNTOUCHED_FLOAT; replay_record::OUTPUT_ROOM];
     let lent = &mut out[..cells];
     let p = replay_asked::parameters_of(head);
     let answer = answer_floats(p, first, second, third, lent, work);

@@ -4,8 +4,10 @@ ghost use mathlib.Core.Bool.{cond};
 ghost use Rattle.replay_record.specs.Kind.{kindOf};
 ghost use Rattle.replay_record.specs.Left.{workWord};
 
-// What every output and work cell holds before a call: the pattern of -987654321.125, and a whole number where cells
-// are.
+// What every output and work cell holds before a call: -987654321.125, which has this pattern, and a whole number where
+// cells are.
+pub const UNTOUCHED_FLOAT: f64 = -987654321.125;
+
 pub const UNTOUCHED: u64 = 0xc1cd_6f34_5890_0000;
 
 pub const UNTOUCHED_WHOLE: i64 = -987654321;

@@ -55,10 +55,9 @@ pub fn three_agree(
     let one = head[11] as usize;
     let two = head[12] as usize;
     let three = head[13] as usize;
-    let untouched = replay_words::floats::float_of(replay_record::UNTOUCHED);
-    let mut middle_room = [untouched; replay_record::OUTPUT_ROOM];
-    let mut upper_room = [untouched; replay_record::OUTPUT_ROOM];
-    let mut lower_room = [untouched; replay_record::OUTPUT_ROOM];
+    let mut middle_room = [replay_record::UNTOUCHED_FLOAT; replay_record::OUTPUT_ROOM];
+    let mut upper_room = [replay_record::UNTOUCHED_FLOAT; replay_record::OUTPUT_ROOM];
+    let mut lower_room = [replay_record::UNTOUCHED_FLOAT; replay_record::OUTPUT_ROOM];
     let middle = &mut middle_room[..one];
     let upper = &mut upper_room[..two];
     let lower = &mut lower_room[..three];

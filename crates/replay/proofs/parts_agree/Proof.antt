@@ -3,32 +3,14 @@ use mathlib.Core.Path.{sym}
 use native.Mathlib.Omega.{arith}
 use borrow.Author.Needs.{needs}
 use lib.Seq.{length-take-le}
-use Rattle.replay_record.specs.Head.{workRoom}
-use Rattle.replay_compare.proofs.Comparing.{part-within, part-long}
 use Rattle.replay.proofs.Parts.{in-parts}
 use Rattle.replay.proofs.parts_agree.Statement.{statement}
 use Rattle.replay.proofs.parts_agree.Tie as tie
 
-prefix-work : tie.Need-array-borrow-prefix-work
-prefix-work c =
-    let x = c .before .before .before in
-    part-within workRoom _ (x .float-of .result)
-    (x .before .before .before .before .before .before .before .pre .rooms .work)
-
-slice-work : tie.Need-slice-aggregate-compare-2
-slice-work c =
-    let x = c .before .before .before .before in
-    part-long workRoom _ (x .float-of .result)
-    (x .before .before .before .before .before .before .before .pre .rooms .work)
-
 returns : tie.Need-returns
 returns c =
-    let called = c .before in
-    let x = called .before .before .before .before .before in
-    let at-start = x .before .before .before .before .before .before .before in
-    let a = at-start .args in
-    in-parts workRoom (x .float-of .result) (a .head .now) (a .series .now) (a .second) (a .third)
-    (x .float-of .ensures) (at-start .pre .rooms .work) (called .compare .ensures)
+    let a = c .before .before .before .before .before .before .before .before .before .args in
+    in-parts (a .head .now) (a .series .now) (a .second) (a .third) (c .agrees .ensures)
 
 pub parts-agree-spec : {M : Type 1} → statement M
 parts-agree-spec =
@@ -39,19 +21,15 @@ parts-agree-spec =
     (λ c. search needs)  -- add-two
     (λ c. search needs)  -- element-copy-out-three
     (λ c. search needs)  -- add-three
-    (λ c. search needs)  -- element-copy-out-room
-    (λ c κs. search needs)  -- float-of-requires
-    (λ c. sym (length-take-le _ _ (omega arith)))  -- slice-aggregate-compare
-    (λ c. search needs)  -- mul-compare
-    (λ c. search needs)  -- sub-compare
-    (λ c. search needs)  -- part-compare-start
-    (λ c. search needs)  -- part-compare-end
-    (λ c. search needs)  -- mul-compare-2
-    (λ c. search needs)  -- sub-compare-2
-    (λ c. search needs)  -- part-compare-start-2
-    (λ c. search needs)  -- part-compare-end-2
-    prefix-work
-    slice-work
-    (λ c κs. search needs)  -- compare-requires
+    (λ c. sym (length-take-le _ _ (omega arith)))  -- slice-aggregate-agrees
+    (λ c. search needs)  -- mul-agrees
+    (λ c. search needs)  -- sub-agrees
+    (λ c. search needs)  -- part-agrees-start
+    (λ c. search needs)  -- part-agrees-end
+    (λ c. search needs)  -- mul-agrees-2
+    (λ c. search needs)  -- sub-agrees-2
+    (λ c. search needs)  -- part-agrees-start-2
+    (λ c. search needs)  -- part-agrees-end-2
+    (λ c κs. search needs)  -- agrees-requires
     returns
     )

@@ -17,6 +17,11 @@ returns c =
     (call .answer-places .ensures) in
     λ l. one-compared _ _ _ _ _ _ _ (called l) (left .places-left .ensures)
 
+same-length : tie.Need-same-length
+same-length c =
+    let call = c .before .before .before .before .before .before .before .before in
+    call .answer-places .kept .1 .1 .1 .0
+
 pub places-agree-spec : {M : Type 1} → statement M
 places-agree-spec =
     tie.close
@@ -26,9 +31,9 @@ places-agree-spec =
     (λ c. part-within outputRoom _ (wholeWord untouchedWhole) (c .before .before .before .before .pre))
     -- slice-aggregate-lent
     (λ c. part-long outputRoom _ (wholeWord untouchedWhole) (c .before .before .before .before .before .pre))
-    (λ c κs. search needs)  -- parameters-of-requires
-    (λ c κs. search needs)  -- answer-places-requires
-    (λ c κs. search needs)  -- places-left-requires
-    (λ c. search needs)  -- same-length
+    (λ c κs. tt)  -- parameters-of-requires
+    (λ c κs. tt)  -- answer-places-requires
+    (λ c κs. tt)  -- places-left-requires
+    same-length
     returns
     )

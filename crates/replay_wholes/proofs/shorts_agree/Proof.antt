@@ -16,6 +16,11 @@ returns c =
     (call .answer-shorts .ensures) in
     λ l. one-compared _ _ _ _ _ _ _ (called l) (left .shorts-left .ensures)
 
+same-length : tie.Need-same-length
+same-length c =
+    let call = c .before .before .before .before .before .before .before in
+    call .answer-shorts .kept .1 .1 .1 .0
+
 pub shorts-agree-spec : {M : Type 1} → statement M
 shorts-agree-spec =
     tie.close
@@ -25,9 +30,9 @@ shorts-agree-spec =
     (λ c. part-within outputRoom _ untouchedWhole (c .before .before .before .before .pre))
     -- slice-aggregate-lent
     (λ c. part-long outputRoom _ untouchedWhole (c .before .before .before .before .before .pre))
-    (λ c κs. search needs)  -- parameters-of-requires
-    (λ c κs. search needs)  -- answer-shorts-requires
-    (λ c κs. search needs)  -- shorts-left-requires
-    (λ c. search needs)  -- same-length
+    (λ c κs. tt)  -- parameters-of-requires
+    (λ c κs. tt)  -- answer-shorts-requires
+    (λ c κs. tt)  -- shorts-left-requires
+    same-length
     returns
     )

@@ -16,6 +16,11 @@ returns c =
     (call .answer-wholes .ensures) in
     λ l. one-compared _ _ _ _ _ _ _ (called l) (left .wholes-left .ensures)
 
+same-length : tie.Need-same-length
+same-length c =
+    let call = c .before .before .before .before .before .before .before in
+    call .answer-wholes .kept .1 .1 .1 .0
+
 pub wholes-agree-spec : {M : Type 1} → statement M
 wholes-agree-spec =
     tie.close
@@ -25,9 +30,9 @@ wholes-agree-spec =
     (λ c. part-within outputRoom _ untouchedWhole (c .before .before .before .before .pre))
     -- slice-aggregate-lent
     (λ c. part-long outputRoom _ untouchedWhole (c .before .before .before .before .before .pre))
-    (λ c κs. search needs)  -- parameters-of-requires
-    (λ c κs. search needs)  -- answer-wholes-requires
-    (λ c κs. search needs)  -- wholes-left-requires
-    (λ c. search needs)  -- same-length
+    (λ c κs. tt)  -- parameters-of-requires
+    (λ c κs. tt)  -- answer-wholes-requires
+    (λ c κs. tt)  -- wholes-left-requires
+    same-length
     returns
     )
