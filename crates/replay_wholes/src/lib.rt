@@ -3,7 +3,7 @@
 use calls::Answer;
 use replay_asked::Parameters;
 ghost use Prim.Native.Nat.{_≤_};
-ghost use Rattle.replay_compare.specs.Compared.{Compared};
+ghost use Rattle.replay_compare.specs.Compared.{OneOutput, Compared};
 ghost use Rattle.replay_record.specs.Head.{functionOf, outOf, outputRoom};
 ghost use Rattle.replay_cells.specs.Wholes.{wholeWord};
 ghost use Rattle.replay_wholes.specs.Wholes.{
@@ -34,6 +34,21 @@ fn answer_shorts(p: Parameters, first: &[f64], out: &mut [i32], work: &mut [f64]
 }
 
 // Whether such a call leaves what was recorded.
+fn shorts_left(
+    head: &[u64; 18],
+    p: Parameters,
+    first: &[f64],
+    recorded: &[u64],
+    out: &mut [i32],
+    work: &mut [f64],
+) -> bool
+    ensures { λ r. ⌜ (IsShorts (p .function) → Compared (OneOutput wholeWord (ShortsCall p (now (first .entry))
+        (now (out .entry)) (now (work .entry)))) (now (head .entry)) (now (recorded .entry)) r) ⌝ }
+{
+    let answer = answer_shorts(p, first, out, work);
+    replay_cells::shorts_left(head, answer, out, recorded, work)
+}
+
 pub fn shorts_agree(head: &[u64; 18], first: &[f64], recorded: &[u64], work: &mut [f64]) -> bool
     requires { ⌜ outOf (now head) ≤ outputRoom ⌝ }
     ensures { λ r. ⌜ (IsShorts (functionOf (now (head .entry))) → Compared (ShortsCalled (now (head .entry))
@@ -41,9 +56,14 @@ pub fn shorts_agree(head: &[u64; 18], first: &[f64], recorded: &[u64], work: &mu
 {
     let cells = head[11] as usize;
     let mut out = [replay_record::UNTOUCHED_SHORT; replay_record::OUTPUT_ROOM];
-    let lent = &mut out[..cells];
-    let answer = answer_shorts(replay_asked::parameters_of(head), first, lent, work);
-    replay_cells::shorts_left(head, answer, lent, recorded, work)
+    shorts_left(
+        head,
+        replay_asked::parameters_of(head),
+        first,
+        recorded,
+        &mut out[..cells],
+        work,
+    )
 }
 
 // Calls a function whose cells are u64.
@@ -58,6 +78,21 @@ fn answer_places(p: Parameters, first: &[f64], out: &mut [u64], work: &mut [f64]
     }
 }
 
+fn places_left(
+    head: &[u64; 18],
+    p: Parameters,
+    first: &[f64],
+    recorded: &[u64],
+    out: &mut [u64],
+    work: &mut [f64],
+) -> bool
+    ensures { λ r. ⌜ (IsPlaces (p .function) → Compared (OneOutput (λ k. k) (PlacesCall p (now (first .entry))
+        (now (out .entry)) (now (work .entry)))) (now (head .entry)) (now (recorded .entry)) r) ⌝ }
+{
+    let answer = answer_places(p, first, out, work);
+    replay_cells::places_left(head, answer, out, recorded, work)
+}
+
 pub fn places_agree(head: &[u64; 18], first: &[f64], recorded: &[u64], work: &mut [f64]) -> bool
     requires { ⌜ outOf (now head) ≤ outputRoom ⌝ }
     ensures { λ r. ⌜ (IsPlaces (functionOf (now (head .entry))) → Compared (PlacesCalled (now (head .entry))
@@ -65,9 +100,14 @@ pub fn places_agree(head: &[u64; 18], first: &[f64], recorded: &[u64], work: &mu
 {
     let cells = head[11] as usize;
     let mut out = [replay_record::UNTOUCHED_PLACE; replay_record::OUTPUT_ROOM];
-    let lent = &mut out[..cells];
-    let answer = answer_places(replay_asked::parameters_of(head), first, lent, work);
-    replay_cells::places_left(head, answer, lent, recorded, work)
+    places_left(
+        head,
+        replay_asked::parameters_of(head),
+        first,
+        recorded,
+        &mut out[..cells],
+        work,
+    )
 }
 
 // Calls a function whose cells are i64, and which leaves the work slice alone.
@@ -82,6 +122,21 @@ fn answer_wholes(p: Parameters, first: &[f64], out: &mut [i64], work: &mut [f64]
     }
 }
 
+fn wholes_left(
+    head: &[u64; 18],
+    p: Parameters,
+    first: &[f64],
+    recorded: &[u64],
+    out: &mut [i64],
+    work: &mut [f64],
+) -> bool
+    ensures { λ r. ⌜ (IsWholes (p .function) → Compared (OneOutput wholeWord (WholesCall p (now (first .entry))
+        (now (out .entry)) (now (work .entry)))) (now (head .entry)) (now (recorded .entry)) r) ⌝ }
+{
+    let answer = answer_wholes(p, first, out, work);
+    replay_cells::wholes_left(head, answer, out, recorded, work)
+}
+
 pub fn wholes_agree(head: &[u64; 18], first: &[f64], recorded: &[u64], work: &mut [f64]) -> bool
     requires { ⌜ outOf (now head) ≤ outputRoom ⌝ }
     ensures { λ r. ⌜ (IsWholes (functionOf (now (head .entry))) → Compared (WholesCalled (now (head .entry))
@@ -89,7 +144,12 @@ pub fn wholes_agree(head: &[u64; 18], first: &[f64], recorded: &[u64], work: &mu
 {
     let cells = head[11] as usize;
     let mut out = [replay_record::UNTOUCHED_WHOLE; replay_record::OUTPUT_ROOM];
-    let lent = &mut out[..cells];
-    let answer = answer_wholes(replay_asked::parameters_of(head), first, lent, work);
-    replay_cells::wholes_left(head, answer, lent, recorded, work)
+    wholes_left(
+        head,
+        replay_asked::parameters_of(head),
+        first,
+        recorded,
+        &mut out[..cells],
+        work,
+    )
 }

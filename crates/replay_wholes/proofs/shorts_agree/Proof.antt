@@ -1,38 +1,29 @@
 -- `shorts_agree` meets its contract: the cells that it lends hold what they must before a call. Assumes nothing.
 use borrow.Author.Needs.{needs}
 use Rattle.replay_record.specs.Head.{outputRoom}
-use Rattle.replay_compare.proofs.Comparing.{part-within, part-long, take-replicate, one-compared}
+use Rattle.replay_compare.proofs.Comparing.{part-within, part-long, take-replicate}
 use Rattle.replay_wholes.specs.Wholes.{untouchedWhole}
 use Rattle.replay_wholes.proofs.shorts_agree.Statement.{statement}
 use Rattle.replay_wholes.proofs.shorts_agree.Tie as tie
 
 returns : tie.Need-returns
 returns c =
-    let left = c .before in
-    let call = left .before .before .before .before .before .before in
-    let p = call .before .before .before in
-    let room = p .before .before .before .before .before .before .pre in
-    let called = rw (take-replicate outputRoom _ untouchedWhole room, p .parameters-of .ensures) at
-    (call .answer-shorts .ensures) in
-    λ l. one-compared _ _ _ _ _ _ _ (called l) (left .shorts-left .ensures)
-
-same-length : tie.Need-same-length
-same-length c =
-    let call = c .before .before .before .before .before .before .before in
-    call .answer-shorts .kept .1 .1 .1 .0
+    let left = c .before .before .before in
+    let p = left .before .before .before in
+    let room = p .before .before .before .before .before .pre in
+    rw (take-replicate outputRoom _ untouchedWhole room, p .parameters-of .ensures) at (left .shorts-left .ensures)
 
 pub shorts-agree-spec : {M : Type 1} → statement M
 shorts-agree-spec =
     tie.close
     (tie.spec
     (λ c. search needs)  -- element-copy-out-cells
+    (λ c κs. search needs)  -- parameters-of-requires
     -- array-borrow-prefix-out
-    (λ c. part-within outputRoom _ untouchedWhole (c .before .before .before .before .pre))
-    -- slice-aggregate-lent
-    (λ c. part-long outputRoom _ untouchedWhole (c .before .before .before .before .before .pre))
-    (λ c κs. tt)  -- parameters-of-requires
-    (λ c κs. tt)  -- answer-shorts-requires
+    (λ c. part-within outputRoom _ untouchedWhole (c .before .before .before .before .before .pre))
+    -- slice-aggregate-shorts-left
+    (λ c. part-long outputRoom _ untouchedWhole (c .before .before .before .before .before .before .pre))
     (λ c κs. tt)  -- shorts-left-requires
-    same-length
+    (λ c. c .before .before .before .shorts-left .kept .1 .1 .1 .1 .1 .0)  -- same-length
     returns
     )
