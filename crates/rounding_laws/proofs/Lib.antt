@@ -4,6 +4,7 @@ pub mod Error
 pub mod Integers
 pub mod Multiples
 pub mod Nearest
+pub mod Products
 pub mod Quotient
 pub mod Units
 pub mod Value

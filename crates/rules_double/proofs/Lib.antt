@@ -1,4 +1,3 @@
-pub mod Accepted
 pub mod Bounds
 pub mod Double
 pub mod Open

@@ -28,7 +28,7 @@ use Rattle.calls.proofs.Room.{
 use Rattle.calls.specs.inner.Fits.{windowFits}
 use Rattle.rules_double_bar.specs.Double.{doubleAnswer}
 use Rattle.rules_double_bar.specs.inner.Ticks.{tickCells, TickRoom}
-use Rattle.rules_double.proofs.Accepted.{ticks-accepted}
+use Rattle.values.proofs.TicksAccepted.{ticks-accepted}
 
 -- two windows in order
 pub record DoubleOpen (n m : ℕ) : Type 0 where

@@ -4,30 +4,25 @@ use mathlib.Core.Path.{_≡_, refl, sym, ap, _∙_}
 use mathlib.Core.Bool.{Bool, true, false, cond}
 use mathlib.Core.List.{List}
 use Prim.Native.Nat.{ℕ, zero, suc, _+_, _-_, _*_, _^_, _<_, _≤_, zero-le}
-use native.Mathlib.Nat.{add-zero, zero-add, mul-le-mul}
+use native.Mathlib.Nat.{zero-add, mul-le-mul}
 use native.Mathlib.Omega.{arith}
-use borrow.Author.Tests.{lt-ltb, le-ltb}
-use lib.Dec.{ltb}
 use lib.IntN.{ℤ, pos, negsuc, natAbs, _+ℤ_, _-ℤ_, _*ℤ_, +ℤ-assoc, +ℤ-idr}
 use lib.ListN.{length, set}
-use lib.Signed.{ltZ}
 use lib.Ieee.{Float, nan, inf, fin, binary64, add, sub, mul, ofInt, isNan}
 use lib.Ieee.Exact.{HasValue}
 use Rattle.rounding.specs.Leaves.{plusOne, minusOne, signOf}
 use Rattle.rounding.specs.Whole.{total, isNegative}
 use Rattle.rounding.proofs.Signs.{sign-round}
 use Rattle.rounding_laws.proofs.Integers.{
-  above,
-  below,
   abs-add,
   abs-minus,
   parts-add,
-  parts-lt,
   parts-minus,
   parts-same,
   parts-times,
   total-slides,
 }
+use Rattle.rounding_laws.proofs.Products.{times, times-add, times-minus, add-times, minus-negative, total-parts}
 use Rattle.rounding_laws.proofs.About.{zero-is}
 use Rattle.rounding_laws.proofs.Whole.{whole-value, add-whole, sub-whole, mul-whole}
 use Rattle.cells.specs.Line.{Line, plusZero, minusZero}
@@ -44,46 +39,6 @@ use Rattle.rules_double_bar.specs.inner.Ticks.{spread, change, BothFull}
 use Rattle.rules_double_bar.proofs.Ticks.{double-exact}
 
 -- ---- integers
-
--- an equation of natural numbers, times n
-times : (n : ℕ) {a b : ℕ} → a ≡ b → a * n ≡ b * n
-times n e = ap (λ (k : ℕ). k * n) e
-
--- a product with a sum and with a difference
-times-add : (a b : ℤ) (n : ℕ) → (a +ℤ b) *ℤ pos n ≡ a *ℤ pos n +ℤ b *ℤ pos n
-times-add a b n =
-    parts-same ((a +ℤ b) *ℤ pos n) (a *ℤ pos n +ℤ b *ℤ pos n)
-    (omega (
-      arith,
-      parts-times (a +ℤ b) n,
-      parts-times a n,
-      parts-times b n,
-      times n (parts-add a b),
-      parts-add (a *ℤ pos n) (b *ℤ pos n),
-    ))
-
-times-minus : (a b : ℤ) (n : ℕ) → (a -ℤ b) *ℤ pos n ≡ a *ℤ pos n -ℤ b *ℤ pos n
-times-minus a b n =
-    parts-same ((a -ℤ b) *ℤ pos n) (a *ℤ pos n -ℤ b *ℤ pos n)
-    (omega (
-      arith,
-      parts-times (a -ℤ b) n,
-      parts-times a n,
-      parts-times b n,
-      times n (parts-minus a b),
-      parts-minus (a *ℤ pos n) (b *ℤ pos n),
-    ))
-
-add-times : (a : ℤ) (n d : ℕ) → a *ℤ pos (n + d) ≡ a *ℤ pos n +ℤ a *ℤ pos d
-add-times a n d =
-    parts-same (a *ℤ pos (n + d)) (a *ℤ pos n +ℤ a *ℤ pos d)
-    (omega (
-      arith,
-      parts-times a (n + d),
-      parts-times a n,
-      parts-times a d,
-      parts-add (a *ℤ pos n) (a *ℤ pos d),
-    ))
 
 cancelled : (p q u v y z : ℤ) → p +ℤ (u +ℤ v -ℤ y) -ℤ (q +ℤ (u -ℤ z)) ≡ p -ℤ q +ℤ (v -ℤ y +ℤ z)
 cancelled p q u v y z =
@@ -130,24 +85,6 @@ parted a r n d =
       parts-times (r +ℤ a) n,
       times n (parts-add r a),
     ))
-
--- the sign of a difference
-minus-negative : (a b : ℤ) → isNegative (a -ℤ b) ≡ ltZ a b
-minus-negative a b = rw (parts-lt a b) (go (a -ℤ b) (parts-minus a b))
-  where
-    go : (z : ℤ) → above z + (below a + above b) ≡ above a + below b + below z → isNegative z
-        ≡ ltb (above a + below b) (above b + below a)
-    go (pos k) e = sym (le-ltb (above a + below b) (above b + below a) (omega arith))
-    go (negsuc k) e = sym (lt-ltb (above a + below b) (above b + below a) (omega arith))
-
--- a run in two parts
-total-parts : (t : ℕ → ℤ) (a j k : ℕ) → total t a (j + k) ≡ total t a j +ℤ total t (a + j) k
-unfolding total
-total-parts t a j zero = rw add-zero (sym (+ℤ-idr (total t a j)))
-total-parts t a j (suc k) =
-    let bar : a + (j + k) ≡ a + j + k = omega arith in
-    let count : j + suc k ≡ suc (j + k) = omega arith in
-    rw (count, total-parts t a j k, bar) (+ℤ-assoc (total t a j) (total t (a + j) k) (t (a + j + k)))
 
 -- ---- whole numbers in f64
 

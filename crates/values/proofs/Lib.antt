@@ -4,4 +4,5 @@ pub mod Fraction
 pub mod Numbers
 pub mod Quick
 pub mod Ticks
+pub mod TicksAccepted
 pub mod Zero
