@@ -3,4 +3,5 @@ pub mod Enclosed
 pub mod Itself
 pub mod Outward
 pub mod Rounded
+pub mod WithZero
 pub mod Within

@@ -5,12 +5,14 @@ use mathlib.Core.List.{List}
 use Prim.Native.Nat.{ℕ, zero, suc, _+_, _-_, _*_, _<_, _≤_}
 use native.Mathlib.Omega.{arith}
 use lib.Dec.{leb}
-use lib.IntN.{ℤ}
+use lib.IntN.{ℤ, negℤ}
 use lib.ListN.{length, getD}
-use lib.Ieee.{Float, nan, binary64, add, sub, lt}
+use lib.Ieee.{Float, nan, binary64, add, sub, mul, lt}
+use lib.Ieee.Fits.{add-fits, sub-fits}
 use Rattle.rounding.specs.Literals.{tenToMinus}
 use Rattle.rounding_root.specs.Root.{sqrtOf}
-use Rattle.cells.specs.Line.{Line, minusZero, fromBar, Causal}
+use Rattle.rounding_order.proofs.WithZero.{lt-plus-zero, lt-less-zero}
+use Rattle.cells.specs.Line.{Line, plusZero, minusZero, fromBar, Causal}
 use Rattle.cells.proofs.Line.{causal-self, causal-then, causal-from, from-bar}
 use Rattle.cells.specs.Recur.{recur}
 use Rattle.cells.specs.Written.{Writing}
@@ -31,7 +33,7 @@ use Rattle.rules_held.proofs.Holding.{
   causal-hold,
   never-adjoin,
 }
-use Rattle.rules_bands_bar.specs.Boll.{outsideAt, outsideBands, bollLine}
+use Rattle.rules_bands_bar.specs.Boll.{beyond, outsideAt, outsideBands, bollLine}
 use Rattle.rules_bands_bar.specs.BollReverse.{opensAt, turnsAt, bandSignals, turnedBands, bollReverseLine}
 use Rattle.rules_bands_bar.specs.inner.Stages.{positionBefore}
 
@@ -65,15 +67,16 @@ from-position : (b : ℕ) (f : ℕ → ℤ) → ((i : ℕ) → Position (f i)) �
 unfolding fromBar
 from-position b f p i = either-position (leb b i) (p i) at-flat
 
-outside-position : (average middle k width : Float) → Position (outsideAt average middle k width)
-outside-position average middle k width =
-    either-position (lt (add binary64 (upperBand k middle width) (tenToMinus 10)) average) at-long
-    (either-position (lt average (sub binary64 (lowerBand k middle width) (tenToMinus 10))) at-short at-flat)
+pub beyond-position : (margin average middle k width : Float) → Position (beyond margin average middle k width)
+beyond-position margin average middle k width =
+    either-position (lt (add binary64 (upperBand k middle width) margin) average) at-long
+    (either-position (lt average (sub binary64 (lowerBand k middle width) margin)) at-short at-flat)
 
 pub boll-position : (n : ℕ) (k : Float) (f : Line) (i : ℕ) → Position (bollLine n k f i)
 unfolding outsideBands
 boll-position n k f i = from-position (2 * n - 2) _
-    (λ j. outside-position (mean n f j) (mean n (mean n f) j) k (deviation minusZero (n - 1) n (mean n f) j)) i
+    (λ j. beyond-position (tenToMinus 10) (mean n f j) (mean n (mean n f) j) k
+    (deviation minusZero (n - 1) n (mean n f) j)) i
 
 opens-position : (average middle k width : Float) → Position (opensAt average middle k width)
 opens-position average middle k width =
@@ -103,6 +106,23 @@ pub boll-reverse-neighbours : (n : ℕ) (k : Float) (f : Line) (i : ℕ)
     × (bollReverseLine n k f i ≡ short → bollReverseLine n k f (suc i) ≡ long → ⊥)
 unfolding turnedBands
 boll-reverse-neighbours n k f i = never-adjoin (bandSignals n k (mean n f)) i
+
+-- ---- beyond the bands, and what that opens
+
+-- beyond the bands by any margin, to the other side
+pub opens-other-side : (average middle k width : Float)
+    → negℤ (beyond plusZero average middle k width) ≡ opensAt average middle k width
+opens-other-side average middle k width =
+    rw (
+      lt-plus-zero (upperBand k middle width) average (add-fits binary64 middle (mul binary64 k width)),
+      lt-less-zero (lowerBand k middle width) average (sub-fits binary64 middle (mul binary64 k width)),
+    )
+    (turned (lt (upperBand k middle width) average) (lt average (lowerBand k middle width)))
+  where
+    turned : (p q : Bool) → negℤ (cond p long (cond q short flat)) ≡ cond p short (cond q long flat)
+    turned true q = refl
+    turned false true = refl
+    turned false false = refl
 
 -- ---- a cell from a middle and a variance
 

@@ -14,16 +14,16 @@ use Rattle.calls.specs.declared.Answer.{Answer}
 use Rattle.calls.specs.Call.{WorkCall}
 use Rattle.rules_bands_bar.specs.Answer.{bandAnswer}
 
--- +1 above the upper band, -1 below the lower one, each by more than a margin of 1e-10, and else 0; a NaN in a band
+-- +1 above the band of a middle and a width, -1 below it, each by more than a margin, and else 0; a NaN in the band
 -- gives 0
-abbrev pub outside : Float → Float → Float → ℤ
-outside average upper lower =
-    cond (lt (add binary64 upper (tenToMinus 10)) average) long
-    (cond (lt average (sub binary64 lower (tenToMinus 10))) short flat)
+abbrev pub beyond : Float → Float → Float → Float → Float → ℤ
+beyond margin average middle k width =
+    cond (lt (add binary64 (upperBand k middle width) margin) average) long
+    (cond (lt average (sub binary64 (lowerBand k middle width) margin)) short flat)
 
--- that cell, by a middle and a width
+-- the margin is 1e-10
 abbrev pub outsideAt : Float → Float → Float → Float → ℤ
-outsideAt average middle k width = outside average (upperBand k middle width) (lowerBand k middle width)
+outsideAt = beyond (tenToMinus 10)
 
 -- A line against Bollinger's bands of its last n cells ("Bollinger on Bollinger Bands", 2001), from bar 2n - 2 on.
 -- The middle is the mean of those cells, and the width their deviation over n - 1.

@@ -2,23 +2,25 @@
 ghost use mathlib.Core.Path.{_≡_};
 ghost use Prim.Native.Nat.{_≤_};
 ghost use lib.ListN.{length};
-ghost use lib.Ieee.{binary64};
+ghost use mathlib.Core.Bool.{false};
+ghost use lib.Ieee.{binary64, lt};
+ghost use Rattle.cells.specs.Line.{plusZero};
 ghost use Rattle.rounding_root.specs.Root.{sqrtOf};
-ghost use Rattle.rules_bands_bar.specs.Boll.{outsideAt};
-ghost use Rattle.rules_bands_bar.specs.BollReverse.{opensAt, turnsAt};
+ghost use Rattle.rules_bands_bar.specs.Boll.{beyond, outsideAt};
+ghost use Rattle.rules_bands_bar.specs.BollReverse.{turnsAt};
 ghost use Rattle.rules_bands_bar.specs.inner.Stages.{positionBefore};
 ghost use Rattle.rules_held.specs.Held.{moved};
 ghost use Rattle.deviations.specs.inner.Spread.{SpreadRoom, Spread};
 
-// +1 above the band, -1 below it and else 0, each by more than 1e-10.
-fn outside_at(average: f64, middle: f64, k: f64, width: f64) -> i32
-    ensures { λ r. ⌜ r ≡ outsideAt average middle k width ⌝ }
+// +1 above the band, -1 below it and else 0, each by more than a margin.
+fn beyond_at(average: f64, middle: f64, k: f64, width: f64, margin: f64) -> i32
+    ensures { λ r. ⌜ r ≡ beyond margin average middle k width ⌝ }
 {
     let reach = k * width;
-    if (middle + reach) + 1e-10 < average {
+    if (middle + reach) + margin < average {
         return 1;
     }
-    if average < (middle - reach) - 1e-10 {
+    if average < (middle - reach) - margin {
         return -1;
     }
     0
@@ -26,13 +28,22 @@ fn outside_at(average: f64, middle: f64, k: f64, width: f64) -> i32
 
 // That cell where the width is the root of a variance. Two guesses at the root decide most cells; only the speed
 // rests on them.
-fn outside_by_guess(average: f64, middle: f64, k: f64, variance: f64, low: f64, high: f64) -> i32
-    ensures { λ r. ⌜ r ≡ outsideAt average middle k (sqrtOf binary64 variance) ⌝ }
+fn beyond_by_guess(
+    average: f64,
+    middle: f64,
+    k: f64,
+    margin: f64,
+    variance: f64,
+    low: f64,
+    high: f64,
+) -> i32
+    requires { ⌜ lt margin plusZero ≡ false ⌝ }
+    ensures { λ r. ⌜ r ≡ beyond margin average middle k (sqrtOf binary64 variance) ⌝ }
 {
     if k >= 0.0 {
         if low >= 0.0 {
             if low * low < variance {
-                if outside_at(average, middle, k, low) == 0 {
+                if beyond_at(average, middle, k, low, margin) == 0 {
                     return 0;
                 }
             }
@@ -40,7 +51,7 @@ fn outside_by_guess(average: f64, middle: f64, k: f64, variance: f64, low: f64, 
         if variance >= 0.0 {
             if high >= 0.0 {
                 if variance < high * high {
-                    let cell = outside_at(average, middle, k, high);
+                    let cell = beyond_at(average, middle, k, high, margin);
                     if cell != 0 {
                         return cell;
                     }
@@ -48,73 +59,36 @@ fn outside_by_guess(average: f64, middle: f64, k: f64, variance: f64, low: f64, 
             }
         }
     }
-    outside_at(average, middle, k, rounding_root::square_root(variance))
+    beyond_at(
+        average,
+        middle,
+        k,
+        rounding_root::square_root(variance),
+        margin,
+    )
 }
 
 // The guesses lie around the width whose band ends at the average; `inverse` is 1 / k.
+fn beyond_by(average: f64, middle: f64, k: f64, inverse: f64, margin: f64, variance: f64) -> i32
+    requires { ⌜ lt margin plusZero ≡ false ⌝ }
+    ensures { λ r. ⌜ r ≡ beyond margin average middle k (sqrtOf binary64 variance) ⌝ }
+{
+    let edge = rounding::magnitude(average - middle) * inverse;
+    let slack = (rounding::magnitude(middle) * 1e-15 + margin * 1.1) * inverse;
+    let low = edge * 1.000000001;
+    let high = edge * 0.999999999 - slack;
+    beyond_by_guess(average, middle, k, margin, variance, low, high)
+}
+
+// The cell of `boll_positions`.
 pub fn outside_by(average: f64, middle: f64, k: f64, inverse: f64, variance: f64) -> i32
     ensures { λ r. ⌜ r ≡ outsideAt average middle k (sqrtOf binary64 variance) ⌝ }
 {
-    let edge = rounding::magnitude(average - middle) * inverse;
-    let slack = (rounding::magnitude(middle) * 1e-15 + 1.1e-10) * inverse;
-    let low = edge * 1.000000001;
-    let high = edge * 0.999999999 - slack;
-    outside_by_guess(average, middle, k, variance, low, high)
+    beyond_by(average, middle, k, inverse, 1e-10, variance)
 }
 
-// What a flat position opens: short above the band, long below it and else nothing.
-fn opens_at(average: f64, middle: f64, k: f64, width: f64) -> i32
-    ensures { λ r. ⌜ r ≡ opensAt average middle k width ⌝ }
-{
-    let reach = k * width;
-    if middle + reach < average {
-        return -1;
-    }
-    if average < middle - reach {
-        return 1;
-    }
-    0
-}
-
-// The same where the width is the root of a variance. Two guesses at the root decide most bars; only the speed rests
-// on them.
-fn opens_by_guess(average: f64, middle: f64, k: f64, variance: f64, low: f64, high: f64) -> i32
-    ensures { λ r. ⌜ r ≡ opensAt average middle k (sqrtOf binary64 variance) ⌝ }
-{
-    if k >= 0.0 {
-        if low >= 0.0 {
-            if low * low < variance {
-                if opens_at(average, middle, k, low) == 0 {
-                    return 0;
-                }
-            }
-        }
-        if variance >= 0.0 {
-            if high >= 0.0 {
-                if variance < high * high {
-                    let opens = opens_at(average, middle, k, high);
-                    if opens != 0 {
-                        return opens;
-                    }
-                }
-            }
-        }
-    }
-    opens_at(average, middle, k, rounding_root::square_root(variance))
-}
-
-// The guesses lie around the width whose band ends at the average; `inverse` is 1 / k.
-fn opens_by(average: f64, middle: f64, k: f64, inverse: f64, variance: f64) -> i32
-    ensures { λ r. ⌜ r ≡ opensAt average middle k (sqrtOf binary64 variance) ⌝ }
-{
-    let edge = rounding::magnitude(average - middle) * inverse;
-    let slack = rounding::magnitude(middle) * 1e-15 * inverse;
-    let low = edge * 1.000000001;
-    let high = edge * 0.999999999 - slack;
-    opens_by_guess(average, middle, k, variance, low, high)
-}
-
-// The position after a bar. The bands are asked only where the position before it is flat.
+// The position after a bar. The bands are asked only where the position before it is flat: above them it opens short,
+// and below them long.
 pub fn turned_by(
     position: i32,
     average: f64,
@@ -126,7 +100,7 @@ pub fn turned_by(
     ensures { λ r. ⌜ r ≡ moved position (turnsAt average middle k (sqrtOf binary64 variance)) ⌝ }
 {
     if position == 0 {
-        opens_by(average, middle, k, inverse, variance)
+        -beyond_by(average, middle, k, inverse, 0.0, variance)
     } else {
         rules_held::move_position(position, 0, middle < average, average < middle)
     }
