@@ -66,6 +66,9 @@ same-below : (s : Bool) (a : ℕ) → isBelow s a s a ≡ false
 same-below false a = le-ltb a a (omega arith)
 same-below true a = le-ltb a a (omega arith)
 
+zero-value : HasValue plusZero false 0 (2 ^ low binary64)
+zero-value = (refl, zero-mul (2 ^ low binary64))
+
 -- ---- what a sum with 0 is rounded from
 
 sum-less : (s : Bool) (a c : ℕ) → sum binary64 s a true 0 c ≡ round binary64 s a c
@@ -104,14 +107,14 @@ module _ (s : Bool) (m : ℕ) (e : ℤ) (F : T (fits binary64 (fin s m e))) wher
   less-level : Level (sub binary64 (fin s m e) plusZero) (fin s m e)
   less-level =
       let a = inUnits binary64 (fin s m e) in
-      let is = sub-at (fin s m e) plusZero s a false 0 (2 ^ low binary64) unit-pos value (refl, zero-mul (2 ^ low binary64)) binary64
+      let is = sub-at (fin s m e) plusZero s a false 0 (2 ^ low binary64) unit-pos value zero-value binary64
       ∙ sum-less s a (2 ^ low binary64) in
       level-at _ (fin s m e) s s a (rw is (exact s refl)) value (same-below s a) (same-below s a)
 
   plus-is : (a : ℕ) → inUnits binary64 (fin s m e) ≡ a
       → add binary64 (fin s m e) plusZero ≡ sum binary64 s a false 0 (2 ^ low binary64)
   plus-is a is =
-      add-at (fin s m e) plusZero s a false 0 (2 ^ low binary64) unit-pos (rw is at value) (refl, zero-mul (2 ^ low binary64)) binary64
+      add-at (fin s m e) plusZero s a false 0 (2 ^ low binary64) unit-pos (rw is at value) zero-value binary64
 
 plus-level : (s : Bool) (m : ℕ) (e : ℤ) → T (fits binary64 (fin s m e))
     → Level (add binary64 (fin s m e) plusZero) (fin s m e)
