@@ -67,10 +67,7 @@ pub fn sma(series: &[f64], n: usize, out: &mut [f64]) -> Answer
 {
     if checks::window_fits(series.len(), n, out.len()) {
         let sum = sum_first(series, n);
-        if values_series::accepted_by(
-            sum.bits | values_series::bits_together(series, n, series.len()),
-            series,
-        ) {
+        if values_series::accepted_after(sum.bits, n, series) {
             write_means(series, n, sum.value, out);
             Answer::Cells(series.len())
         } else {

@@ -59,18 +59,26 @@ pub fn accepted_by(together: u64, s: &[f64]) -> bool
     }
 }
 
-// Whether a series may hold every number of s. Where its first 16 numbers fail the quick test, as prices on both
-// sides of 0 mostly do, the others are not looked at twice.
-pub fn all_accepted(s: &[f64]) -> bool
+// Whether a series may hold every number of s, of whose first n the bits together are at hand. Where those and the next
+// 16 fail the quick test, as prices on both sides of 0 mostly do, the others are not looked at twice.
+pub fn accepted_after(first: u64, n: usize, s: &[f64]) -> bool
+    requires { ⌜ NoneAbove first (now s) 0 n × (n ≤ length (now s)) ⌝ }
     ensures { λ r. ⌜ r ≡ all accepted (now (s .entry)) ⌝ }
 {
-    let some = cells::smaller(s.len(), 16);
-    let head = bits_together(s, 0, some);
+    let some = cells::smaller(s.len(), n + 16);
+    let head = first | bits_together(s, n, some);
     if head <= LARGEST_VALUE_BITS {
         accepted_by(head | bits_together(s, some, s.len()), s)
     } else {
         each_accepted(s)
     }
+}
+
+// Whether a series may hold every number of s.
+pub fn all_accepted(s: &[f64]) -> bool
+    ensures { λ r. ⌜ r ≡ all accepted (now (s .entry)) ⌝ }
+{
+    accepted_after(0, 0, s)
 }
 
 // What one pass over a series finds: the bits of its numbers together, and whether each comes back from beside 2^52.

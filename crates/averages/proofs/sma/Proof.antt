@@ -6,7 +6,7 @@ use borrow.Author.Needs.{needs}
 use denote.Ref.{now}
 use lib.ListN.{length}
 use Rattle.values.specs.Accepted.{accepted}
-use Rattle.values.proofs.Quick.{or-first, or-second, none-larger, none-joined, bits-above, bits-first}
+use Rattle.values.proofs.Quick.{bits-first}
 use Rattle.calls.specs.inner.Fits.{windowFits, Fits}
 use Rattle.calls.proofs.Room.{fits-parts, fits-answered}
 use Rattle.averages.specs.Sma.{smaLine}
@@ -23,17 +23,12 @@ fits : (c : tie.Then1) → let a = c .before .before .before .before .args in Fi
     (length (now (a .out)))
 fits c = fits-parts _ _ _ (told c)
 
-accepted-by-requires : tie.Need-accepted-by-requires
-accepted-by-requires c κs =
-    let at-rest = c .before in
-    let first = at-rest .before .sum-first in
-    let a = at-rest .before .before .before .before .before .before .args in
-    none-joined {k = a .n} (none-larger (bits-first _ (a .n) (first .ensures .bits)) (or-first _ _))
-    (none-larger (bits-above _ _ _ (at-rest .bits-together .ensures)) (or-second (first .result .bits) _)) (omega arith)
+accepted-after-requires : tie.Need-accepted-after-requires
+accepted-after-requires c κs = (bits-first _ _ (c .sum-first .ensures .bits), fits (c .before) .inside)
 
 write-means-requires : tie.Need-write-means-requires
 write-means-requires c κs =
-    let at-first = c .before .before .before .before .before in
+    let at-first = c .before .before .before in
     let h = fits (at-first .before) in
     record { window = h .window; inside = h .inside; room = h .room; is = at-first .sum-first .ensures .sum }
 
@@ -42,19 +37,19 @@ returns c =
     let at-write = c .before .before in
     let at-then = at-write .before .before in
     let at-test = at-then .before in
-    let at-fits = at-test .before .before .before .before in
+    let at-fits = at-test .before .before in
     let a = at-fits .before .before .before .before .args in
     rw (fits-answered accepted (now (a .series)) (a .n) (length (now (a .out))) (told at-fits))
-    (values-pass (now (a .series)) (at-test .accepted-by .ensures) (at-then .if2 .taken)
+    (values-pass (now (a .series)) (at-test .accepted-after .ensures) (at-then .if2 .taken)
     (at-write .write-means .ensures))
 
 returns-2 : tie.Need-returns-2
 returns-2 c =
     let at-test = c .before in
-    let at-fits = at-test .before .before .before .before in
+    let at-fits = at-test .before .before in
     let a = at-fits .before .before .before .before .args in
     rw (fits-answered accepted (now (a .series)) (a .n) (length (now (a .out))) (told at-fits))
-    (values-fail (now (a .series)) (at-test .accepted-by .ensures) (c .if2 .left))
+    (values-fail (now (a .series)) (at-test .accepted-after .ensures) (c .if2 .left))
 
 returns-3 : tie.Need-returns-3
 unfolding smaLine
@@ -66,8 +61,7 @@ sma-spec =
     (tie.spec
     (λ c κs. search needs)  -- window-fits-requires
     (λ c κs. (fits c .window .some, fits c .inside))  -- sum-first-requires
-    (λ c κs. search needs)  -- bits-together-requires
-    accepted-by-requires
+    accepted-after-requires
     write-means-requires
     (λ c κs. sym (c .before .before .window-fits .ensures) ∙ c .before .if1 .left)  -- answer-lead-requires
     (λ c. search needs)  -- same-length
