@@ -21,7 +21,7 @@ use Rattle.windows.specs.Window.{over, windowSum, mean, addDifference}
 use Rattle.windows.proofs.Window.{mean-of}
 use Rattle.averages_blend.specs.Blend.{blend, emaAlpha}
 use Rattle.sliding_means.specs.inner.Means.{runMeans}
-use Rattle.running_sums.proofs.Relative.{roof}
+use Rattle.running_sums.proofs.Relative.{roof, mostBars}
 use Rattle.running_sums.proofs.Sums.{Windowed, Carried, fresh, carry}
 use Rattle.running_sums.proofs.Means.{
   spread,
@@ -110,7 +110,7 @@ module _ (m : ℕ) where
   two-more = let d = divided in omega arith
 
   -- the sizes of all steps, and what the law of a blend asks of them
-  module _ (c : ℕ) (C : c ≤ 65536) where
+  module _ (c : ℕ) (C : c ≤ mostBars) where
     size-most : sizeAt m c ≤ most m
     size-most =
         let d = divided in
@@ -123,7 +123,7 @@ module _ (m : ℕ) where
         let d = divided .0 in
         go (m / 2 ^ 30) (c * (34 * most m + 2 ^ 58)) (omega arith) (mul-le-mul-right (34 * most m + 2 ^ 58) C)
       where
-        go : (d e : ℕ) → d * 2 ^ 30 ≤ m → e ≤ 65536 * (34 * most m + 2 ^ 58)
+        go : (d e : ℕ) → d * 2 ^ 30 ≤ m → e ≤ mostBars * (34 * most m + 2 ^ 58)
             → 8 * spread (m + (d + 4)) (spread m 0) + e ≤ m * 9 * 2 ^ 20 + 2 ^ 75
         go d e h k = omega arith
 
@@ -159,7 +159,7 @@ same z = let e = abs-near z z {e = 0} (omega arith) in omega arith
 -- ---- the average
 
 -- all are far below the largest numbers
-low : {m n l : ℕ} {f : Line} → Windowed m n l f → 16 * (n * (m + 1)) < roof → (c : ℕ) → c ≤ 65536
+low : {m n l : ℕ} {f : Line} → Windowed m n l f → 16 * (n * (m + 1)) < roof → (c : ℕ) → c ≤ mostBars
     → 2 * sizeAt m c + m + 2 < roof
 low {m} {n} w room c C =
     let k = mul-le-mul-right (m + 1) (w .some) in
@@ -168,7 +168,7 @@ low {m} {n} w room c C =
     go : (b : ℕ) → b ≤ most m → 16 * (m + 1) < roof → 2 * b + m + 2 < roof
     go b h r = let g = high in omega arith
 
-module _ {m n l : ℕ} {f : Line} (w : Windowed m n l f) (B : l ≤ 65536) (room : 16 * (n * (m + 1)) < roof) where
+module _ {m n l : ℕ} {f : Line} (w : Windowed m n l f) (B : l ≤ mostBars) (room : 16 * (n * (m + 1)) < roof) where
   wide-room : 2 * (n * (m + more m)) < roof
   wide-room =
       let d = divided m in
@@ -192,7 +192,7 @@ module _ {m n l : ℕ} {f : Line} (w : Windowed m n l f) (B : l ≤ 65536) (room
   }
 
   -- a mean by a running sum, c steps after a fresh one
-  mean-close : {c : ℕ} {y : Float} (i : ℕ) → Carried m n f (i + 1) c y → n ≤ i + 1 → i < l → n + c ≤ 65536
+  mean-close : {c : ℕ} {y : Float} (i : ℕ) → Carried m n f (i + 1) c y → n ≤ i + 1 → i < l → n + c ≤ mostBars
       → Close (m + more m) (8 * spread m 0) (over n y) (mean n f i)
   mean-close i r b h L =
       let o = fresh w i b h in
@@ -224,11 +224,11 @@ module _ {m n l : ℕ} {f : Line} (w : Windowed m n l f) (B : l ≤ 65536) (room
 
   -- one step more
   step-close : {c : ℕ} {x x' last last' : Float} → Close (m + more m) (8 * spread m 0) x x'
-      → Close (sizeAt m c) (errorAt m c) last last' → c < 65536
+      → Close (sizeAt m c) (errorAt m c) last last' → c < mostBars
       → Close (sizeAt m (c + 1)) (errorAt m (c + 1)) (blend (emaAlpha n) last x) (blend (emaAlpha n) last' x')
   step-close {c} p q C =
       let N : (0 < n) × (n ≤ 2 ^ 12) = (w .some, w .narrow) in
-      let bound : c ≤ 65536 = omega arith in
+      let bound : c ≤ mostBars = omega arith in
       close-more
       (blend-close (mean-share n N) (last-share n N) (weights n N) (sizeAt m c) (errorAt m c) (more m)
       (close-more p (omega arith) (omega arith)) q (error-small m c bound) (step-room m c bound)
@@ -252,7 +252,7 @@ pub record Beside (m n : ℕ) (f : Line) (start i : ℕ) (sum average : Float) :
   pub carried : Carried m n f (i + 1) (i - start) sum
   pub close : Close (sizeAt m (i - start)) (errorAt m (i - start)) average (emaOfMeans start n f i)
 
-module _ {m n l : ℕ} {f : Line} (w : Windowed m n l f) (B : l ≤ 65536) (room : 16 * (n * (m + 1)) < roof) (start : ℕ)
+module _ {m n l : ℕ} {f : Line} (w : Windowed m n l f) (B : l ≤ mostBars) (room : 16 * (n * (m + 1)) < roof) (start : ℕ)
     (full : n ≤ start + 1) where
   -- the first bar
   pub begins : {sum seed : Float} → sum ≡ windowSum n f start → seed ≡ mean n (runMeans n f) start → start < l

@@ -2,7 +2,7 @@
 -- bound that rounding does not cross. n 1 gives NaN. Assumes nothing.
 use mathlib.Core.Path.{_≡_, refl, ap}
 use mathlib.Core.Bool.{Bool, true, false, not, cond}
-use Prim.Native.Nat.{ℕ, _+_, _-_, _*_, _<_, _≤_}
+use Prim.Native.Nat.{ℕ, _+_, _-_, _*_, _^_, _<_, _≤_}
 use native.Mathlib.Nat.{mul-le-mul-right, le-of-mul-le-mul-right, div-lt-iff-lt-mul}
 use native.Mathlib.Omega.{arith}
 use lib.Dec.{T, ltb, lit≤, lit<}
@@ -35,7 +35,7 @@ use Rattle.rounding_order.proofs.Within.{
 
 -- ---- the formula, step by step
 
-module _ {c m : ℕ} (M : 0 < m) (most : m ≤ 4096) (h : c ≤ m) where
+module _ {c m : ℕ} (M : 0 < m) (most : m ≤ 2 ^ 53) (h : c ≤ m) where
   -- c / m lies from 0 to 1
   quotient-within : Within false 1 1 (over m (ofInt binary64 (pos c)))
   quotient-within =
@@ -106,7 +106,7 @@ over-within {x} w =
 
 -- ---- the rule
 
-module _ {c m : ℕ} (M : 0 < m) (most : m ≤ 4096) (h : c ≤ m) where
+module _ {c m : ℕ} (M : 0 < m) (most : m ≤ 2 ^ 53) (h : c ≤ m) where
   -- the rank before the division by 100 is a whole number from -100 to 100
   pub whole-rank-within : Hundredths (wholeRank c m)
   unfolding wholeRank

@@ -37,7 +37,7 @@ use Rattle.cells.specs.Recur.{recur}
 use Rattle.extremes.specs.Extreme.{larger}
 use Rattle.exact_ticks.proofs.Bounds.{prices-bounded}
 use Rattle.running_sums.specs.inner.Margin.{largestOf, marginOf}
-use Rattle.running_sums.proofs.Relative.{rounds-off, add-rounds, share-off, share-few, roof}
+use Rattle.running_sums.proofs.Relative.{rounds-off, add-rounds, share-off, share-few, roof, widest}
 use Rattle.running_sums.proofs.Sums.{Small}
 use Rattle.running_sums.proofs.Means.{zero-number, zero-units}
 use Rattle.running_sums.proofs.Signs.{Margin, magnitude-number, magnitude-units}
@@ -183,11 +183,11 @@ unfolding least
 least-size = (lit≤ tt, lit≤ tt)
 
 -- accepted prices are far below the largest numbers
-pub room-for : (m n : ℕ) → m ≤ most → n ≤ 4096 → 16 * (n * (m + 1)) < roof
+pub room-for : (m n : ℕ) → m ≤ most → n ≤ widest → 16 * (n * (m + 1)) < roof
 unfolding roof
 room-for m n h k = lt-of-le-of-lt (go m n most h k) (lit< tt)
   where
-    go : (m n b : ℕ) → m ≤ b → n ≤ 4096 → 16 * (n * (m + 1)) ≤ 16 * (4096 * (b + 1))
+    go : (m n b : ℕ) → m ≤ b → n ≤ widest → 16 * (n * (m + 1)) ≤ 16 * (widest * (b + 1))
     go m n b h k = let l : m + 1 ≤ b + 1 = omega arith in mul-le-mul-left 16 (mul-le-mul k l)
 
 module _ {M : Float} (p : Plus M) (h : inUnits binary64 M ≤ most) where

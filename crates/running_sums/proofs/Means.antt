@@ -20,7 +20,7 @@ use Rattle.windows.specs.Window.{windowSum, over, mean}
 use Rattle.windows.specs.inner.Runs.{runs}
 use Rattle.sliding_means.specs.inner.Means.{runMeans}
 use Rattle.sliding_means.proofs.Means.{zero-over}
-use Rattle.running_sums.proofs.Relative.{off-near, apart-near, near-apart, size-by, div-off}
+use Rattle.running_sums.proofs.Relative.{off-near, apart-near, near-apart, size-by, div-off, widest, mostBars}
 use Rattle.running_sums.proofs.Sums.{
   Small,
   Windowed,
@@ -87,7 +87,7 @@ quotient-size x q n m N a c =
 -- ---- averages of sums that stand for a window's
 
 module _ {m n l : ℕ} {f : Line} (w : Windowed m n l f) {i c : ℕ} {x : Float} (r : Carried m n f i c x) (b : n ≤ i)
-    (h : i ≤ l) (C : c ≤ 65536) where
+    (h : i ≤ l) (C : c ≤ mostBars) where
   share : Number binary64 (over n x)
       × (natAbs (signedUnits binary64 (over n x) *ℤ pos n -ℤ signedUnits binary64 x) * 2 ^ 53
       ≤ 2 * (n * m) + n * 2 ^ 52)
@@ -114,7 +114,7 @@ spread m d = m * (2 ^ 18 + 4) + 2 ^ 53 + d
 -- g made afresh.
 module _ {m n l : ℕ} {g h : Line} (w : Windowed m n l g) (v : Windowed m n l h) (d : ℕ)
     (D : (j : ℕ) → j < l → natAbs (signedUnits binary64 (h j) -ℤ signedUnits binary64 (g j)) * 2 ^ 53 ≤ d) where
-  pub average-near : {c : ℕ} {y : Float} (i : ℕ) → Carried m n h (i + 1) c y → n ≤ i + 1 → i < l → n + c ≤ 65536
+  pub average-near : {c : ℕ} {y : Float} (i : ℕ) → Carried m n h (i + 1) c y → n ≤ i + 1 → i < l → n + c ≤ mostBars
       → natAbs (signedUnits binary64 (over n y) -ℤ signedUnits binary64 (over n (windowSum n g i))) * 2 ^ 53
       ≤ spread m d
   average-near {c} {y} i r b H L =
@@ -141,7 +141,7 @@ module _ {m n l : ℕ} {g h : Line} (w : Windowed m n l g) (v : Windowed m n l h
 
 -- ---- a mean at every bar
 
-module _ {m n l : ℕ} {f : Line} (w : Windowed m n l f) (B : l ≤ 65536) where
+module _ {m n l : ℕ} {f : Line} (w : Windowed m n l f) (B : l ≤ mostBars) where
   -- the running sum at bar i
   pub run-carried : (i : ℕ) → n ≤ i + 1 → i < l → Carried m n f (i + 1) (i + 1 - n) (runs n f i)
   unfolding runs
@@ -156,7 +156,7 @@ unfolding runs mean
 before n i g h l = (before-bar (n - 1) plusZero _ i l, before-bar (n - 1) plusZero _ i l)
 
 -- what holds of 0.0 and of the averages of whole windows holds of both means at every bar
-at-every-bar : (P : Float → Float → Type 0) (n i : ℕ) (g h : Line) → 0 < n → n ≤ 4096 → P plusZero plusZero
+at-every-bar : (P : Float → Float → Type 0) (n i : ℕ) (g h : Line) → 0 < n → n ≤ widest → P plusZero plusZero
     → (n ≤ i + 1 → P (over n (runs n h i)) (over n (windowSum n g i))) → P (over n (runs n h i)) (mean n g i)
 at-every-bar P n i g h N M z a = go (ltb i (n - 1)) (ltb→lt i (n - 1)) (nltb→le i (n - 1))
   where
@@ -168,7 +168,7 @@ at-every-bar P n i g h N M z a = go (ltb i (n - 1)) (ltb→lt i (n - 1)) (nltb�
         rw (← mean-of n i g refl full) (a full)
 
 -- both means are small
-module _ {m n l : ℕ} {g h : Line} (w : Windowed m n l g) (v : Windowed m n l h) (B : l ≤ 65536) (m' : ℕ)
+module _ {m n l : ℕ} {g h : Line} (w : Windowed m n l g) (v : Windowed m n l h) (B : l ≤ mostBars) (m' : ℕ)
     (M : m * (2 ^ 33 + 1) + 2 ^ 33 ≤ m' * 2 ^ 33) where
   both-small : (i : ℕ) → i < l
       → let small : Float → Type 0 = λ x. Number binary64 x × (natAbs (signedUnits binary64 x) ≤ m') in
@@ -193,7 +193,7 @@ module _ {m n l : ℕ} {g h : Line} (w : Windowed m n l g) (v : Windowed m n l h
   means-small = record { number = λ i H. both-small i H .1 .0; size = λ i H. both-small i H .1 .1 }
 
 -- and close to each other
-module _ {m n l : ℕ} {g h : Line} (w : Windowed m n l g) (v : Windowed m n l h) (B : l ≤ 65536) where
+module _ {m n l : ℕ} {g h : Line} (w : Windowed m n l g) (v : Windowed m n l h) (B : l ≤ mostBars) where
   pub run-means-near : (d : ℕ)
       → ((j : ℕ) → j < l → natAbs (signedUnits binary64 (h j) -ℤ signedUnits binary64 (g j)) * 2 ^ 53 ≤ d)
       → (i : ℕ) → i < l

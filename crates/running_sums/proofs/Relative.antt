@@ -53,6 +53,14 @@ pub use Rattle.rounding_laws.proofs.About.{Rounds, add-rounds, sub-rounds}
 use Rattle.rounding_laws.proofs.About.{signed-back, near-over}
 use Rattle.rounding_laws.proofs.Error.{places, grid-near, grid-range, grid-relative}
 
+-- ---- how far the laws of running sums reach: a window's cells, and a series' bars
+
+abbrev pub widest : ℕ
+widest = 4096
+
+abbrev pub mostBars : ℕ
+mostBars = 65536
+
 -- ---- a fraction rounded
 
 half : (f : Format) → 2 ^ prec f ≡ 2 ^ (prec f - 1) * 2
