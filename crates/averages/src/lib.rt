@@ -1,7 +1,7 @@
 // The mean of a window that slides, and what the other averages share with it.
 use calls::Answer;
 use calls::Refusal;
-use values_series::Pass;
+use values_series::Tested;
 ghost use mathlib.Core.Path.{_≡_};
 ghost use mathlib.Core.Bool.{false};
 ghost use mathlib.Core.List.{[], _∷_};
@@ -16,23 +16,27 @@ ghost use Rattle.cells.specs.Line.{Line, line, fromBar};
 ghost use Rattle.cells.specs.Written.{Writing};
 ghost use Rattle.sliding_means.specs.inner.Means.{Summed};
 ghost use Rattle.averages.specs.Sma.{smaLine, SmaCall};
-ghost use Rattle.averages.specs.inner.Stages.{First};
+ghost use Rattle.averages.specs.inner.Stages.{TestedSum};
 
-// The sum of the first n prices, and their bits. An addition waits for the one before it, and the bits are gathered
-// meanwhile.
-pub fn sum_first(series: &[f64], n: usize) -> Pass
+// The sum of the first n prices, and whether a series may hold them. An addition waits for the one before it, and the
+// prices are tested meanwhile, eight at a time.
+pub fn sum_tested(series: &[f64], n: usize) -> Tested
     requires { ⌜ (0 < n) × (n ≤ length (now series)) ⌝ }
-    ensures { λ r. ⌜ First (now (series .entry)) n r ⌝ }
+    ensures { λ r. ⌜ TestedSum (now (series .entry)) n r ⌝ }
 {
-    let mut bits = 0;
+    let mut accept = true;
     let mut sum = -0.0;
     let mut i = 0;
-    while i < n {
-        sum = sum + series[i];
-        bits = bits | f64::to_bits(values::cap(series[i]));
-        i += 1;
+    while n - i >= 8 {
+        accept = accept & values_series::some_accepted(series, i, 8);
+        sum = windows::sum_more(sum, series, i, 8);
+        i += 8;
     }
-    Pass { bits, value: sum }
+    accept = accept & values_series::some_accepted(series, i, n - i);
+    Tested {
+        accept,
+        value: windows::sum_more(sum, series, i, n - i),
+    }
 }
 
 // Writes the cells of `sma` from the sum of the first n prices.
@@ -66,8 +70,8 @@ pub fn sma(series: &[f64], n: usize, out: &mut [f64]) -> Answer
     ensures { λ r. ⌜ SmaCall (now (series .entry)) n (now (out .entry)) r (now (out .exit)) ⌝ }
 {
     if checks::window_fits(series.len(), n, out.len()) {
-        let sum = sum_first(series, n);
-        if values_series::accepted_after(sum.bits, n, series) {
+        let sum = sum_tested(series, n);
+        if sum.accept & values_series::accepted_from(series, n) {
             write_means(series, n, sum.value, out);
             Answer::Cells(series.len())
         } else {

@@ -1,7 +1,7 @@
 -- What the functions under the exponential averages ask of each other. Assumes nothing.
-use mathlib.Core.Path.{_≡_}
+use mathlib.Core.Path.{_≡_, refl}
 use mathlib.Core.List.{List}
-use Prim.Native.Nat.{ℕ, suc, _+_, _-_, _<_, _≤_}
+use Prim.Native.Nat.{ℕ, zero, suc, _+_, _-_, _<_, _≤_}
 use native.Mathlib.Omega.{arith}
 use lib.ListN.{length, set}
 use lib.Ieee.{Float, nan}
@@ -13,7 +13,7 @@ use Rattle.cells.specs.Recur.{recur, carried}
 use Rattle.cells.specs.Written.{Writing}
 use Rattle.cells.proofs.Written.{step, then-written}
 use Rattle.averages_blend.specs.Blend.{blend, smoothLine}
-use Rattle.averages_blend.specs.inner.Blending.{Blending}
+use Rattle.averages_blend.specs.inner.Blending.{blendFrom, Blending}
 
 module _ {alpha : Float} {a : ℕ} {seed : Float} {f : Line} where
   pub seeded : Blending alpha a seed f (a + 1) seed
@@ -44,6 +44,17 @@ module _ {alpha : Float} {a : ℕ} {seed : Float} {f : Line} where
   -- the bar, written in another way
   pub at-bar : {i j : ℕ} {x : Float} → Blending alpha a seed f i x → i ≡ j → Blending alpha a seed f j x
   at-bar r e = rw (← e) r
+
+  -- m bars more
+  pub more-blended : {i : ℕ} {x y : Float} (m k : ℕ) → Blending alpha a seed f i x → y ≡ blendFrom alpha x f i m
+      → (a < i) × (i + m ≡ k)
+      → Blending alpha a seed f k y
+  unfolding recur
+  more-blended {i} {x} m k r e (h, g) = rw e (at-bar (go m) g)
+    where
+      go : (m : ℕ) → Blending alpha a seed f (i + m) (blendFrom alpha x f i m)
+      go zero = at-bar r (omega arith)
+      go (suc m) = at-bar (next-blended (go m) refl (omega arith)) (omega arith)
 
   -- the cell of bar i
   pub blended-cell : (i : ℕ) {x : Float} → Blending alpha a seed f (i + 1) x → x ≡ smoothLine alpha a seed f i

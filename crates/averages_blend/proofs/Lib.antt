@@ -1,3 +1,3 @@
 pub mod Blending
 pub mod Halves
-pub mod Reached
+pub mod TwoParts

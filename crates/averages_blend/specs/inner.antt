@@ -1,3 +1,3 @@
 -- What the functions under the exponential averages ask of each other.
 pub mod Blending
-pub mod HalfWay
+pub mod Tested

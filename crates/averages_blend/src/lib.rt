@@ -1,10 +1,12 @@
 // The step of the exponential averages, and a line of such steps written from its seed on.
-use values_series::Pass;
+use values_series::Tested;
 ghost use mathlib.Core.Path.{_≡_};
-ghost use Prim.Native.Nat.{_+_};
+ghost use Prim.Native.Nat.{_+_, _≤_};
+ghost use lib.ListN.{length};
+ghost use Rattle.cells.specs.Line.{line};
 ghost use Rattle.averages_blend.specs.Blend.{blend};
-ghost use Rattle.averages_blend.specs.inner.Blending.{Middle, Smoothing, Smooth};
-ghost use Rattle.averages_blend.specs.inner.HalfWay.{Seeded, HalfWay};
+ghost use Rattle.averages_blend.specs.inner.Blending.{blendFrom, Middle, Smoothing, Smooth};
+ghost use Rattle.averages_blend.specs.inner.Tested.{TestedSeed, TestedHalf};
 
 // alpha of x and the rest of `last`.
 pub fn blended(alpha: f64, last: f64, x: f64) -> f64
@@ -13,25 +15,44 @@ pub fn blended(alpha: f64, last: f64, x: f64) -> f64
     alpha * x + (1.0 - alpha) * last
 }
 
-// The cell half way through the bars after the seed, and the bits of all prices. A cell waits for the one before it,
-// and the bits are gathered meanwhile.
-pub fn blend_half(series: &[f64], alpha: f64, first: usize, seed: Pass) -> Pass
-    requires { ⌜ Seeded (now series) first (seed .bits) ⌝ }
-    ensures { λ r. ⌜ HalfWay (now (series .entry)) alpha first (seed .value) r ⌝ }
+// The cell after `count` prices more, from `at` on, each blended with the cell before it.
+fn blend_more(alpha: f64, last: f64, series: &[f64], at: usize, count: usize) -> f64
+    requires { ⌜ at + count ≤ length (now series) ⌝ }
+    ensures { λ r. ⌜ r ≡ blendFrom alpha last (line (now (series .entry))) at count ⌝ }
+{
+    let mut cell = last;
+    let mut k = 0;
+    while k < count {
+        cell = blended(alpha, cell, series[at + k]);
+        k += 1;
+    }
+    cell
+}
+
+// The cell half way through the bars after the seed, and whether a series may hold all prices. A cell waits for the
+// one before it, and the prices of both halves are tested meanwhile, eight at a time.
+pub fn blend_tested(series: &[f64], alpha: f64, first: usize, seed: Tested) -> Tested
+    requires { ⌜ TestedSeed (now series) first (seed .accept) ⌝ }
+    ensures { λ r. ⌜ TestedHalf (now (series .entry)) alpha first (seed .value) r ⌝ }
 {
     let half = (series.len() - first - 1) / 2;
     let low = first + 1;
     let high = low + half;
-    let mut bits = seed.bits | f64::to_bits(values::cap(series[series.len() - 1]));
+    let mut accept = seed.accept;
     let mut last = seed.value;
     let mut i = 0;
-    while i < half {
-        bits = bits | f64::to_bits(values::cap(series[low + i]));
-        bits = bits | f64::to_bits(values::cap(series[high + i]));
-        last = blended(alpha, last, series[low + i]);
-        i += 1;
+    while half - i >= 8 {
+        accept = accept & values_series::some_accepted(series, low + i, 8);
+        accept = accept & values_series::some_accepted(series, high + i, 8);
+        last = blend_more(alpha, last, series, low + i, 8);
+        i += 8;
     }
-    Pass { bits, value: last }
+    accept = accept & values_series::some_accepted(series, low + i, half - i);
+    accept = accept & values_series::some_accepted(series, high + i, series.len() - high - i);
+    Tested {
+        accept,
+        value: blend_more(alpha, last, series, low + i, half - i),
+    }
 }
 
 // Writes the blended cells after bar `first`, where the seed stands: both halves side by side, the second from the

@@ -1,10 +1,11 @@
 -- A slice of which only the first cells were used: what was written on it, and clearing it. Assumes nothing.
 use mathlib.Core.Path.{_≡_, refl, sym, ap, _∙_}
 use mathlib.Core.List.{List, [], _∷_}
-use Prim.Native.Nat.{ℕ, zero, suc, _≤_}
+use Prim.Native.Nat.{ℕ, zero, suc, _<_, _≤_}
 use native.Mathlib.Nat.{not-suc-le-zero, le-of-suc-le-suc}
 use native.Mathlib.Omega.{arith}
-use lib.ListN.{length, drop}
+use lib.ListN.{length, drop, set, length-set}
+use lib.Seq.{drop-set-lt}
 use Rattle.cells.specs.Written.{written, Writing}
 use Rattle.cells.specs.inner.Touched.{Touched}
 use Rattle.cells.proofs.Rows.{drop-written}
@@ -15,6 +16,13 @@ module _ {A : Type 0} where
 
   pub touched : {k : ℕ} {f : ℕ → A} {old now : List A} → Writing k f old now → Touched k old now
   touched {k} {f} {old} w = record { rest = rw (w .is) (drop-written k f old); long = w .long }
+
+  -- one of the first cells is set
+  pub touched-set : {k : ℕ} {old now : List A} (i : ℕ) (x : A) → Touched k old now → i < k → Touched k old (set now i x)
+  touched-set {k} {now = now} i x p h = record {
+    rest = drop-set-lt k now i x h ∙ p .rest;
+    long = length-set now i x ∙ p .long;
+  }
 
   pub touched-then : {k : ℕ} {a b c : List A} → Touched k a b → Touched k b c → Touched k a c
   touched-then p q = record { rest = q .rest ∙ p .rest; long = q .long ∙ p .long }

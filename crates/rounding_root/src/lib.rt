@@ -4,7 +4,9 @@ ghost use mathlib.Core.Path.{_≡_};
 ghost use mathlib.Core.Bool.{true, false};
 ghost use Prim.Native.Nat.{_+_, _*_, _/_, _^_, _≤_, _<_};
 ghost use lib.IntN.{pos};
+ghost use lib.ListN.{length};
 ghost use lib.Ieee.{binary64, fin, lt};
+ghost use Rattle.cells.specs.inner.Touched.{Touched};
 ghost use Rattle.rounding_root.specs.Root.{nearestRoot, sqrtOf};
 ghost use Rattle.rounding_root.specs.inner.Squares.{Closest};
 ghost use Rattle.rounding_root.specs.inner.Steps.{Digits, Square, Rooted};
@@ -53,13 +55,21 @@ fn searched(m: u64) -> u64
     lo + 1
 }
 
-// A guess at the root of p * 2 ^ twice / 2 ^ 52, which lies from 1 up to 4. The first guess at the inverse root comes
-// from the bits, and three steps double its digits. In the last step a is s cut to 26 digits, so that a * a is exact
-// and x - s * s is known to its last digits. The guess is nearly always right, and only the speed rests on that.
-fn guess(p: u64, twice: u64) -> f64
-    requires { ⌜ (Digits p) × (twice ≤ 1) ⌝ }
+// The bits of x, moved by an even power of two so that it lies from 1/2 up to 2. What is not above zero counts as 1.
+fn scaled(x: f64) -> u64
+    ensures { λ r. ⌜ r < 1025 * 2 ^ 52 ⌝ }
 {
-    let bits = p + (1022 + twice) * FIRST;
+    let some = if x > 0.0 { x } else { 1.0 };
+    let bits = f64::to_bits(some);
+    bits % (2 * FIRST) + 1022 * FIRST
+}
+
+// A guess at the root of the number with these bits, which lies from 1/2 up to 4. The first guess at the inverse root
+// comes from the bits, and three steps double its digits. In the last step a is s cut to 26 digits, so that a * a is
+// exact and x - s * s is known to its last digits. The guess is nearly always right, and only the speed rests on that.
+fn guess(bits: u64) -> f64
+    requires { ⌜ bits < 1025 * 2 ^ 52 ⌝ }
+{
     let x = f64::from_bits(bits);
     let y = f64::from_bits(0x5fe6_eb50_c7b5_37a9 - bits / 2);
     let s0 = x * y;
@@ -91,13 +101,13 @@ fn closest(m: u64, guess: f64) -> u64
     searched(m)
 }
 
-// The root of p * 2 ^ (e + 53) squares of the smallest f64.
-fn root_of(p: u64, e: u64) -> f64
+// The root of p * 2 ^ (e + 53) squares of the smallest f64, by a guess at its digits.
+fn root_of(p: u64, e: u64, guess: f64) -> f64
     requires { ⌜ (Digits p) × (e < 3072) ⌝ }
     ensures { λ r. ⌜ r ≡ nearestRoot binary64 (p * 2 ^ (e + 53)) ⌝ }
 {
     let twice = 1 - e % 2;
-    let q = closest(p << twice, guess(p, twice));
+    let q = closest(p << twice, guess);
     f64::from_bits((e + 1) / 2 * FIRST + q)
 }
 
@@ -107,11 +117,13 @@ fn root_of_subnormal(t: u64) -> f64
     ensures { λ r. ⌜ r ≡ nearestRoot binary64 (t * 2 ^ 1074) ⌝ }
 {
     let zeros = u64::leading_zeros(t) as u64 - 11;
-    root_of(t << zeros, 1021 - zeros)
+    let p = t << zeros;
+    let e = 1021 - zeros;
+    root_of(p, e, guess(p + (1023 - e % 2) * FIRST))
 }
 
 // The root of a number above zero, by the exponent's field and the digits of its bits.
-fn root_above_zero(x: f64) -> f64
+fn root_above_zero(x: f64, guess: f64) -> f64
     requires { ⌜ lt (fin false 0 (pos 0)) x ≡ true ⌝ }
     ensures { λ r. ⌜ r ≡ sqrtOf binary64 x ⌝ }
 {
@@ -124,18 +136,38 @@ fn root_above_zero(x: f64) -> f64
     if field == 0 {
         return root_of_subnormal(digits);
     }
-    root_of(FIRST + digits, field + 1020)
+    root_of(FIRST + digits, field + 1020, guess)
 }
 
-// The f64 nearest to the square root of x: NaN for NaN and below zero, a zero for itself, infinity for infinity.
-pub fn square_root(x: f64) -> f64
+// The f64 nearest to the square root of x: NaN for NaN and below zero, a zero for itself, infinity for infinity. It is
+// that whatever the guess at its digits.
+pub fn root_by(x: f64, guess: f64) -> f64
     ensures { λ r. ⌜ r ≡ sqrtOf binary64 x ⌝ }
 {
     if x > 0.0 {
-        return root_above_zero(x);
+        return root_above_zero(x, guess);
     }
     if x == 0.0 {
         return x;
     }
     0.0 / 0.0
+}
+
+// The same by a guess of its own.
+pub fn square_root(x: f64) -> f64
+    ensures { λ r. ⌜ r ≡ sqrtOf binary64 x ⌝ }
+{
+    root_by(x, guess(scaled(x)))
+}
+
+// Writes guesses at the roots of the first `count` numbers, for `root_by`. Made apart from their tests, they wait less.
+pub fn write_guesses(xs: &[f64], count: usize, guesses: &mut [f64])
+    requires { ⌜ (count ≤ length (now xs)) × (count ≤ length (now guesses)) ⌝ }
+    ensures { λ _. ⌜ Touched count (now (guesses .entry)) (now (guesses .exit)) ⌝ }
+{
+    let mut i = 0;
+    while i < count {
+        guesses[i] = guess(scaled(xs[i]));
+        i += 1;
+    }
 }

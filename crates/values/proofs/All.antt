@@ -19,6 +19,12 @@ pub and-assoc : (a b c : Bool) → a && (b && c) ≡ a && b && c
 and-assoc true b c = refl
 and-assoc false b c = refl
 
+pub and-turns : (a b c d : Bool) → a && b && (c && d) ≡ a && c && (b && d)
+and-turns true true c d = refl
+and-turns true false true d = refl
+and-turns true false false d = refl
+and-turns false b c d = refl
+
 pub and-parts : (t u : Bool) → t && u ≡ true → (t ≡ true) × (u ≡ true)
 and-parts true u e = (refl, e)
 and-parts false u e = absurd (true≢false (sym e))

@@ -2,6 +2,7 @@ pub mod All
 pub mod Both
 pub mod Fraction
 pub mod Numbers
+pub mod Part
 pub mod Quick
 pub mod Ticks
 pub mod TicksAccepted

@@ -27,51 +27,11 @@ use lib.Ieee.Bits.{ofBits-toBits, is-true}
 use lib.Ieee.Exact.{HasValue, odd-sign}
 use lib.Ieee.Fits.{down-pos}
 use lib.Ieee.Order.{le-of-values}
-use Rattle.values.specs.Accepted.{within, accepted, all}
-use Rattle.values.proofs.All.{all-of}
-use Rattle.values.specs.inner.Quick.{EachUpTo, NoneAbove, UpTo, capped, bitsFrom, BitsOf}
+use Rattle.values.specs.Accepted.{within, accepted}
+use Rattle.values.specs.inner.Part.{Passing}
+use Rattle.values.proofs.Part.{each-passing}
+use Rattle.values.specs.inner.Quick.{EachUpTo, UpTo, capped, bitsFrom, BitsOf}
 use Rattle.cells.specs.Line.{Line, line}
-
-pub or-first : (a b : ℕ) → a ≤ bitOr a b
-or-first a b = omega (arith, or-add-and a b, and-le-r a b)
-
-pub or-second : (a b : ℕ) → b ≤ bitOr a b
-or-second a b = omega (arith, or-add-and a b, and-le-l a b)
-
-module _ {s : List Float} {a : ℕ} where
-  -- there are none
-  pub none-yet : {b k : ℕ} → k ≤ a → NoneAbove b s a k
-  none-yet h = record { each = λ i p q. absurd (omega arith) }
-
-  pub none-larger : {b c k : ℕ} → NoneAbove b s a k → b ≤ c → NoneAbove c s a k
-  none-larger n h = record { each = λ i p q. le-trans (n .each i p q) h }
-
-  -- a part of them
-  pub none-within : {b k : ℕ} (m l : ℕ) → NoneAbove b s a k → (a ≤ m) × (l ≤ k) → NoneAbove b s m l
-  none-within m l n (p, q) = record { each = λ i g h. n .each i (le-trans p g) (lt-of-lt-of-le h q) }
-
-  -- two parts that leave nothing out between them
-  pub none-joined : {b k m l : ℕ} → NoneAbove b s a k → NoneAbove b s m l → m ≤ k → NoneAbove b s a l
-  none-joined {b} {k} {m} {l} u v h = record { each = λ i p q. go i p q (ltb i k) refl }
-    where
-      go : (i : ℕ) → a ≤ i → i < l → (t : Bool) → ltb i k ≡ t → toBits binary64 (capped (getD s i nan)) ≤ b
-      go i p q true e = u .each i p (ltb-true _ _ e)
-      go i p q false e = let g : k ≤ i = ltb-false _ _ e in v .each i (le-trans h g) q
-
--- number k alone
-pub none-of-one : {s : List Float} {k : ℕ} {x : Float} → x ≡ capped (getD s k nan)
-    → NoneAbove (toBits binary64 x) s k (k + 1)
-none-of-one {s} {k} {x} e = record { each = λ i p q. go i (omega arith) }
-  where
-    go : (i : ℕ) → i ≡ k → toBits binary64 (capped (getD s i nan)) ≤ toBits binary64 x
-    go i h = rw (h, ← e) (le-of-eq refl)
-
--- no bit is taken away by a further number, so nothing becomes larger than what is kept
-pub none-with : {s : List Float} {a b k : ℕ} {x : Float} → NoneAbove b s a k → x ≡ capped (getD s k nan)
-    → NoneAbove (bitOr b (toBits binary64 x)) s a (k + 1)
-none-with {b = b} {k} {x} n e =
-    none-joined (none-larger n (or-first b (toBits binary64 x)))
-    (none-larger (none-of-one e) (or-second b (toBits binary64 x))) (le-of-eq refl)
 
 -- ---- gathered bit by bit
 
@@ -84,20 +44,26 @@ pub more-bits : {f : Line} {a b k : ℕ} {x : Float} (i l : ℕ) → BitsOf f a 
 unfolding bitsFrom
 more-bits i l g c (p, q) = record { is = rw (g .is, c, ← p, ← q) }
 
-none-in : (s : List Float) (a k : ℕ) → NoneAbove (bitsFrom (line s) a k) s a (a + k)
+-- so none of them has larger ones
+each-below : (f : Line) (a k i : ℕ) → i < k → toBits binary64 (capped (f (a + i))) ≤ bitsFrom f a k
 unfolding bitsFrom
-none-in s a zero = none-yet (omega arith)
-none-in s a (suc k) =
-    let next : a + suc k ≡ a + k + 1 = omega arith in
-    rw next (none-with (none-in s a k) refl)
+each-below f a zero i h = absurd (omega arith)
+each-below f a (suc k) i h = go (each-below f a k i) (ltb i k) refl
+  where
+    old : ℕ
+    old = bitsFrom f a k
 
--- so none of them is larger
-pub bits-above : (s : List Float) (a e : ℕ) {b : ℕ} → BitsOf (line s) a (e - a) b → NoneAbove b s a e
-bits-above s a e g = rw (g .is) (none-within a e (none-in s a (e - a)) (omega arith))
+    own : ℕ → ℕ
+    own j = toBits binary64 (capped (f (a + j)))
 
--- and of the first n
-pub bits-first : (s : List Float) (n : ℕ) {b : ℕ} → BitsOf (line s) 0 n b → NoneAbove b s 0 n
-bits-first s n g = rw (g .is) (none-within 0 n (none-in s 0 n) (omega arith))
+    go : (i < k → own i ≤ old) → (t : Bool) → ltb i k ≡ t → own i ≤ bitOr old (own k)
+    go below true e =
+        let first : own i ≤ old = below (ltb-true _ _ e) in
+        omega (arith, or-add-and old (own k), and-le-r old (own k))
+    go below false e =
+        let g : k ≤ i = ltb-false _ _ e in
+        let here : i ≡ k = omega arith in
+        rw here (omega (arith, or-add-and old (own k), and-le-l old (own k)))
 
 -- only a number is below another
 pub capped-number : (x : Float) → T (not (isNan (capped x)))
@@ -206,10 +172,22 @@ quick-accepted x f h =
     let own = own-bits 30 x (omega arith) h in
     rw (up-to-within 30 x (quick 30 x (omega arith) f h), ne-eqb (toBits binary64 x) (2 ^ 63) (λ e. omega arith))
 
-module _ {b : ℕ} (s : List Float) (none : NoneAbove b s 0 (length s))
-    (fit : (i : ℕ) → T (fits binary64 (getD s i nan))) where
-  pub quick-all : b ≤ powerBits 30 → all accepted s ≡ true
-  quick-all h = all-of accepted s (λ i l. quick-accepted (getD s i nan) (fit i) (le-trans (none .each i zero-le l) h))
+-- ---- numbers by their bits together
 
-  pub quick-up-to : (k : ℕ) → k ≤ 30 → b ≤ powerBits k → EachUpTo k s
-  quick-up-to k n h i l = quick k (getD s i nan) n (fit i) (le-trans (none .each i zero-le l) h)
+-- k numbers from index a on
+pub quick-passing : {f : Line} {a k b : ℕ} → BitsOf f a k b → ((i : ℕ) → T (fits binary64 (f i))) → b ≤ powerBits 30
+    → Passing accepted f a k true
+quick-passing {f} {a} {k} g fit h =
+    each-passing k
+    (λ i l. quick-accepted (f (a + i)) (fit (a + i)) (le-trans (each-below f a k i l) (rw (← g .is) h)))
+
+-- a whole series
+pub quick-up-to : (s : List Float) {b : ℕ} → BitsOf (line s) 0 (length s) b
+    → ((i : ℕ) → T (fits binary64 (getD s i nan)))
+    → (k : ℕ) → k ≤ 30 → b ≤ powerBits k → EachUpTo k s
+quick-up-to s g fit k n h i l = quick k (getD s i nan) n (fit i) (le-trans below (rw (← g .is) h))
+  where
+    below : toBits binary64 (capped (getD s i nan)) ≤ bitsFrom (line s) 0 (length s)
+    below =
+        let at : 0 + i ≡ i = omega arith in
+        rw (← at) (each-below (line s) 0 (length s) i l)

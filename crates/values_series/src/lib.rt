@@ -2,16 +2,17 @@
 use limits::LARGEST_TICK_BITS;
 use limits::LARGEST_VALUE_BITS;
 ghost use mathlib.Core.Path.{_≡_};
-ghost use Prim.Native.Nat.{_≤_, _-_};
+ghost use Prim.Native.Nat.{_+_, _≤_, _-_};
 ghost use lib.ListN.{length};
 ghost use Rattle.values.specs.Accepted.{accepted, tick, all};
-ghost use Rattle.values.specs.inner.Quick.{NoneAbove, BitsOf};
+ghost use Rattle.values.specs.inner.Quick.{BitsOf};
 ghost use Rattle.values.specs.inner.Fraction.{comesBack};
+ghost use Rattle.values.specs.inner.Part.{Passing};
 ghost use Rattle.cells.specs.Line.{line};
 
-// What is found on the way through a series: the bits of the prices together, and a sum or a cell.
-pub struct Pass {
-    pub bits: u64,
+// A sum or a cell, and whether a series may hold every price up to it.
+pub struct Tested {
+    pub accept: bool,
     pub value: f64,
 }
 
@@ -30,55 +31,43 @@ pub fn bits_together(s: &[f64], first: usize, end: usize) -> u64
     together
 }
 
-// Whether a series may hold every number of s. All are looked at, and what was found is kept in two variables: so the
-// loop takes several at a time.
-fn each_accepted(s: &[f64]) -> bool
-    ensures { λ r. ⌜ r ≡ all accepted (now (s .entry)) ⌝ }
+// Whether a series may hold the `count` numbers of s from index `first` on. All are looked at, and what was found is
+// kept in two variables: so the loop takes several at a time.
+pub fn some_accepted(s: &[f64], first: usize, count: usize) -> bool
+    requires { ⌜ first + count ≤ length (now s) ⌝ }
+    ensures { λ r. ⌜ Passing accepted (line (now (s .entry))) first count r ⌝ }
 {
     let mut near = true;
     let mut minus_zeros = 0;
     let mut i = 0;
-    while i < s.len() {
-        near = near & values::is_near(s[i]);
-        minus_zeros = minus_zeros | values::minus_zero_bits(s[i]);
+    while i < count {
+        near = near & values::is_near(s[first + i]);
+        minus_zeros = minus_zeros | values::minus_zero_bits(s[first + i]);
         i += 1;
     }
     near & (minus_zeros == 0)
 }
 
-// Whether a series may hold every number of s, whose bits together are at hand. If those are at most the bits of
-// 2^30, every number lies from 0.0 to 2^30; most series pass this quick test.
-pub fn accepted_by(together: u64, s: &[f64]) -> bool
-    requires { ⌜ NoneAbove together (now s) 0 (length (now s)) ⌝ }
-    ensures { λ r. ⌜ r ≡ all accepted (now (s .entry)) ⌝ }
+// Whether a series may hold every number of s from index `first` on. Where their bits together are at most those of
+// 2^30, every one lies from 0.0 to 2^30; most series pass this quick test. It is not tried if the first 16 numbers of s
+// fail it, as prices on both sides of 0 mostly do.
+pub fn accepted_from(s: &[f64], first: usize) -> bool
+    requires { ⌜ first ≤ length (now s) ⌝ }
+    ensures { λ r. ⌜ Passing accepted (line (now (s .entry))) first (length (now (s .entry)) - first) r ⌝ }
 {
-    if together <= LARGEST_VALUE_BITS {
-        true
-    } else {
-        each_accepted(s)
+    if bits_together(s, 0, cells::smaller(s.len(), 16)) <= LARGEST_VALUE_BITS {
+        if bits_together(s, first, s.len()) <= LARGEST_VALUE_BITS {
+            return true;
+        }
     }
-}
-
-// Whether a series may hold every number of s, of whose first n the bits together are at hand. Where those and the next
-// 16 fail the quick test, as prices on both sides of 0 mostly do, the others are not looked at twice.
-pub fn accepted_after(first: u64, n: usize, s: &[f64]) -> bool
-    requires { ⌜ NoneAbove first (now s) 0 n × (n ≤ length (now s)) ⌝ }
-    ensures { λ r. ⌜ r ≡ all accepted (now (s .entry)) ⌝ }
-{
-    let some = cells::smaller(s.len(), n + 16);
-    let head = first | bits_together(s, n, some);
-    if head <= LARGEST_VALUE_BITS {
-        accepted_by(head | bits_together(s, some, s.len()), s)
-    } else {
-        each_accepted(s)
-    }
+    some_accepted(s, first, s.len() - first)
 }
 
 // Whether a series may hold every number of s.
 pub fn all_accepted(s: &[f64]) -> bool
     ensures { λ r. ⌜ r ≡ all accepted (now (s .entry)) ⌝ }
 {
-    accepted_after(0, 0, s)
+    accepted_from(s, 0)
 }
 
 // What one pass over a series finds: the bits of its numbers together, and whether each comes back from beside 2^52.

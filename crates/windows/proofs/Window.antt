@@ -1,5 +1,5 @@
 -- Sums and means of the last n cells, and running sums. Every operation is rounded once. Assumes nothing.
-use mathlib.Core.Path.{_≡_, refl, ap}
+use mathlib.Core.Path.{_≡_, refl, ap, _∙_}
 use Prim.Native.Nat.{ℕ, zero, suc, _+_, _-_, _^_, _<_, _≤_}
 use native.Mathlib.Numerals.{add-one}
 use native.Mathlib.Omega.{arith}
@@ -26,6 +26,23 @@ one-added s = record { is = rw (add-one, s .is) }
 pub added-at : {z : Float} {f : Line} {a k : ℕ} {x : Float} (i : ℕ) → Summing z f a k x → a + k ≡ i
     → Summing z f a (k + 1) (add binary64 x (f i))
 added-at i s e = rw (← e) (one-added s)
+
+-- a sum is a start for the cells that follow
+sums-meet : (z : Float) (f : Line) (a k m : ℕ) → sumFrom (sumFrom z f a k) f (a + k) m ≡ sumFrom z f a (k + m)
+unfolding sumFrom
+sums-meet z f a k zero =
+    let none : k + 0 ≡ k = omega arith in
+    rw none
+sums-meet z f a k (suc m) =
+    let at : a + k + m ≡ a + (k + m) = omega arith in
+    let more : k + suc m ≡ suc (k + m) = omega arith in
+    rw (more, sums-meet z f a k m, at)
+
+-- m cells more, from bar i on
+pub more-added : {z : Float} {f : Line} {a k : ℕ} {x y : Float} (i m l : ℕ) → Summing z f a k x → y ≡ sumFrom x f i m
+    → (a + k ≡ i) × (k + m ≡ l)
+    → Summing z f a l y
+more-added {z} {f} {a} {k} i m l s e (p, q) = record { is = e ∙ rw (s .is, ← p, ← q) (sums-meet z f a k m) }
 
 -- the window's sum at bar i, from the sum of its n cells, which start at bar a
 pub window-sum : (n i : ℕ) {f : Line} {a k : ℕ} {x : Float} → Summing minusZero f a k x → (k ≡ n) × (a + n ≡ i + 1)

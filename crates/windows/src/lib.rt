@@ -4,7 +4,7 @@ ghost use mathlib.Core.Path.{_≡_};
 ghost use Prim.Native.Nat.{_+_, _≤_};
 ghost use lib.ListN.{length};
 ghost use Rattle.cells.specs.Line.{line};
-ghost use Rattle.windows.specs.Window.{windowSum, mean};
+ghost use Rattle.windows.specs.Window.{sumFrom, windowSum, mean};
 ghost use Rattle.windows.specs.inner.Eight.{Windows, SixteenOf, Eight, eachPlus, eachOver, WindowRoom};
 ghost use Rattle.limits.specs.Limits.{longestWindow};
 ghost use Rattle.cells.specs.Written.{Writing};
@@ -53,19 +53,26 @@ pub fn added(sums: Lanes, series: &[f64], at: usize) -> Lanes
     }
 }
 
+// The sum with `count` prices more, from `at` on, each added to what was there before it.
+pub fn sum_more(sum: f64, series: &[f64], at: usize, count: usize) -> f64
+    requires { ⌜ at + count ≤ length (now series) ⌝ }
+    ensures { λ r. ⌜ r ≡ sumFrom sum (line (now (series .entry))) at count ⌝ }
+{
+    let mut more = sum;
+    let mut k = 0;
+    while k < count {
+        more = more + series[at + k];
+        k += 1;
+    }
+    more
+}
+
 // The sum of the n prices up to bar i.
 pub fn sum_at(series: &[f64], n: usize, i: usize) -> f64
     requires { ⌜ Windows n i 1 (length (now series)) ⌝ }
     ensures { λ r. ⌜ r ≡ windowSum n (line (now (series .entry))) i ⌝ }
 {
-    let at = i + 1 - n;
-    let mut sum = -0.0;
-    let mut k = 0;
-    while k < n {
-        sum = sum + series[at + k];
-        k += 1;
-    }
-    sum
+    sum_more(-0.0, series, i + 1 - n, n)
 }
 
 // The same for the eight bars from i on, each with a sum of its own.

@@ -3,7 +3,7 @@
 
 use crate::call::{Kind, Value};
 use crate::catalogue::{self, Domain, Function};
-use crate::clock::best_of_two;
+use crate::clock::by_turns;
 use crate::library::Lent;
 use crate::rng::Rng;
 
@@ -56,22 +56,14 @@ struct Row {
     window: String,
     ours: f64,
     source: f64,
+    ratio: f64,
 }
 
 impl Row {
-    fn ratio(&self) -> f64 {
-        self.source / self.ours
-    }
-
     fn print(&self) {
         println!(
             "{:<24}{:>8}{:>10}{:>12.3}{:>12.3}{:>10.2}",
-            self.name,
-            self.bars,
-            self.window,
-            self.ours,
-            self.source,
-            self.ratio()
+            self.name, self.bars, self.window, self.ours, self.source, self.ratio
         );
     }
 }
@@ -89,8 +81,8 @@ pub fn run(prices: Prices) {
             }
         }
     }
-    if let Some(least) = rows.iter().min_by(|a, b| a.ratio().total_cmp(&b.ratio())) {
-        println!("smallest ratio {:.2}: {}, L {}, window {}", least.ratio(), least.name, least.bars, least.window);
+    if let Some(least) = rows.iter().min_by(|a, b| a.ratio.total_cmp(&b.ratio)) {
+        println!("smallest ratio {:.2}: {}, L {}, window {}", least.ratio, least.name, least.bars, least.window);
     }
 }
 
@@ -136,7 +128,7 @@ fn timings(name: &str, bars: usize) -> Vec<Timing> {
     }
 }
 
-/// Both sides on a walk of prices, by turns, and the best time of each.
+/// Both sides on a walk of prices, by turns: the best time of each, and the ratio of the turns.
 fn measure(function: &'static Function, bars: usize, timing: Timing, prices: Prices) -> Row {
     let call = function.call(series(function, bars, prices), timing.parameters);
     let library = function.library.unwrap();
@@ -144,9 +136,10 @@ fn measure(function: &'static Function, bars: usize, timing: Timing, prices: Pri
     let mut work = Lent::filled(Kind::F64, call.work, 2);
     let mut ours = || assert_eq!(library(&call, &mut outputs, &mut work).count, bars as u64);
     let mut theirs = || (function.timed)(&call);
-    let (ours, source) = best_of_two(&mut ours, &mut theirs);
+    let turns = by_turns(&mut ours, &mut theirs);
+    let [ours, source] = turns.best.map(|time| time / bars as f64);
     let window = timing.window.map_or("-".to_string(), |n| n.to_string());
-    Row { name: function.name, bars, window, ours: ours / bars as f64, source: source / bars as f64 }
+    Row { name: function.name, bars, window, ours, source, ratio: turns.ratio }
 }
 
 /// One walk of prices, or the high, the low and the close of bars around it; for the true range the close before.

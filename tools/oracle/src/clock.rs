@@ -57,31 +57,38 @@ const MOST: usize = 40;
 /// After this long a single measurement is enough.
 const TOO_LONG: Duration = Duration::from_secs(5);
 
-/// The best nanoseconds of one run of each of two things, measured by turns.
-pub fn best_of_two(first: &mut dyn FnMut(), second: &mut dyn FnMut()) -> (f64, f64) {
-    let ((first_runs, first_time), (second_runs, second_time)) = (enough(first), enough(second));
-    let mut best = [first_time, second_time];
-    let mut spent = first_time + second_time;
-    for turn in 1..MOST {
-        if spent > TOO_LONG || turn >= FEWEST && spent > LONGEST {
-            break;
-        }
-        let times = [time(first, first_runs), time(second, second_runs)];
-        spent += times[0] + times[1];
-        best = [best[0].min(times[0]), best[1].min(times[1])];
-    }
-    let each = |time: Duration, runs: u32| time.as_nanos() as f64 / runs as f64;
-    (each(best[0], first_runs), each(best[1], second_runs))
+/// Two things measured by turns.
+pub struct Turns {
+    /// The best nanoseconds of one run of each.
+    pub best: [f64; 2],
+    /// The second's time over the first's: the median of the turns, of which each has both side by side. A processor
+    /// that runs faster for some turns changes the best times, and not this.
+    pub ratio: f64,
 }
 
-/// How many runs make a measurement, and the time that they took.
-fn enough(run: &mut dyn FnMut()) -> (u32, Duration) {
+/// Measures two things by turns.
+pub fn by_turns(first: &mut dyn FnMut(), second: &mut dyn FnMut()) -> Turns {
+    let (first_runs, second_runs) = (enough(first), enough(second));
+    let each = |time: Duration, runs: u32| time.as_nanos() as f64 / runs as f64;
+    let mut spent = Duration::ZERO;
+    let mut best = [f64::INFINITY; 2];
+    let mut ratios: Vec<f64> = Vec::new();
+    while ratios.len() < MOST && spent < TOO_LONG && (ratios.len() < FEWEST || spent < LONGEST) {
+        let times = [time(first, first_runs), time(second, second_runs)];
+        spent += times[0] + times[1];
+        let turn = [each(times[0], first_runs), each(times[1], second_runs)];
+        best = [best[0].min(turn[0]), best[1].min(turn[1])];
+        ratios.push(turn[1] / turn[0]);
+    }
+    ratios.sort_by(f64::total_cmp);
+    Turns { best, ratio: ratios[ratios.len() / 2] }
+}
+
+/// How many runs make a measurement.
+fn enough(run: &mut dyn FnMut()) -> u32 {
     let mut runs = 1;
-    loop {
-        let took = time(run, runs);
-        if took >= SHORTEST {
-            return (runs, took);
-        }
+    while time(run, runs) < SHORTEST {
         runs *= 2;
     }
+    runs
 }

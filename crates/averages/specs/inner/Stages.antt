@@ -5,10 +5,11 @@ use Prim.Native.Nat.{ℕ, _-_}
 use lib.Ieee.{Float}
 use Rattle.cells.specs.Line.{line}
 use Rattle.windows.specs.Window.{windowSum}
-use Rattle.values.specs.inner.Quick.{BitsOf}
-use Rattle.values_series.specs.declared.Pass.{Pass}
+use Rattle.values.specs.Accepted.{accepted}
+use Rattle.values.specs.inner.Part.{Passing}
+use Rattle.values_series.specs.declared.Tested.{Tested}
 
--- the sum of the first n bars, and their bits together
-pub record First (s : List Float) (n : ℕ) (r : Pass) : Type 0 where
+-- the sum of the first n prices, and whether they are accepted
+pub record TestedSum (s : List Float) (n : ℕ) (r : Tested) : Type 0 where
   pub sum : r .value ≡ windowSum n (line s) (n - 1)
-  pub bits : BitsOf (line s) 0 n (r .bits)
+  pub accept : Passing accepted (line s) 0 n (r .accept)

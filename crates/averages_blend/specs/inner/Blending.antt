@@ -5,8 +5,13 @@ use Prim.Native.Nat.{ℕ, _+_, _-_, _/_, _<_, _≤_}
 use lib.ListN.{length}
 use lib.Ieee.{Float}
 use Rattle.cells.specs.Line.{Line, line}
+use Rattle.cells.specs.Recur.{recur}
 use Rattle.cells.specs.Written.{Writing}
-use Rattle.averages_blend.specs.Blend.{smoothLine}
+use Rattle.averages_blend.specs.Blend.{blend, smoothLine}
+
+-- the cell after k bars more, from bar a on
+abbrev pub blendFrom : Float → Float → Line → ℕ → ℕ → Float
+blendFrom alpha last f a = recur last (λ k cell. blend alpha cell (f (a + k)))
 
 -- x is the cell before bar i: what the loop that blends keeps
 pub record Blending (alpha : Float) (a : ℕ) (seed : Float) (f : Line) (i : ℕ) (x : Float) : Type 0 where

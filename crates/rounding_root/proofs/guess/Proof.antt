@@ -9,10 +9,7 @@ pub guess-spec : {M : Type 1} → statement M
 guess-spec =
     tie.close
     (tie.spec
-    (λ c. search needs)  -- add-bits
-    (λ c. search needs)  -- mul-bits
-    (λ c. search needs)  -- add-bits-2
-    (λ c. no-nan _ (omega arith))  -- float-from-bits-x
+    (λ c. no-nan _ (omega (arith, c .pre)))  -- float-from-bits-x
     (λ c. search needs)  -- sub-y
     (λ c. no-nan _ (omega arith))  -- float-from-bits-y
     (λ c. search needs)  -- returns

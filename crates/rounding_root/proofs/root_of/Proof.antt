@@ -11,13 +11,13 @@ use Rattle.rounding_root.proofs.root_of.Tie as tie
 
 closest-requires : tie.Need-closest-requires
 closest-requires c κs =
-    let a = c .before .args in
-    evened (a .p) (a .e) (c .before .pre .0) .square
+    let a = c .args in
+    evened (a .p) (a .e) (c .pre .0) .square
 
 returns : tie.Need-returns
 returns c =
-    let a = c .before .before .args in
-    let even = evened (a .p) (a .e) (c .before .before .pre .0) in
+    let a = c .before .args in
+    let even = evened (a .p) (a .e) (c .before .pre .0) in
     let square = even .square in
     let rooted = c .closest .ensures in
     written _ _ (rooted .digits) (omega arith)
@@ -29,7 +29,6 @@ root-of-spec =
     (tie.spec
     (λ c. search needs)  -- sub-twice
     (λ c. search needs)  -- shl-closest
-    (λ c κs. search needs)  -- guess-requires
     closest-requires
     (λ c. search needs)  -- add-result
     (λ c. search needs)  -- mul-result

@@ -12,10 +12,10 @@ lifted : (c : tie.Start) → Moved (c .args .t) (leadingZeros 64 (c .args .t))
 lifted c = moved (c .args .t) (c .pre .0) (c .pre .1)
 
 root-of-requires : tie.Need-root-of-requires
-root-of-requires c κs = (lifted c .digits, omega (arith, lifted c))
+root-of-requires c κs = (lifted (c .before) .digits, omega (arith, lifted (c .before)))
 
 returns : tie.Need-returns
-returns c = c .root-of .ensures ∙ sym (ap (nearestRoot binary64) (lifted (c .before) .same))
+returns c = c .root-of .ensures ∙ sym (ap (nearestRoot binary64) (lifted (c .before .before) .same))
 
 pub root-of-subnormal-spec : {M : Type 1} → statement M
 root-of-subnormal-spec =
@@ -23,8 +23,12 @@ root-of-subnormal-spec =
     (tie.spec
     (λ c. omega (arith, lifted c))  -- cast-zeros
     (λ c. omega (arith, lifted c))  -- sub-zeros
-    (λ c. omega (arith, lifted c))  -- shl-root-of
-    (λ c. omega (arith, lifted c))  -- sub-root-of
+    (λ c. omega (arith, lifted c))  -- shl-p
+    (λ c. omega (arith, lifted c))  -- sub-e
+    (λ c. omega (arith, lifted c))  -- sub-guess
+    (λ c. omega (arith, lifted c))  -- mul-guess
+    (λ c. omega (arith, lifted c .digits))  -- add-guess
+    (λ c κs. omega (arith, lifted c .digits))  -- guess-requires
     root-of-requires
     returns
     )

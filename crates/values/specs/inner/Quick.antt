@@ -23,10 +23,6 @@ bitsFrom f a (suc k) = bitOr (bitsFrom f a k) (toBits binary64 (capped (f (a + k
 pub record BitsOf (f : Line) (a k b : ℕ) : Type 0 where
   pub is : b ≡ bitsFrom f a k
 
--- none of the numbers from index a up to k has larger bits than b
-pub record NoneAbove (b : ℕ) (s : List Float) (a k : ℕ) : Type 0 where
-  pub each : (i : ℕ) → a ≤ i → i < k → toBits binary64 (capped (getD s i nan)) ≤ b
-
 -- x is a number of smallest values, 2 ^ -1074 each, from 0 to 2 ^ k
 pub record UpTo (k : ℕ) (x : Float) : Type 0 where
   pub count : ℕ

@@ -9,7 +9,7 @@ use Rattle.values.specs.Accepted.{tick}
 use Rattle.values.specs.inner.Fraction.{comesBack}
 use Rattle.values.proofs.All.{all-next, all-none, all-same}
 use Rattle.values.proofs.Fraction.{whole-tick}
-use Rattle.values.proofs.Quick.{quick-up-to, bits-first}
+use Rattle.values.proofs.Quick.{quick-up-to}
 use Rattle.values_series.proofs.all_ticks.Statement.{statement}
 use Rattle.values_series.proofs.all_ticks.Tie as tie
 
@@ -19,8 +19,7 @@ returns-3 c =
     let known = at-gather .before .before .before .before .before .before in
     let s = now (known .before .before .before .args .s) in
     let found = at-gather .gather .ensures in
-    let none = bits-first s (length s) (found .0) in
-    let each = quick-up-to s none (known .shared-slice-known2 .given) 24 (omega arith) (omega arith) in
+    let each = quick-up-to s (found .0) (known .shared-slice-known2 .given) 24 (omega arith) (omega arith) in
     found .1 ∙ all-same comesBack tick s (λ i h. whole-tick _ (each i h))
 
 returns-5 : tie.Need-returns-5

@@ -10,14 +10,15 @@ use Rattle.cells.specs.Line.{line}
 use Rattle.values.specs.Accepted.{all}
 use Rattle.values.specs.inner.Quick.{BitsOf}
 use Rattle.values.specs.inner.Fraction.{comesBack}
-use Rattle.values.proofs.All.{and-true, and-assoc, all-next, all-none}
+use Rattle.values.specs.inner.Part.{Passing}
+use Rattle.values.proofs.Part.{none-passing, one-passing, all-passing}
 use Rattle.values.proofs.Quick.{capped-number, more-bits, no-bits}
 use Rattle.values_series.proofs.gather.Statement.{statement}
 use Rattle.values_series.proofs.gather.Tie as tie
 
 abbrev Inv-loop : tie.InvT-loop
 Inv-loop s bits₀ whole₀ i₀ bits whole i =
-    (i ≤ length s) × BitsOf (line s) 0 i bits × (all comesBack s ≡ whole && all comesBack (drop i s))
+    (i ≤ length s) × BitsOf (line s) 0 i bits × Passing comesBack (line s) 0 i whole
 
 abbrev μ-loop : tie.MeasureT-loop
 μ-loop s bits₀ whole₀ i₀ bits whole i = length s - i
@@ -29,8 +30,7 @@ loop-again c =
     let at = in-loop .before .loop in (
       omega arith,
       more-bits _ _ (at .inv .1) (at-cap .cap .ensures) (omega arith),
-      rw (at .inv .2, all-next comesBack _ _ (in-loop .loop-test .taken), ← c .is-whole .ensures)
-          (and-assoc (at .whole) _ _),
+      one-passing _ (at .inv .2) (c .is-whole .ensures) (omega arith),
     )
 
 returns : tie.Need-returns Inv-loop μ-loop
@@ -39,7 +39,7 @@ returns c =
     let s = now (c .before .before .before .args .s) in
     let whole : at .i ≡ length s = omega arith in (
       rw (← whole) (at .inv .1),
-      sym (rw (at .inv .2, all-none comesBack _ _ (c .loop-test .left)) (and-true (at .whole))),
+      all-passing s (at .inv .2) (omega arith),
     )
 
 pub gather-spec : {M : Type 1} → statement M
@@ -48,7 +48,7 @@ gather-spec =
     (tie.spec
     Inv-loop
     μ-loop
-    (λ c. (omega arith, no-bits (omega arith), refl))  -- loop-holds
+    (λ c. (omega arith, no-bits (omega arith), none-passing))  -- loop-holds
     (λ c. search needs)  -- mul-cap
     (λ c. search needs)  -- shared-slice-read-cap
     (λ c κs. search needs)  -- cap-requires
