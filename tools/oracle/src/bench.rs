@@ -68,11 +68,13 @@ impl Row {
     }
 }
 
-/// Prints the table; its last line is the smallest ratio of source to ours.
-pub fn run(prices: Prices) {
+/// Prints the table of the named functions, of all if none is named; its last line is the smallest ratio of source to
+/// ours.
+pub fn run(prices: Prices, names: &[&str]) {
     println!("{:<24}{:>8}{:>10}{:>12}{:>12}{:>10}", "function", "L", "window", "ours ns/bar", "source", "ratio");
     let mut rows: Vec<Row> = Vec::new();
-    for function in catalogue::exported().filter(|function| prices.suit(function)) {
+    let asked = |function: &Function| names.is_empty() || names.contains(&function.name);
+    for function in catalogue::exported().filter(|function| prices.suit(function) && asked(function)) {
         for bars in LENGTHS {
             for timing in timings(function.name, *bars) {
                 let row = measure(function, *bars, timing, prices);

@@ -32,7 +32,7 @@ use std::process::ExitCode;
 
 const USAGE: &str = "usage: oracle compare CALLS SEED..   compare the library's calls and check its exactness
        oracle flips FILE CALLS [NAME..]   which of the listed flips show: for tools/mutate
-       oracle bench [ticks|hundredths|differences]   the table of times
+       oracle bench ticks|hundredths|differences [NAME..]   the table of times
        oracle record                a sample of calls for a program to replay
        oracle sheet                 the sheet program, in Rust over pure.rs
        oracle sheet-compare PROGRAM SEED DAMAGED
@@ -51,8 +51,9 @@ pub fn run() -> ExitCode {
             exact::run(&seeds, calls / 50) & compare::run(&seeds, calls)
         }
         ["flips", file, calls, names @ ..] => flips::run(file, number(calls) as usize, names),
-        ["bench"] => told(|| bench::run(Prices::Ticks)),
-        ["bench", word] if Prices::named(word).is_some() => told(|| bench::run(Prices::named(word).unwrap())),
+        ["bench", word, names @ ..] if Prices::named(word).is_some() => {
+            told(|| bench::run(Prices::named(word).unwrap(), names))
+        }
         ["record"] => told(|| record::print()),
         ["sheet"] => sheet::run(stdin().lock(), BufWriter::new(stdout().lock())).is_ok(),
         ["sheet-compare", program, seed, damaged] => {
