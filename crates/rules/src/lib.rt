@@ -143,7 +143,7 @@ pub fn boll_positions(series: &[f64], n: usize, k: f64, out: &mut [i32], work: &
 {
     let due = rules_bands::answer_bands(series, n, k, out.len(), work.len());
     if checks::cells_due(due, series.len(), work) {
-        rules_bands::write_boll(series, n, k, out, work);
+        rules_bands::write_bands(series, false, n, k, out, work);
         cells::clear(work, 8 * series.len());
     }
     due
@@ -162,7 +162,7 @@ pub fn boll_reverse_positions(
 {
     let due = rules_bands::answer_bands(series, n, k, out.len(), work.len());
     if checks::cells_due(due, series.len(), work) {
-        rules_bands::write_boll_reverse(series, n, k, out, work);
+        rules_bands::write_bands(series, true, n, k, out, work);
         cells::clear(work, 8 * series.len());
     }
     due

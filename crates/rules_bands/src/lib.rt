@@ -2,6 +2,7 @@
 use calls::Answer;
 use calls::Refusal;
 ghost use mathlib.Core.Path.{_≡_};
+ghost use mathlib.Core.Bool.{cond};
 ghost use lib.ListN.{length};
 ghost use Rattle.cells.specs.Line.{line};
 ghost use Rattle.cells.specs.Written.{Writing};
@@ -9,9 +10,9 @@ ghost use Rattle.cells.specs.inner.Touched.{Touched};
 ghost use Rattle.windows.specs.inner.Eight.{WindowRoom};
 ghost use Rattle.checks.specs.inner.Due.{Priced};
 ghost use Rattle.rules_bands_bar.specs.Answer.{bandAnswer};
-ghost use Rattle.rules_bands_bar.specs.Boll.{outsideBands, bollLine};
-ghost use Rattle.rules_bands_bar.specs.BollReverse.{turnedBands, bollReverseLine};
-ghost use Rattle.rules_bands_bar.specs.inner.Stages.{Begun, Further};
+ghost use Rattle.rules_bands_bar.specs.Boll.{bollLine};
+ghost use Rattle.rules_bands_bar.specs.BollReverse.{bollReverseLine};
+ghost use Rattle.rules_bands_bar.specs.inner.Stages.{bandPositions, Begun, Further};
 
 // The answer of both: refusal 6 for k comes after the series' own refusals, and before those of the window.
 pub fn answer_bands(series: &[f64], n: usize, k: f64, out: usize, work: usize) -> Answer
@@ -25,68 +26,29 @@ pub fn answer_bands(series: &[f64], n: usize, k: f64, out: usize, work: usize) -
     checks::and_then(due, next)
 }
 
-// Writes the cells of a few bars from bar i on, and gives how many they are.
-fn write_some_outside(means: &[f64], n: usize, k: f64, i: usize, out: &mut [i32]) -> usize
-    requires { ⌜ Begun n (now means) i (outsideBands n k (line (now means))) (now out) ⌝ }
-    ensures { λ r. ⌜ Further (now (means .entry)) i (outsideBands n k (line (now (means .entry)))) r
-        (now (out .entry)) (now (out .exit)) ⌝ }
-{
-    let mut middles = [0.0; 8];
-    let mut variances = [0.0; 8];
-    let count = deviations::write_spreads(means, n, n - 1, i, &mut middles, &mut variances);
-    let inverse = 1.0 / k;
-    let mut j = 0;
-    while j < count {
-        out[i + j] = rules_bands_bar::outside_by(
-            means[i + j],
-            middles[j],
-            k,
-            inverse,
-            variances[j],
-        );
-        j += 1;
-    }
-    count
-}
-
-// Writes each bar's position against the bands of the means.
-fn write_outside(means: &[f64], n: usize, k: f64, out: &mut [i32])
-    requires { ⌜ WindowRoom n (length (now means)) (length (now out)) ⌝ }
-    ensures { λ _. ⌜ Writing (length (now (means .entry))) (outsideBands n k (line (now (means .entry))))
-        (now (out .entry)) (now (out .exit)) ⌝ }
-{
-    let mut i = rules_held::fill_flat(out, 2 * n - 2, means.len());
-    while i < means.len() {
-        i += write_some_outside(means, n, k, i, out);
-    }
-}
-
-// Writes each bar's position. One row of `work` is used.
-pub fn write_boll(series: &[f64], n: usize, k: f64, out: &mut [i32], work: &mut [f64])
-    requires { ⌜ Priced 1 n (now series) (length (now out)) (length (now work)) ⌝ }
-    ensures { λ _. ⌜ Writing (length (now (series .entry))) (bollLine n k (line (now (series .entry))))
-        (now (out .entry)) (now (out .exit))
-        × Touched (length (now (series .entry))) (now (work .entry)) (now (work .exit)) ⌝ }
-{
-    let bars = series.len();
-    window_means::write_means_of_prices(series, n, work);
-    write_outside(&work[..bars], n, k, out);
-}
-
 // Writes the positions of a few bars from bar i on, and gives how many they are.
-fn write_some_turned(means: &[f64], n: usize, k: f64, i: usize, out: &mut [i32]) -> usize
-    requires { ⌜ Begun n (now means) i (turnedBands n k (line (now means))) (now out) ⌝ }
-    ensures { λ r. ⌜ Further (now (means .entry)) i (turnedBands n k (line (now (means .entry)))) r (now (out .entry))
-        (now (out .exit)) ⌝ }
+fn write_some_positions(
+    means: &[f64],
+    reverse: bool,
+    n: usize,
+    k: f64,
+    i: usize,
+    out: &mut [i32],
+) -> usize
+    requires { ⌜ Begun n (now means) i (bandPositions reverse n k (line (now means))) (now out) ⌝ }
+    ensures { λ r. ⌜ Further (now (means .entry)) i (bandPositions reverse n k (line (now (means .entry)))) r
+        (now (out .entry)) (now (out .exit)) ⌝ }
 {
     let mut middles = [0.0; 8];
     let mut variances = [0.0; 8];
-    let count = rules_bands_bar::write_reverse_spreads(means, n, i, &mut middles, &mut variances);
+    let d = rules_bands_bar::divisor(reverse, n);
+    let count = deviations::write_spreads(means, n, d, i, &mut middles, &mut variances);
     let inverse = 1.0 / k;
     let mut position = rules_bands_bar::position_before(out, i);
     let mut j = 0;
     while j < count {
-        position = rules_bands_bar::turned_by(
+        position = rules_bands_bar::position_after(
+            reverse,
             position,
             means[i + j],
             middles[j],
@@ -101,25 +63,33 @@ fn write_some_turned(means: &[f64], n: usize, k: f64, i: usize, out: &mut [i32])
 }
 
 // Writes each bar's position by the bands of the means.
-fn write_turned(means: &[f64], n: usize, k: f64, out: &mut [i32])
+fn write_positions(means: &[f64], reverse: bool, n: usize, k: f64, out: &mut [i32])
     requires { ⌜ WindowRoom n (length (now means)) (length (now out)) ⌝ }
-    ensures { λ _. ⌜ Writing (length (now (means .entry))) (turnedBands n k (line (now (means .entry))))
+    ensures { λ _. ⌜ Writing (length (now (means .entry))) (bandPositions reverse n k (line (now (means .entry))))
         (now (out .entry)) (now (out .exit)) ⌝ }
 {
     let mut i = rules_held::fill_flat(out, 2 * n - 2, means.len());
     while i < means.len() {
-        i += write_some_turned(means, n, k, i, out);
+        i += write_some_positions(means, reverse, n, k, i, out);
     }
 }
 
-// Writes each bar's position. One row of `work` is used.
-pub fn write_boll_reverse(series: &[f64], n: usize, k: f64, out: &mut [i32], work: &mut [f64])
+// Writes each bar's position, by the reverse rule or by the plain one. One row of `work` is used.
+pub fn write_bands(
+    series: &[f64],
+    reverse: bool,
+    n: usize,
+    k: f64,
+    out: &mut [i32],
+    work: &mut [f64],
+)
     requires { ⌜ Priced 1 n (now series) (length (now out)) (length (now work)) ⌝ }
-    ensures { λ _. ⌜ Writing (length (now (series .entry))) (bollReverseLine n k (line (now (series .entry))))
+    ensures { λ _. ⌜ Writing (length (now (series .entry)))
+        (cond reverse (bollReverseLine n k (line (now (series .entry)))) (bollLine n k (line (now (series .entry)))))
         (now (out .entry)) (now (out .exit))
         × Touched (length (now (series .entry))) (now (work .entry)) (now (work .exit)) ⌝ }
 {
     let bars = series.len();
     window_means::write_means_of_prices(series, n, work);
-    write_turned(&work[..bars], n, k, out);
+    write_positions(&work[..bars], reverse, n, k, out);
 }

@@ -1,28 +1,20 @@
--- Both Bollinger rules: no look-ahead, what their cells are, and a cell from a middle and a variance. Assumes nothing.
+-- Both Bollinger rules: no look-ahead, what their cells are, and what opens a position. Assumes nothing.
 use mathlib.Core.Path.{_≡_, refl}
 use mathlib.Core.Bool.{Bool, true, false, cond}
-use mathlib.Core.List.{List}
-use Prim.Native.Nat.{ℕ, zero, suc, _+_, _-_, _*_, _<_, _≤_}
-use native.Mathlib.Omega.{arith}
+use Prim.Native.Nat.{ℕ, suc, _-_, _*_}
 use lib.Dec.{leb}
 use lib.IntN.{ℤ, negℤ}
-use lib.ListN.{length, getD}
-use lib.Ieee.{Float, nan, binary64, add, sub, mul, lt}
+use lib.Ieee.{Float, binary64, add, sub, mul, lt}
 use lib.Ieee.Fits.{add-fits, sub-fits}
 use Rattle.rounding.specs.Literals.{tenToMinus}
-use Rattle.rounding_root.specs.Root.{sqrtOf}
 use Rattle.rounding_order.proofs.WithZero.{lt-plus-zero, lt-less-zero}
 use Rattle.cells.specs.Line.{Line, plusZero, minusZero, fromBar, Causal}
-use Rattle.cells.proofs.Line.{causal-self, causal-then, causal-from, from-bar}
-use Rattle.cells.specs.Recur.{recur}
-use Rattle.cells.specs.Written.{Writing}
-use Rattle.cells.specs.inner.Recurring.{Recurring}
-use Rattle.cells.proofs.Written.{read-back}
+use Rattle.cells.proofs.Line.{causal-self, causal-then, causal-from}
 use Rattle.windows.specs.Window.{mean}
 use Rattle.windows.proofs.Window.{causal-mean}
-use Rattle.deviations.specs.Deviation.{variance, deviation, upperBand, lowerBand}
+use Rattle.deviations.specs.Deviation.{deviation, upperBand, lowerBand}
 use Rattle.deviations.proofs.Causal.{causal-deviation}
-use Rattle.rules_held.specs.Held.{flat, long, short, Signal, silent, moved, hold}
+use Rattle.rules_held.specs.Held.{flat, long, short, Signal, silent}
 use Rattle.rules_held.proofs.Holding.{
   Position,
   at-flat,
@@ -33,9 +25,8 @@ use Rattle.rules_held.proofs.Holding.{
   causal-hold,
   never-adjoin,
 }
-use Rattle.rules_bands_bar.specs.Boll.{beyond, outsideAt, outsideBands, bollLine}
-use Rattle.rules_bands_bar.specs.BollReverse.{opensAt, turnsAt, bandSignals, turnedBands, bollReverseLine}
-use Rattle.rules_bands_bar.specs.inner.Stages.{positionBefore}
+use Rattle.rules_bands_bar.specs.Boll.{beyond, outsideBands, bollLine}
+use Rattle.rules_bands_bar.specs.BollReverse.{opensAt, bandSignals, turnedBands, bollReverseLine}
 
 -- ---- no look-ahead
 
@@ -123,45 +114,3 @@ opens-other-side average middle k width =
     turned true q = refl
     turned false true = refl
     turned false false = refl
-
--- ---- a cell from a middle and a variance
-
--- the root of the variance is the deviation
-pub deviation-of : (d n i : ℕ) (g : Line) {v : Float} → v ≡ variance minusZero d n g i → n ≤ i + 1
-    → sqrtOf binary64 v ≡ deviation minusZero d n g i
-unfolding deviation
-deviation-of d n i g e h = rw (e, from-bar (n - 1) nan _ i (omega arith))
-
-pub outside-at : (n : ℕ) (k : Float) (g : Line) (i : ℕ) {m v : Float} → m ≡ mean n g i → v
-    ≡ variance minusZero (n - 1) n g i
-    → 2 * n ≤ i + 2 → n ≤ i + 1
-    → outsideAt (g i) m k (sqrtOf binary64 v) ≡ outsideBands n k g i
-unfolding outsideBands
-outside-at n k g i p q h l =
-    rw (p, deviation-of (n - 1) n i g q l, from-bar (2 * n - 2) flat _ i (omega arith))
-
-pub turns-at : (n : ℕ) (k : Float) (g : Line) (i : ℕ) {m v : Float} → m ≡ mean n g i → v ≡ variance minusZero n n g i
-    → 2 * n ≤ i + 2 → n ≤ i + 1
-    → turnsAt (g i) m k (sqrtOf binary64 v) ≡ bandSignals n k g i
-unfolding bandSignals
-turns-at n k g i p q h l =
-    rw (p, deviation-of n n i g q l, from-bar (2 * n - 2) silent _ i (omega arith))
-
--- ---- the loop that holds a position
-
--- what stands before bar i is the position after i bars
-pub held-before : (s : ℕ → Signal) (i : ℕ) {out : List ℤ} → Writing i (hold s) out out → i ≤ length out
-    → Recurring flat (λ j position. moved position (s j)) i (positionBefore i out)
-unfolding positionBefore hold recur
-held-before s zero w h = record { is = refl }
-held-before s (suc i) w h = record { is = read-back i flat w (omega arith) }
-
-pub before-some : (i : ℕ) (out : List ℤ) → 0 < i → getD out (i - 1) flat ≡ positionBefore i out
-unfolding positionBefore
-before-some zero out h = absurd (omega arith)
-before-some (suc i) out h = let bar : suc i - 1 ≡ i = omega arith in rw bar
-
-pub before-none : (i : ℕ) (out : List ℤ) → i ≤ 0 → flat ≡ positionBefore i out
-unfolding positionBefore
-before-none zero out h = refl
-before-none (suc i) out h = absurd (omega arith)

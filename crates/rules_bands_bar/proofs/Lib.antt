@@ -1,3 +1,4 @@
 pub mod Bands
 pub mod Guess
 pub mod Narrow
+pub mod Stages

@@ -1,16 +1,15 @@
-// Both Bollinger rules, one bar: outside a band, and the position after it; and the bands of the reverse rule.
+// Both Bollinger rules, one bar: beyond a band, and the position after it; and what their variances are over.
 ghost use mathlib.Core.Path.{_≡_};
-ghost use Prim.Native.Nat.{_≤_};
+ghost use Prim.Native.Nat.{_<_, _≤_};
 ghost use lib.ListN.{length};
 ghost use mathlib.Core.Bool.{false};
 ghost use lib.Ieee.{binary64, lt};
 ghost use Rattle.cells.specs.Line.{plusZero};
 ghost use Rattle.rounding_root.specs.Root.{sqrtOf};
-ghost use Rattle.rules_bands_bar.specs.Boll.{beyond, outsideAt};
+ghost use Rattle.rules_bands_bar.specs.Boll.{beyond};
 ghost use Rattle.rules_bands_bar.specs.BollReverse.{turnsAt};
-ghost use Rattle.rules_bands_bar.specs.inner.Stages.{positionBefore};
+ghost use Rattle.rules_bands_bar.specs.inner.Stages.{divisorOf, positionAfter, positionBefore};
 ghost use Rattle.rules_held.specs.Held.{moved};
-ghost use Rattle.deviations.specs.inner.Spread.{SpreadRoom, Spread};
 
 // +1 above the band, -1 below it and else 0, each by more than a margin.
 fn beyond_at(average: f64, middle: f64, k: f64, width: f64, margin: f64) -> i32
@@ -80,16 +79,21 @@ fn beyond_by(average: f64, middle: f64, k: f64, inverse: f64, margin: f64, varia
     beyond_by_guess(average, middle, k, margin, variance, low, high)
 }
 
-// The cell of `boll_positions`.
-pub fn outside_by(average: f64, middle: f64, k: f64, inverse: f64, variance: f64) -> i32
-    ensures { λ r. ⌜ r ≡ outsideAt average middle k (sqrtOf binary64 variance) ⌝ }
+// The position after a bar of the reverse rule. The bands are asked only where the position before it is flat: above
+// them it opens short, and below them long.
+fn turned_by(position: i32, average: f64, middle: f64, k: f64, inverse: f64, variance: f64) -> i32
+    ensures { λ r. ⌜ r ≡ moved position (turnsAt average middle k (sqrtOf binary64 variance)) ⌝ }
 {
-    beyond_by(average, middle, k, inverse, 1e-10, variance)
+    if position == 0 {
+        -beyond_by(average, middle, k, inverse, 0.0, variance)
+    } else {
+        rules_held::move_position(position, 0, middle < average, average < middle)
+    }
 }
 
-// The position after a bar. The bands are asked only where the position before it is flat: above them it opens short,
-// and below them long.
-pub fn turned_by(
+// The position after a bar, from the one before it. The plain rule asks the bar alone.
+pub fn position_after(
+    reverse: bool,
     position: i32,
     average: f64,
     middle: f64,
@@ -97,12 +101,12 @@ pub fn turned_by(
     inverse: f64,
     variance: f64,
 ) -> i32
-    ensures { λ r. ⌜ r ≡ moved position (turnsAt average middle k (sqrtOf binary64 variance)) ⌝ }
+    ensures { λ r. ⌜ r ≡ positionAfter reverse position average middle k (sqrtOf binary64 variance) ⌝ }
 {
-    if position == 0 {
-        -beyond_by(average, middle, k, inverse, 0.0, variance)
+    if reverse {
+        turned_by(position, average, middle, k, inverse, variance)
     } else {
-        rules_held::move_position(position, 0, middle < average, average < middle)
+        beyond_by(average, middle, k, inverse, 1e-10, variance)
     }
 }
 
@@ -114,17 +118,10 @@ pub fn position_before(out: &[i32], i: usize) -> i32
     if i > 0 { out[i - 1] } else { 0 }
 }
 
-// Writes the middles of a few bars from bar i on, and the variances over n, and gives how many they are.
-pub fn write_reverse_spreads(
-    means: &[f64],
-    n: usize,
-    i: usize,
-    middles: &mut [f64],
-    variances: &mut [f64],
-) -> usize
-    requires { ⌜ SpreadRoom n n i (length (now means)) (length (now middles)) (length (now variances)) ⌝ }
-    ensures { λ r. ⌜ Spread n n (now (means .entry)) i r (now (middles .entry)) (now (variances .entry))
-        (now (middles .exit)) (now (variances .exit)) ⌝ }
+// What the squares are divided by: n by the reverse rule, and n - 1 by the plain one.
+pub fn divisor(reverse: bool, n: usize) -> usize
+    requires { ⌜ 0 < n ⌝ }
+    ensures { λ r. ⌜ r ≡ divisorOf reverse n ⌝ }
 {
-    deviations::write_spreads(means, n, n, i, middles, variances)
+    if reverse { n } else { n - 1 }
 }

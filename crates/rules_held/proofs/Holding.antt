@@ -15,7 +15,7 @@ use Rattle.cells.proofs.Line.{before-bar}
 use Rattle.cells.proofs.Written.{stands, writing-same}
 use Rattle.cells.specs.Recur.{recur}
 use Rattle.cells.specs.inner.Recurring.{Recurring}
-use Rattle.cells.proofs.Recur.{recur-same, one-step}
+use Rattle.cells.proofs.Recur.{recur-same}
 use Rattle.rules_held.specs.Held.{flat, long, short, Signal, silent, moved, hold}
 
 -- no look-ahead, where the signals have none
@@ -90,22 +90,13 @@ pub held-position : (s : ℕ → Signal) → ((i : ℕ) → Position (s i .opens
 unfolding hold
 held-position s o i = held-after s o (suc i)
 
--- ---- what the loops that hold a position keep
+-- ---- what a loop that holds a position keeps
 
 -- the position at bar i, after i + 1 bars
 pub held-at : (s : ℕ → Signal) (i : ℕ) {z : ℤ} → Recurring flat (λ j position. moved position (s j)) (i + 1) z → z
     ≡ hold s i
 unfolding hold
 held-at s i r = let one : i + 1 ≡ suc i = omega arith in r .is ∙ rw one
-
--- one more bar
-pub held-on : (s : ℕ → Signal) (i j : ℕ) {z y : ℤ} → Recurring flat (λ b position. moved position (s b)) (i + j) z
-    → y ≡ moved z (s (i + j))
-    → Recurring flat (λ b position. moved position (s b)) (i + (j + 1)) y × (y ≡ hold s (i + j))
-held-on s i j r e =
-    let next = one-step r e in
-    let on : i + (j + 1) ≡ i + j + 1 = omega arith in
-    (rw on next, held-at s (i + j) next)
 
 -- ---- one move, by the code's tests
 

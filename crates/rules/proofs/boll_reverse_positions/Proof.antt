@@ -26,7 +26,7 @@ returns c =
     let then = cells .before .before .before in
     let due = then .before .before .before in
     written-call (due .before .before .answer-bands .ensures) (band-bars _ _ _ _ _)
-    (rw (then .if1 .taken) at (due .cells-due .ensures)) (cells .write-boll-reverse .ensures) (omega arith)
+    (rw (then .if1 .taken) at (due .cells-due .ensures)) (cells .write-bands .ensures) (omega arith)
     (clear .clear .ensures)
 
 pub boll-reverse-positions-spec : {M : Type 1} → statement M
@@ -35,7 +35,7 @@ boll-reverse-positions-spec =
     (tie.spec
     (λ c κs. search needs)  -- answer-bands-requires
     (λ c κs. band-clearable _ _ _ _ _ (c .before .answer-bands .ensures))  -- cells-due-requires
-    (λ c κs. fewer-rows (opened (c .before .before)) (omega arith))  -- write-boll-reverse-requires
+    (λ c κs. fewer-rows (opened (c .before .before)) (omega arith))  -- write-bands-requires
     (λ c. let o = opened (c .before .before .before .before .before .before .before) in search needs)  -- mul-clear
     -- clear-requires
     (λ c κs. let o = opened (c .before .before .before .before .before .before .before) in search needs)

@@ -3,7 +3,7 @@ use mathlib.Core.Path.{_∙_}
 use borrow.Author.Needs.{needs}
 use mir.Syntax.{w32}
 use mir.ValLaws.{toZ-ofZ}
-use Rattle.rules_bands_bar.proofs.Bands.{before-some, before-none}
+use Rattle.rules_bands_bar.proofs.Stages.{before-some, before-none}
 use Rattle.rules_bands_bar.proofs.position_before.Statement.{statement}
 use Rattle.rules_bands_bar.proofs.position_before.Tie as tie
 

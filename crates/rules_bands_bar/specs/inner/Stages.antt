@@ -1,12 +1,35 @@
--- How the cells of a rule are written, a few bars at a time. Assumes nothing.
+-- Both rules in one, by whether the rule is the reverse one; and how cells are written, a few bars at a time. Assumes
+-- nothing.
+use mathlib.Core.Bool.{Bool, cond}
 use mathlib.Core.List.{List}
-use Prim.Native.Nat.{ℕ, zero, suc, _+_, _*_, _<_, _≤_}
+use Prim.Native.Nat.{ℕ, zero, suc, _+_, _-_, _*_, _<_, _≤_}
 use lib.IntN.{ℤ}
 use lib.ListN.{length, getD}
 use lib.Ieee.{Float}
+use Rattle.cells.specs.Line.{Line}
 use Rattle.cells.specs.Written.{Writing}
 use Rattle.limits.specs.Limits.{Window}
-use Rattle.rules_held.specs.Held.{flat}
+use Rattle.rules_held.specs.Held.{flat, moved}
+use Rattle.rules_bands_bar.specs.Boll.{outsideAt, outsideBands}
+use Rattle.rules_bands_bar.specs.BollReverse.{turnsAt, bandSignals, turnedBands}
+
+-- what the variance of the last n cells is over
+abbrev pub divisorOf : Bool → ℕ → ℕ
+divisorOf reverse n = cond reverse n (n - 1)
+
+-- the position after a bar, from the one before it
+abbrev pub positionAfter : Bool → ℤ → Float → Float → Float → Float → ℤ
+positionAfter reverse position average middle k width =
+    cond reverse (moved position (turnsAt average middle k width)) (outsideAt average middle k width)
+
+-- the position after bar i of a line, from the one before it
+unfoldable pub positionStep : Bool → ℕ → Float → Line → ℕ → ℤ → ℤ
+positionStep reverse n k g i position =
+    cond reverse (moved position (bandSignals n k g i)) (outsideBands n k g i)
+
+-- the positions against the bands of a line
+unfoldable pub bandPositions : Bool → ℕ → Float → Line → ℕ → ℤ
+bandPositions reverse n k g = cond reverse (turnedBands n k g) (outsideBands n k g)
 
 -- the bands are there from bar i on, which is inside; the cells of f before it stand in `now`, which has room for the
 -- rest

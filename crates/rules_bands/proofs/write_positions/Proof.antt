@@ -1,4 +1,4 @@
--- `write_turned` meets its contract: the lead, and a few bars with each turn. Assumes nothing.
+-- `write_positions` meets its contract: the lead, and a few bars with each turn. Assumes nothing.
 use Prim.Native.Nat.{_-_, _*_, _≤_, min}
 use native.Mathlib.Omega.{arith}
 use borrow.Author.Needs.{needs}
@@ -7,24 +7,22 @@ use Rattle.cells.specs.Line.{line}
 use Rattle.cells.specs.Written.{Writing}
 use Rattle.cells.proofs.Leads.{lead-then}
 use Rattle.cells.proofs.Written.{stands, then-written}
-use Rattle.rules_held.proofs.Holding.{flat-stands}
-use Rattle.rules_bands_bar.specs.BollReverse.{bandSignals, turnedBands}
-use Rattle.rules_bands.proofs.write_turned.Statement.{statement}
-use Rattle.rules_bands.proofs.write_turned.Tie as tie
+use Rattle.rules_bands_bar.specs.inner.Stages.{bandPositions}
+use Rattle.rules_bands_bar.proofs.Stages.{flat-lead}
+use Rattle.rules_bands.proofs.write_positions.Statement.{statement}
+use Rattle.rules_bands.proofs.write_positions.Tie as tie
 
 abbrev Inv-loop : tie.InvT-loop
-Inv-loop means n k out₀ i₀ out i =
-    (min (2 * n - 2) (length means) ≤ i) × (i ≤ length means) × Writing i (turnedBands n k (line means)) out₀ out
+Inv-loop means reverse n k out₀ i₀ out i =
+    (min (2 * n - 2) (length means) ≤ i)
+    × (i ≤ length means)
+    × Writing i (bandPositions reverse n k (line means)) out₀ out
 
 abbrev μ-loop : tie.MeasureT-loop
-μ-loop means n k out₀ i₀ out i = length means - i
+μ-loop means reverse n k out₀ i₀ out i = length means - i
 
-loop-holds : tie.Need-loop-holds Inv-loop μ-loop
-unfolding turnedBands bandSignals
-loop-holds c = (omega arith, omega arith, flat-stands _ (c .before .fill-flat .ensures))
-
-write-some-turned-requires : tie.Need-write-some-turned-requires Inv-loop μ-loop
-write-some-turned-requires c κs =
+write-some-positions-requires : tie.Need-write-some-positions-requires Inv-loop μ-loop
+write-some-positions-requires c κs =
     let at = c .before .before in
     let pre = at .before .before .before .before .before .pre in
     record {
@@ -39,11 +37,11 @@ loop-again : tie.Need-loop-again Inv-loop μ-loop
 loop-again c =
     let some = c .before in
     let at = some .before .before .before in
-    let more = some .write-some-turned .ensures in
+    let more = some .write-some-positions .ensures in
     (omega arith, omega arith, then-written (at .loop .inv .2) (more .cells) (omega arith))
 
-pub write-turned-spec : {M : Type 1} → statement M
-write-turned-spec =
+pub write-positions-spec : {M : Type 1} → statement M
+write-positions-spec =
     tie.close
     (tie.spec
     Inv-loop
@@ -51,8 +49,8 @@ write-turned-spec =
     (λ c. search needs)  -- mul-fill-flat
     (λ c. search needs)  -- sub-fill-flat
     (λ c κs. search needs)  -- fill-flat-requires
-    loop-holds
-    write-some-turned-requires
+    (λ c. (omega arith, omega arith, flat-lead _ _ _ _ (c .before .fill-flat .ensures)))  -- loop-holds
+    write-some-positions-requires
     (λ c. search needs)  -- add-i
     (λ c. search needs)  -- loop-less
     loop-again
