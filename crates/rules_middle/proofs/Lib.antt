@@ -1,2 +1,3 @@
 pub mod Middle
+pub mod Runs
 pub mod Ticks

@@ -14,7 +14,7 @@ use native.Mathlib.Omega.{arith}
 use lib.Dec.{lit<, lit≤}
 use lib.IntN.{ℤ, pos, natAbs, _+ℤ_, _*ℤ_}
 use lib.Signed.{ltZ}
-use lib.Ieee.{Float, binary64, add, sub, div, lt, ofInt}
+use lib.Ieee.{Float, binary64, add, sub, div, lt}
 use Rattle.rounding.specs.Leaves.{plusOne, minusOne, signOf, two}
 use Rattle.rounding_laws.proofs.Integers.{above, below, abs-add, parts-lt, parts-times, parts-same, ltb-same}
 use Rattle.rounding_laws.proofs.Units.{worth-negative}
@@ -27,6 +27,7 @@ use Rattle.exact_ticks.proofs.Exact.{TickLine, window-whole, mean-exact}
 use Rattle.exact_ticks.proofs.Errors.{products, window-total-size}
 use Rattle.exact_ticks.proofs.Runs.{some-abs}
 use Rattle.extremes.specs.Extreme.{larger, smaller, pickFrom, extreme}
+pub use Rattle.running_sums.proofs.Middle.{two-is}
 use Rattle.rules_middle.specs.Middle.{midLine}
 use Rattle.extremes.specs.Whole.{higher, highest, lower, lowest, pickℤ}
 
@@ -95,10 +96,6 @@ module _ (n : ℕ) (M : n ≤ 2 ^ 12) where
           (p .same _ _ (picked-small k (λ j m. s j (omega arith))) (s (suc k) (le-refl (suc k))))
 
 -- ---- the rule
-
-pub two-is : two ≡ ofInt binary64 (pos 2)
-unfolding ofInt
-two-is = refl
 
 -- halves of the same size: s / n against (h + w) / (n · 2)
 times-two : (s : ℤ) (n : ℕ) → s *ℤ pos (n * 2) ≡ s *ℤ pos 2 *ℤ pos n

@@ -1,3 +1,4 @@
 -- The middle rule: what it answers and writes.
 pub mod Cases
 pub mod Middle
+pub mod inner

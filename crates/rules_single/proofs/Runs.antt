@@ -14,7 +14,7 @@ use Rattle.cells.specs.Written.{Writing}
 use Rattle.cells.proofs.Written.{read-back}
 use Rattle.windows.specs.Window.{mean}
 use Rattle.sliding_means.specs.inner.Means.{runMeans}
-use Rattle.running_sums.specs.inner.Margin.{largestOf, marginOf, AllFar}
+use Rattle.running_sums.specs.inner.Margin.{largestOf, marginOf, far, AllFar}
 use Rattle.running_sums.proofs.Twice.{decided-twice}
 use Rattle.rules_single.specs.Single.{singleLine}
 use Rattle.rules_single.specs.inner.Runs.{positions}
@@ -25,7 +25,7 @@ pub by-runs : (s : List Float) (n : ℕ) {old now : List Float} → all accepted
     → ((j : ℕ) → T (fits binary64 (line s j))) → Window n → length s ≤ longestSeries
     → Writing (length s) (runMeans n (runMeans n (line s))) old now → length s ≤ length old
     → {r : Bool} {d : Float} → r ≡ true → d ≡ marginOf (largestOf (line s) (length s))
-    → AllFar r (2 * n - 2) d (line s) (line now) (length s)
+    → AllFar r (2 * n - 2) (λ j. far d (line s j) (line now j)) (length s)
     → (i : ℕ) → i < length s → positions n (line s) (line now) i ≡ singleLine n (line s) i
 by-runs s n {old} {now} ok floats w B cells room e m far i h =
     let cell = read-back i nan cells (omega arith) in

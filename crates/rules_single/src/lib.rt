@@ -9,7 +9,8 @@ ghost use Rattle.cells.specs.Written.{Writing};
 ghost use Rattle.windows.specs.Window.{mean};
 ghost use Rattle.rules_single.specs.inner.Ticks.{TickRows};
 ghost use Rattle.rules_single.specs.Single.{singleLine};
-ghost use Rattle.rules_single.specs.inner.Runs.{positions, Decided};
+ghost use Rattle.rules_single.specs.inner.Runs.{positions};
+ghost use Rattle.running_sums.specs.inner.Decided.{Decided};
 ghost use Rattle.windows.specs.inner.Eight.{WindowRoom};
 ghost use Rattle.cells.specs.inner.Touched.{Touched};
 ghost use Rattle.checks.specs.inner.Due.{Priced};
@@ -79,8 +80,8 @@ fn write_single_of_ticks(series: &[f64], n: usize, out: &mut [f64], work: &mut [
 // and says whether it did. One row of `work` is used.
 fn write_single_by_runs(series: &[f64], n: usize, out: &mut [f64], work: &mut [f64]) -> bool
     requires { ⌜ Priced 2 n (now series) (length (now out)) (length (now work)) ⌝ }
-    ensures { λ r. ⌜ Decided r n (now (series .entry)) (now (out .entry)) (now (out .exit)) (now (work .entry))
-        (now (work .exit)) ⌝ }
+    ensures { λ r. ⌜ Decided r (singleLine n (line (now (series .entry)))) (length (now (series .entry)))
+        (now (out .entry)) (now (out .exit)) (now (work .entry)) (now (work .exit)) ⌝ }
 {
     if n < 40 {
         return false;

@@ -1,6 +1,7 @@
 pub mod Bound
 pub mod Far
 pub mod Means
+pub mod Middle
 pub mod Relative
 pub mod Shares
 pub mod Signs

@@ -11,7 +11,7 @@ use lib.Ieee.{Float, nan, inf, fin, binary64, sub, lt, eq, fits}
 use Rattle.rounding.specs.Leaves.{one, negative, magnitudeOf, signOf}
 use Rattle.rounding.specs.Nearest.{inUnits, signedUnits, Number}
 use Rattle.rounding.specs.Whole.{isNegative}
-use Rattle.rounding_laws.proofs.Integers.{above, below, Near, near-abs, abs-minus, parts-minus, parts-less}
+use Rattle.rounding_laws.proofs.Integers.{above, below, Near, near-abs, abs-near, abs-minus, parts-minus, parts-less}
 use Rattle.rounding_laws.proofs.Value.{not-zero}
 use Rattle.rounding_laws.proofs.Units.{worth, worth-zero, abs-units}
 use Rattle.rounding_laws.proofs.About.{number-lt}
@@ -66,6 +66,30 @@ same-sign (negsuc a) (negsuc b) e n h = (refl, omega arith)
 doubled : (v z : ℤ) → natAbs (v -ℤ z) * 2 ^ 53 ≤ natAbs z → natAbs v ≤ natAbs z * 2
 doubled v z h = size-by v z (near-abs v z (le-refl _)) (omega arith)
 
+-- p stands for p' and q for q', and together they are half the margin off at most: a difference that is beyond the
+-- margin has the sign of the other
+pub near-signs : {u : ℕ} {t p p' q q' : Float} → Margin u t
+    → Number binary64 p → Number binary64 p' → Number binary64 q → Number binary64 q'
+    → (natAbs (signedUnits binary64 p -ℤ signedUnits binary64 p')
+    + natAbs (signedUnits binary64 q -ℤ signedUnits binary64 q')) * 2 ≤ u
+    → natAbs (signedUnits binary64 p) + natAbs (signedUnits binary64 q) < roof
+    → lt t (magnitudeOf (sub binary64 p q)) ≡ true → signOf (sub binary64 p q) ≡ signOf (sub binary64 p' q')
+near-signs {p = p} {p'} {q} {q'} m a a' b b' h r e =
+    let x = signedUnits binary64 p in
+    let x' = signedUnits binary64 p' in
+    let y = signedUnits binary64 q in
+    let y' = signedUnits binary64 q' in
+    let few = abs-minus x y in
+    let o = rounds-off (sub-rounds a b) (omega arith) in
+    let d = doubled (signedUnits binary64 (sub binary64 p q)) (x -ℤ y) (o .close) in
+    let far = beyond (sub binary64 p q) m (o .number) e in
+    let i = near-abs x x' (le-refl _) in
+    let j = near-abs y y' (le-refl _) in
+    let k = parts-minus x y in
+    let l = parts-minus x' y' in
+    let g = same-sign (x -ℤ y) (x' -ℤ y') (natAbs (x -ℤ x') + natAbs (y -ℤ y')) (omega arith) (omega arith) in
+    sub-sign a b (omega arith) ∙ ap one (g .0) ∙ sym (sub-sign a' b' (g .1))
+
 -- q stands for q', and is half the margin off at most
 module _ {u : ℕ} {t q q' : Float} (m : Margin u t) (b : Number binary64 q) (b' : Number binary64 q')
     (h : natAbs (signedUnits binary64 q -ℤ signedUnits binary64 q') * 2 ≤ u) where
@@ -75,17 +99,8 @@ module _ {u : ℕ} {t q q' : Float} (m : Margin u t) (b : Number binary64 q) (b'
       → lt t (magnitudeOf (sub binary64 p q)) ≡ true → signOf (sub binary64 p q) ≡ signOf (sub binary64 p q')
   near-sign {p} a r e =
       let x = signedUnits binary64 p in
-      let y = signedUnits binary64 q in
-      let y' = signedUnits binary64 q' in
-      let few = abs-minus x y in
-      let o = rounds-off (sub-rounds a b) (omega arith) in
-      let d = doubled (signedUnits binary64 (sub binary64 p q)) (x -ℤ y) (o .close) in
-      let far = beyond (sub binary64 p q) m (o .number) e in
-      let j = near-abs y y' (le-refl _) in
-      let k = parts-minus x y in
-      let l = parts-minus x y' in
-      let g = same-sign (x -ℤ y) (x -ℤ y') (natAbs (y -ℤ y')) (omega arith) (omega arith) in
-      sub-sign a b (omega arith) ∙ ap one (g .0) ∙ sym (sub-sign a b' (g .1))
+      let none = abs-near x x {e = 0} (omega arith) in
+      near-signs m a a b b' (omega arith) r e
 
   -- beyond the margin neither is 0
   pub near-some : lt t (magnitudeOf q) ≡ true → (eq q plusZero ≡ false) × (eq q' plusZero ≡ false)

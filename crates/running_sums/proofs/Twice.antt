@@ -62,7 +62,7 @@ module _ (s : List Float) (n : ℕ) (ok : all accepted s ≡ true) (floats : (j 
       let k : 3 * m + 1 ≤ 3 * (m + 1) = omega arith in
       omega (arith, mul-le-mul-left n k)
 
-  runs-small : Windowed (3 * m + 1) n (length s) (runMeans n (line s))
+  pub runs-small : Windowed (3 * m + 1) n (length s) (runMeans n (line s))
   runs-small = record {
     small = run-means-small prices prices B (3 * m + 1) (thrice m);
     some = w .some;
@@ -70,7 +70,7 @@ module _ (s : List Float) (n : ℕ) (ok : all accepted s ≡ true) (floats : (j 
     room = room-twice;
   }
 
-  means-windowed : Windowed (3 * m + 1) n (length s) (mean n (line s))
+  pub means-windowed : Windowed (3 * m + 1) n (length s) (mean n (line s))
   means-windowed = record {
     small = means-small prices prices B (3 * m + 1) (thrice m);
     some = w .some;
@@ -78,16 +78,20 @@ module _ (s : List Float) (n : ℕ) (ok : all accepted s ≡ true) (floats : (j 
     room = room-twice;
   }
 
-  -- the law: both averages are numbers, and close
-  twice-near : (i : ℕ) → i < length s
-      → natAbs (signedUnits binary64 (runMeans n (runMeans n (line s)) i)
-      -ℤ signedUnits binary64 (mean n (mean n (line s)) i)) * 2 ^ 53 ≤ spread (3 * m + 1) (spread m 0)
-  twice-near =
-      run-means-near means-windowed runs-small B (spread m 0)
-      (run-means-near prices prices B 0 (λ j l. same (signedUnits binary64 (line s j))))
+  -- the means are close
+  pub once-near : (i : ℕ) → i < length s
+      → natAbs (signedUnits binary64 (runMeans n (line s) i) -ℤ signedUnits binary64 (mean n (line s) i)) * 2 ^ 53
+      ≤ spread m 0
+  once-near = run-means-near prices prices B 0 (λ j l. same (signedUnits binary64 (line s j)))
     where
       same : (z : ℤ) → natAbs (z -ℤ z) * 2 ^ 53 ≤ 0
       same z = let e = abs-near z z {e = 0} (omega arith) in omega arith
+
+  -- the law: so are their averages
+  twice-near : (i : ℕ) → i < length s
+      → natAbs (signedUnits binary64 (runMeans n (runMeans n (line s)) i)
+      -ℤ signedUnits binary64 (mean n (mean n (line s)) i)) * 2 ^ 53 ≤ spread (3 * m + 1) (spread m 0)
+  twice-near = run-means-near means-windowed runs-small B (spread m 0) once-near
 
   -- where price and average are farther apart than the margin, and the average and 0
   pub decided-twice : (i : ℕ) → i < length s

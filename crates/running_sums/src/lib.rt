@@ -39,7 +39,8 @@ pub fn is_far(d: f64, price: f64, average: f64) -> bool
 // Whether that holds of every bar from `first` on. All are looked at, so that the loop takes several at a time.
 pub fn all_far(series: &[f64], averages: &[f64], first: usize, d: f64) -> bool
     requires { ⌜ length (now series) ≤ length (now averages) ⌝ }
-    ensures { λ r. ⌜ AllFar r first d (line (now (series .entry))) (line (now (averages .entry)))
+    ensures { λ r. ⌜ AllFar r first
+        (λ i. far d (line (now (series .entry)) i) (line (now (averages .entry)) i))
         (length (now (series .entry))) ⌝ }
 {
     let mut far = true;

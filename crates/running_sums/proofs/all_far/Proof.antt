@@ -4,13 +4,14 @@ use native.Mathlib.Omega.{arith}
 use borrow.Author.Needs.{needs}
 use lib.ListN.{length}
 use Rattle.cells.specs.Line.{line}
-use Rattle.running_sums.specs.inner.Margin.{AllFar}
+use Rattle.running_sums.specs.inner.Margin.{far, AllFar}
 use Rattle.running_sums.proofs.Far.{none-looked-at, one-more-far, fewer-far}
 use Rattle.running_sums.proofs.all_far.Statement.{statement}
 use Rattle.running_sums.proofs.all_far.Tie as tie
 
 abbrev Inv-loop : tie.InvT-loop
-Inv-loop series averages first d far₀ i₀ far i = (first ≤ i) × AllFar far first d (line series) (line averages) i
+Inv-loop series averages first d far₀ i₀ far₁ i = (first ≤ i)
+    × AllFar far₁ first (λ j. far d (line series j) (line averages j)) i
 
 abbrev μ-loop : tie.MeasureT-loop
 μ-loop series averages first d far₀ i₀ far i = length series - i

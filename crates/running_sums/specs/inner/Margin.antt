@@ -3,8 +3,8 @@ use mathlib.Core.Path.{_≡_}
 use mathlib.Core.Bool.{Bool, true, false, _&&_}
 use Prim.Native.Nat.{ℕ, _<_, _≤_}
 use lib.IntN.{negsuc}
-use lib.Ieee.{Float, fin, binary64, add, sub, mul, lt}
-use Rattle.rounding.specs.Leaves.{magnitudeOf}
+use lib.Ieee.{Float, fin, binary64, add, sub, mul, div, lt}
+use Rattle.rounding.specs.Leaves.{magnitudeOf, two}
 use Rattle.cells.specs.Line.{Line, plusZero}
 use Rattle.cells.specs.Recur.{recur}
 use Rattle.extremes.specs.Extreme.{larger}
@@ -21,6 +21,12 @@ marginOf most = add binary64 (mul binary64 most (fin false 1 (negsuc 30))) (fin 
 abbrev pub far : Float → Float → Float → Bool
 far d price average = lt d (magnitudeOf (sub binary64 price average)) && lt d (magnitudeOf average)
 
--- r says that this holds of the prices of f and the averages of g from bar `first` on
-pub record AllFar (r : Bool) (first : ℕ) (d : Float) (f g : Line) (bars : ℕ) : Type 0 where
-  pub each : r ≡ true → (i : ℕ) → first ≤ i → i < bars → far d (f i) (g i) ≡ true
+-- a mean and the middle of highest and lowest are farther apart than the distance d, and so are each of these and 0
+abbrev pub farFromMiddle : Float → Float → Float → Float → Bool
+farFromMiddle d average high low =
+    lt d (magnitudeOf (sub binary64 average (div binary64 (add binary64 high low) two)))
+    && (lt d (magnitudeOf high) && lt d (magnitudeOf low))
+
+-- r says that the bars from `first` on all meet a test
+pub record AllFar (r : Bool) (first : ℕ) (test : ℕ → Bool) (bars : ℕ) : Type 0 where
+  pub each : r ≡ true → (i : ℕ) → first ≤ i → i < bars → test i ≡ true
