@@ -25,6 +25,13 @@ sign-of-nan nan n = refl
 sign-of-nan (inf s) n = absurd (true≢false (sym n))
 sign-of-nan (fin s m e) n = absurd (true≢false (sym n))
 
+-- a finite number is no NaN
+pub finite-number : (x : Float) → T (finite x) → isNan x ≡ false
+unfolding isNan
+finite-number nan f = absurd f
+finite-number (inf s) f = absurd f
+finite-number (fin s m e) f = refl
+
 -- ---- what is rounded has its own sign, and is a number
 
 odd-plain : (s : Bool) (q k : ℕ) → (negative (odd 54 s q k 1074) ≡ s) × (isNan (odd 54 s q k 1074) ≡ false)

@@ -14,13 +14,12 @@ use lib.Ieee.{below as isBelow}
 use lib.Ieee.Exact.{HasValue, round-exact}
 use lib.Ieee.Order.{round-mono}
 use lib.Ieee.Positive.{positive, positive-finite}
-use lib.Ieee.Scale.{finite}
 use Rattle.rounding_laws.proofs.Value.{mul-at, lt-at}
 use Rattle.rounding.specs.Nearest.{inUnits, Number}
 use Rattle.rounding_laws.proofs.Multiples.{made-some}
 use Rattle.rounding_laws.proofs.Units.{worth}
 use Rattle.rounding.specs.Leaves.{negative}
-use Rattle.rounding.proofs.Signs.{round-plain}
+use Rattle.rounding.proofs.Signs.{finite-number, round-plain}
 use Rattle.extremes.proofs.Order.{lt-between}
 use Rattle.cells.specs.Line.{plusZero}
 use Rattle.rounding_root.specs.Root.{sqrtOf}
@@ -194,12 +193,6 @@ module _ (m : ℕ) (e : ℤ) (F : T (fits binary64 (fin false (suc m) e))) where
       lt-at r plusZero false b false 0 (2 ^ 1074) (pow-pos 1074) root-value (refl, refl) ∙ le-ltb b 0 zero-le
 
 -- ---- every float
-
-finite-number : (x : Float) → T (finite x) → isNan x ≡ false
-unfolding isNan
-finite-number nan f = absurd f
-finite-number (inf s) f = absurd f
-finite-number (fin s m e) f = refl
 
 -- nothing is above infinity, and nothing below the other one; a NaN is neither
 none-above : (x : Float) → lt (inf false) x ≡ false

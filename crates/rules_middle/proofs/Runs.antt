@@ -1,13 +1,13 @@
 -- The middle rule decided by running sums. Assumes nothing.
-use mathlib.Core.Path.{_≡_, refl, _∙_, ap}
-use mathlib.Core.Bool.{Bool, true, false}
+use mathlib.Core.Path.{_≡_, _∙_, ap}
+use mathlib.Core.Bool.{Bool, true}
 use mathlib.Core.List.{List}
 use Prim.Native.Nat.{ℕ, _+_, _-_, _*_, _<_, _≤_}
 use native.Mathlib.Omega.{arith}
 use lib.Dec.{T}
 use lib.ListN.{length, take}
-use lib.Ieee.{Float, nan, inf, fin, binary64, isNan, fits}
-use Rattle.rounding.specs.Nearest.{Number}
+use lib.Ieee.{Float, binary64, fits}
+use Rattle.rounding.proofs.Signs.{finite-number}
 use Rattle.limits.specs.Limits.{Window, longestSeries}
 use Rattle.values.specs.Accepted.{accepted, all}
 use Rattle.cells.specs.Line.{line, plusZero}
@@ -24,12 +24,6 @@ use Rattle.rules_middle.specs.Middle.{midLine}
 use Rattle.rules_middle.specs.inner.Positions.{positions}
 use Rattle.rules_middle.proofs.Middle.{middles-mid, Standing, positions-are}
 
-no-nan : (x : Float) → Number binary64 x → isNan x ≡ false
-unfolding isNan
-no-nan nan n = absurd (n .ends)
-no-nan (inf s) n = absurd (n .ends)
-no-nan (fin s m e) n = refl
-
 module _ (s : List Float) (n : ℕ) (ok : all accepted s ≡ true) (floats : (j : ℕ) → T (fits binary64 (line s j)))
     (w : Window n) (B : length s ≤ longestSeries) where
   -- means by running sums have windows
@@ -41,7 +35,7 @@ module _ (s : List Float) (n : ℕ) (ok : all accepted s ≡ true) (floats : (j 
         window = w;
         short = rw long B;
         room = rw long l;
-        numbers = part-numbers v h (record { at = λ i m. no-nan _ (runs-small s n ok floats w B .small .number i m) });
+        numbers = part-numbers v h (record { at = λ i m. finite-number _ (runs-small s n ok floats w B .small .number i m .ends) });
       }
 
   -- where every mean is far enough from its middle, the means by running sums give the rule's cells

@@ -73,17 +73,17 @@ fn all_far(bars: usize, means: &[f64], rows: &[f64], first: usize, d: f64) -> bo
     far
 }
 
-// Writes each bar's position by running sums, if the window is long enough for that to pay and they decide every bar,
-// and says whether it did. The first two rows of `work` are used.
+// Writes each bar's position by running sums, if that pays and they decide every bar, and says whether it did. It pays
+// where the window is long, and the bars are so few that a tie is unlikely. The first two rows of `work` are used.
 fn write_mid_by_runs(series: &[f64], n: usize, out: &mut [f64], work: &mut [f64]) -> bool
     requires { ⌜ Priced 2 n (now series) (length (now out)) (length (now work)) ⌝ }
     ensures { λ r. ⌜ Decided r (midLine n (line (now (series .entry)))) (length (now (series .entry)))
         (now (out .entry)) (now (out .exit)) (now (work .entry)) (now (work .exit)) ⌝ }
 {
-    if n < 40 {
+    let bars = series.len();
+    if n < 40 || 512 * n < bars {
         return false;
     }
-    let bars = series.len();
     sliding_means::write_means(series, n, out);
     extremes_ranges::write_ranges(&out[..bars], n, work);
     let far = all_far(bars, out, work, 2 * n - 2, running_sums::margin(series));

@@ -19,7 +19,7 @@ use Rattle.rules_middle.proofs.write_mid_by_runs.Tie as tie
 write-ranges-requires : tie.Need-write-ranges-requires
 write-ranges-requires c κs =
     let means = c .before .before .before .before in
-    let known = means .before .before .before .before .before in
+    let known = means .before .before .before .before .before .before in
     let start = known .before in
     let pre = start .pre in
     runs-room (now (start .args .series)) (start .args .n) (pre .values) (known .shared-slice-known .given)
@@ -33,7 +33,7 @@ returns-2 c =
     let margin = looked .before in
     let ranges = looked .before .before .before .before .before .before in
     let means = ranges .before .before .before .before .before in
-    let known = means .before .before .before .before .before in
+    let known = means .before .before .before .before .before .before in
     let start = known .before in
     let pre = start .pre in
     let some = pre .window .some in
@@ -41,7 +41,7 @@ returns-2 c =
     (causal-extreme larger _ some) (causal-extreme smaller _ some) (ranges .write-ranges .ensures) in
     let stood = standing _ (means .write-means .ensures) rows (omega arith) (omega arith) in
     let same = by-runs (now (start .args .series)) (start .args .n) (pre .values) (known .shared-slice-known .given)
-    (pre .window) (pre .short) stood (test .if2 .taken) (margin .margin .ensures) (looked .all-far .ensures) in
+    (pre .window) (pre .short) stood (test .if3 .taken) (margin .margin .ensures) (looked .all-far .ensures) in
     let positions = writing-same
     (then-written (means .write-means .ensures) (cells .write-against-middles .ensures) (omega arith)) same in
     record { used = touched positions; work = touched-more (touched rows) (omega arith); cells = λ e. positions }
@@ -54,13 +54,14 @@ returns-3 c =
     record {
       used = touched (means .write-means .ensures);
       work = touched-more (touched (ranges .write-ranges .ensures)) (omega arith);
-      cells = λ e. absurd (true≢false (sym e ∙ c .if2 .left));
+      cells = λ e. absurd (true≢false (sym e ∙ c .if3 .left));
     }
 
 pub write-mid-by-runs-spec : {M : Type 1} → statement M
 write-mid-by-runs-spec =
     tie.close
     (tie.spec
+    (λ c. search needs)  -- mul-if2
     -- returns
     (λ c. record { used = untouched; work = untouched; cells = λ e. absurd (true≢false (sym e)) })
     (λ c κs. search needs)  -- write-means-requires
