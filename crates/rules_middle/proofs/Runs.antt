@@ -35,7 +35,8 @@ module _ (s : List Float) (n : ℕ) (ok : all accepted s ≡ true) (floats : (j 
         window = w;
         short = rw long B;
         room = rw long l;
-        numbers = part-numbers v h (record { at = λ i m. finite-number _ (runs-small s n ok floats w B .small .number i m .ends) });
+        numbers = part-numbers v h
+            (record { at = λ i m. finite-number _ (runs-small s n ok floats w B .small .number i m .ends) });
       }
 
   -- where every mean is far enough from its middle, the means by running sums give the rule's cells
