@@ -2,12 +2,13 @@
 use mathlib.Core.Path.{_≡_, refl, sym, _∙_}
 use mathlib.Core.Bool.{Bool, true, false}
 use mathlib.Core.List.{List, [], _∷_}
-use Prim.Native.Nat.{ℕ, suc, _+_, _<_, _≤_}
+use Prim.Native.Nat.{ℕ, zero, suc, _+_, _<_, _≤_}
 use native.Mathlib.Omega.{arith}
 use borrow.Author.Tests.{ltb-true, ltb-false}
 use lib.Dec.{ltb}
 use lib.ListN.{length, set, getD, length-set}
 use lib.Seq.{getD-set-same, getD-set-other}
+use Rattle.cells.specs.Recur.{recur}
 use Rattle.cells.specs.Written.{written, Writing}
 use Rattle.cells.proofs.Written.{length-written, getD-written, getD-untouched, read-back}
 
@@ -95,6 +96,19 @@ module _ {A : Type 0} {f : ℕ → A} {d : A} {old : List A} where
 
       rest : (k : ℕ) → j ≤ k → getD both k d ≡ getD old k d
       rest k l = off k (λ (o : k ≡ hi). omega arith) (λ (o : k ≡ lo). omega arith) ∙ w .rest k (omega arith)
+
+  -- m cells more at each
+  pub more-parts : {lo b hi : ℕ} {now : List A} (x y : ℕ → A) (m : ℕ) → Parts f d lo b hi old now
+      → ((k : ℕ) → k < m → (x k ≡ f (lo + k)) × (y k ≡ f (hi + k))) → (lo + m ≤ b) × (b ≤ hi) × (hi + m ≤ length old)
+      → Parts f d (lo + m) b (hi + m) old (recur now (λ k cells. set (set cells (lo + k) (x k)) (hi + k) (y k)) m)
+  unfolding recur
+  more-parts {lo} {b} {hi} {now} x y zero w e h =
+      let l : lo + 0 ≡ lo = omega arith in
+      let u : hi + 0 ≡ hi = omega arith in
+      rw (l, u) w
+  more-parts {lo} {b} {hi} x y (suc m) w e h =
+      both-parts (lo + suc m) (hi + suc m) (more-parts x y m w (λ k l. e k (omega arith)) (omega arith))
+      (e m (omega arith) .0) (e m (omega arith) .1) (omega arith)
 
   -- the first place reaches the second
   pub joined : {lo b hi : ℕ} {now : List A} → Parts f d lo b hi old now → (lo ≡ b) × (b ≤ hi) × (hi ≤ length old)

@@ -1,3 +1,4 @@
 pub mod Blending
 pub mod Halves
+pub mod Sides
 pub mod TwoParts

@@ -2,7 +2,7 @@
 use mathlib.Core.Path.{_≡_}
 use mathlib.Core.List.{List}
 use Prim.Native.Nat.{ℕ, _+_, _-_, _/_, _<_, _≤_}
-use lib.ListN.{length}
+use lib.ListN.{length, set}
 use lib.Ieee.{Float}
 use Rattle.cells.specs.Line.{Line, line}
 use Rattle.cells.specs.Recur.{recur}
@@ -12,6 +12,18 @@ use Rattle.averages_blend.specs.Blend.{blend, smoothLine}
 -- the cell after k bars more, from bar a on
 abbrev pub blendFrom : Float → Float → Line → ℕ → ℕ → Float
 blendFrom alpha last f a = recur last (λ k cell. blend alpha cell (f (a + k)))
+
+-- a cell more of two parts: bar a + k of the one that goes on from the cell x, bar b + k of the one that goes on from y
+abbrev pub bothStored : Float → Line → Float → Float → ℕ → ℕ → ℕ → List Float → List Float
+bothStored alpha f x y a b k cells = set (set cells (a + k) (blendFrom alpha x f a (k + 1))) (b + k)
+    (blendFrom alpha y f b (k + 1))
+
+-- `count` cells of each are stored; u and v are their last ones
+pub record BlendedBoth (alpha : Float) (f : Line) (x y : Float) (a b count : ℕ) (old : List Float) (u v : Float)
+    (now : List Float) : Type 0 where
+  pub lower : u ≡ blendFrom alpha x f a count
+  pub upper : v ≡ blendFrom alpha y f b count
+  pub cells : now ≡ recur old (bothStored alpha f x y a b) count
 
 -- x is the cell before bar i: what the loop that blends keeps
 pub record Blending (alpha : Float) (a : ℕ) (seed : Float) (f : Line) (i : ℕ) (x : Float) : Type 0 where
