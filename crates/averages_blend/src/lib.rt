@@ -72,7 +72,8 @@ fn blend_both(
     count: usize,
     out: &mut [f64],
 ) -> Ends
-    requires { ⌜ (low + count ≤ high) × (high + count ≤ length (now series)) × (length (now series) ≤ length (now out)) ⌝ }
+    requires { ⌜ (low + count ≤ high) × (high + count ≤ length (now series))
+        × (length (now series) ≤ length (now out)) ⌝ }
     ensures { λ r. ⌜ BlendedBoth alpha (line (now (series .entry))) (last .lower) (last .upper) low high count
         (now (out .entry)) (r .lower) (r .upper) (now (out .exit)) ⌝ }
 {

@@ -6,6 +6,7 @@ ghost use Rattle.rules_middle.specs.Middle.{MidCall};
 ghost use Rattle.rules_double_bar.specs.Double.{DoubleCall};
 ghost use Rattle.rules_bands_bar.specs.Boll.{BollCall};
 ghost use Rattle.rules_bands_bar.specs.BollReverse.{BollReverseCall};
+ghost use Rattle.rules_bands_bar.specs.inner.Stages.{BandsCall};
 ghost use Rattle.rules_rsi_bar.specs.RsiReverse.{RsiReverseCall};
 ghost use Rattle.rules_ema_bar.specs.SingleEma.{SingleEmaCall};
 ghost use Rattle.rules_mms.specs.Mms.{MmsCall};
@@ -136,17 +137,32 @@ pub fn rolling_rank(series: &[f64], window: usize, out: &mut [u64], work: &mut [
     due
 }
 
+// Either rule of Bollinger's bands.
+fn band_positions(
+    series: &[f64],
+    reverse: bool,
+    n: usize,
+    k: f64,
+    out: &mut [i32],
+    work: &mut [f64],
+) -> Answer
+    ensures { λ r. ⌜ BandsCall reverse (now (series .entry)) n k (now (out .entry)) (now (work .entry)) r
+        (now (out .exit)) (now (work .exit)) ⌝ }
+{
+    let due = rules_bands::answer_bands(series, n, k, out.len(), work.len());
+    if checks::cells_due(due, series.len(), work) {
+        rules_bands::write_bands(series, reverse, n, k, out, work);
+        cells::clear(work, 8 * series.len());
+    }
+    due
+}
+
 // Bollinger's bands: +1 above and -1 below the bands of the means, from bar 2n - 2 on.
 pub fn boll_positions(series: &[f64], n: usize, k: f64, out: &mut [i32], work: &mut [f64]) -> Answer
     ensures { λ r. ⌜ BollCall (now (series .entry)) n k (now (out .entry)) (now (work .entry)) r (now (out .exit))
         (now (work .exit)) ⌝ }
 {
-    let due = rules_bands::answer_bands(series, n, k, out.len(), work.len());
-    if checks::cells_due(due, series.len(), work) {
-        rules_bands::write_bands(series, false, n, k, out, work);
-        cells::clear(work, 8 * series.len());
-    }
-    due
+    band_positions(series, false, n, k, out, work)
 }
 
 // Against Bollinger's bands: a position is opened beyond a band of the means, and held to the middle.
@@ -160,12 +176,7 @@ pub fn boll_reverse_positions(
     ensures { λ r. ⌜ BollReverseCall (now (series .entry)) n k (now (out .entry)) (now (work .entry)) r
         (now (out .exit)) (now (work .exit)) ⌝ }
 {
-    let due = rules_bands::answer_bands(series, n, k, out.len(), work.len());
-    if checks::cells_due(due, series.len(), work) {
-        rules_bands::write_bands(series, true, n, k, out, work);
-        cells::clear(work, 8 * series.len());
-    }
-    due
+    band_positions(series, true, n, k, out, work)
 }
 
 // Against the relative strength index of the means: a position is opened beyond a level, and held to the exit level.

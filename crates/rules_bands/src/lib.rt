@@ -2,7 +2,6 @@
 use calls::Answer;
 use calls::Refusal;
 ghost use mathlib.Core.Path.{_≡_};
-ghost use mathlib.Core.Bool.{cond};
 ghost use lib.ListN.{length};
 ghost use Rattle.cells.specs.Line.{line};
 ghost use Rattle.cells.specs.Written.{Writing};
@@ -10,9 +9,7 @@ ghost use Rattle.cells.specs.inner.Touched.{Touched};
 ghost use Rattle.windows.specs.inner.Eight.{WindowRoom};
 ghost use Rattle.checks.specs.inner.Due.{Priced};
 ghost use Rattle.rules_bands_bar.specs.Answer.{bandAnswer};
-ghost use Rattle.rules_bands_bar.specs.Boll.{bollLine};
-ghost use Rattle.rules_bands_bar.specs.BollReverse.{bollReverseLine};
-ghost use Rattle.rules_bands_bar.specs.inner.Stages.{bandPositions, Begun, Further};
+ghost use Rattle.rules_bands_bar.specs.inner.Stages.{bandPositions, bandsLine, Begun, Further};
 
 // The answer of both: refusal 6 for k comes after the series' own refusals, and before those of the window.
 pub fn answer_bands(series: &[f64], n: usize, k: f64, out: usize, work: usize) -> Answer
@@ -84,8 +81,7 @@ pub fn write_bands(
     work: &mut [f64],
 )
     requires { ⌜ Priced 1 n (now series) (length (now out)) (length (now work)) ⌝ }
-    ensures { λ _. ⌜ Writing (length (now (series .entry)))
-        (cond reverse (bollReverseLine n k (line (now (series .entry)))) (bollLine n k (line (now (series .entry)))))
+    ensures { λ _. ⌜ Writing (length (now (series .entry))) (bandsLine reverse n k (line (now (series .entry))))
         (now (out .entry)) (now (out .exit))
         × Touched (length (now (series .entry))) (now (work .entry)) (now (work .exit)) ⌝ }
 {

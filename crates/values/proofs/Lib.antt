@@ -1,5 +1,5 @@
 pub mod All
-pub mod Both
+pub mod Flags
 pub mod Fraction
 pub mod Numbers
 pub mod Part

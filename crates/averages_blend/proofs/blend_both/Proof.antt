@@ -1,4 +1,5 @@
--- `blend_both` meets its contract: each turn writes a cell of either part, from the one before it there. Assumes nothing.
+-- `blend_both` meets its contract: each turn writes a cell of either part, from the one before it there. Assumes
+-- nothing.
 use mathlib.Core.Path.{_≡_, refl}
 use Prim.Native.Nat.{_+_, _-_, _≤_}
 use native.Mathlib.Omega.{arith}

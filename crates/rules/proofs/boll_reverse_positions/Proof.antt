@@ -1,48 +1,14 @@
--- `boll_reverse_positions` meets its contract: the answer is the table's, and where it has cells they are written and
--- the work slice is cleared. Assumes nothing.
-use native.Mathlib.Omega.{arith}
+-- `boll_reverse_positions` meets its contract: it is `band_positions`. Assumes nothing.
 use borrow.Author.Needs.{needs}
-use denote.Ref.{now}
-use lib.ListN.{length}
-use Rattle.checks.specs.inner.Due.{Priced}
-use Rattle.checks.proofs.Due.{fewer-rows, written-call, empty-call}
-use Rattle.rules_bands.proofs.Open.{band-bars, band-clearable, band-priced}
 use Rattle.rules.proofs.boll_reverse_positions.Statement.{statement}
 use Rattle.rules.proofs.boll_reverse_positions.Tie as tie
-
--- where cells are due
-opened : (c : tie.Then1) →
-    let a = c .before .before .before .before .before .before .before .before .args in
-    Priced 8 (a .n) (now (a .series)) (length (now (a .out)))
-    (length (c .before .before .before .cells-due .last .1 .1 .0))
-opened c =
-    let due = c .before .before .before in
-    band-priced _ _ _ _ (due .before .before .answer-bands .ensures) (due .cells-due .ensures) (c .if1 .taken)
-
-returns : tie.Need-returns
-returns c =
-    let clear = c .before .before in
-    let cells = clear .before .before .before .before .before in
-    let then = cells .before .before .before in
-    let due = then .before .before .before in
-    written-call (due .before .before .answer-bands .ensures) (band-bars _ _ _ _ _)
-    (rw (then .if1 .taken) at (due .cells-due .ensures)) (cells .write-bands .ensures) (omega arith)
-    (clear .clear .ensures)
 
 pub boll-reverse-positions-spec : {M : Type 1} → statement M
 boll-reverse-positions-spec =
     tie.close
     (tie.spec
-    (λ c κs. search needs)  -- answer-bands-requires
-    (λ c κs. band-clearable _ _ _ _ _ (c .before .answer-bands .ensures))  -- cells-due-requires
-    (λ c κs. fewer-rows (opened (c .before .before)) (omega arith))  -- write-bands-requires
-    (λ c. let o = opened (c .before .before .before .before .before .before .before) in search needs)  -- mul-clear
-    -- clear-requires
-    (λ c κs. let o = opened (c .before .before .before .before .before .before .before) in search needs)
+    (λ c κs. search needs)  -- band-positions-requires
     (λ c. search needs)  -- same-length
     (λ c. search needs)  -- same-length-2
-    returns
-    (λ c. search needs)  -- same-length-3
-    (λ c. let due = c .before .before .before in empty-call (due .before .before .answer-bands .ensures)
-    (rw (c .if1 .left) at (due .cells-due .ensures)))  -- returns-2
+    (λ c. c .before .before .before .band-positions .ensures)  -- returns
     )

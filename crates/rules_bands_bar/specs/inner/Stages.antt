@@ -6,12 +6,15 @@ use Prim.Native.Nat.{ℕ, zero, suc, _+_, _-_, _*_, _<_, _≤_}
 use lib.IntN.{ℤ}
 use lib.ListN.{length, getD}
 use lib.Ieee.{Float}
-use Rattle.cells.specs.Line.{Line}
+use Rattle.cells.specs.Line.{Line, line}
 use Rattle.cells.specs.Written.{Writing}
 use Rattle.limits.specs.Limits.{Window}
+use Rattle.calls.specs.declared.Answer.{Answer}
+use Rattle.calls.specs.Call.{WorkCall}
 use Rattle.rules_held.specs.Held.{flat, moved}
-use Rattle.rules_bands_bar.specs.Boll.{outsideAt, outsideBands}
-use Rattle.rules_bands_bar.specs.BollReverse.{turnsAt, bandSignals, turnedBands}
+use Rattle.rules_bands_bar.specs.Answer.{bandAnswer}
+use Rattle.rules_bands_bar.specs.Boll.{outsideAt, outsideBands, bollLine}
+use Rattle.rules_bands_bar.specs.BollReverse.{turnsAt, bandSignals, turnedBands, bollReverseLine}
 
 -- what the variance of the last n cells is over
 abbrev pub divisorOf : Bool → ℕ → ℕ
@@ -30,6 +33,15 @@ positionStep reverse n k g i position =
 -- the positions against the bands of a line
 unfoldable pub bandPositions : Bool → ℕ → Float → Line → ℕ → ℤ
 bandPositions reverse n k g = cond reverse (turnedBands n k g) (outsideBands n k g)
+
+-- the line of either rule, on the means of the last n prices
+abbrev pub bandsLine : Bool → ℕ → Float → Line → ℕ → ℤ
+bandsLine reverse n k f = cond reverse (bollReverseLine n k f) (bollLine n k f)
+
+-- what a call of either rule promises
+abbrev pub BandsCall : Bool → List Float → ℕ → Float → List ℤ → List Float → Answer → List ℤ → List Float → Type 0
+BandsCall reverse s n k out₀ work₀ =
+    WorkCall (bandAnswer s n k (length out₀) (length work₀)) (bandsLine reverse n k (line s)) out₀ (length s) work₀
 
 -- the bands are there from bar i on, which is inside; the cells of f before it stand in `now`, which has room for the
 -- rest
