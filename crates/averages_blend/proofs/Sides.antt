@@ -1,14 +1,16 @@
 -- Both halves of a smoothed line that are written side by side, and the cell before either. Assumes nothing.
 use mathlib.Core.Path.{_≡_, refl}
 use mathlib.Core.List.{List}
-use Prim.Native.Nat.{ℕ, _+_, _<_, _≤_}
+use Prim.Native.Nat.{ℕ, zero, suc, _+_, _<_, _≤_}
 use native.Mathlib.Omega.{arith}
 use lib.ListN.{length}
 use lib.Ieee.{Float, nan}
 use Rattle.cells.specs.Line.{Line}
+use Rattle.cells.specs.Recur.{recur}
 use Rattle.cells.specs.Written.{Writing}
+use Rattle.cells.proofs.Written.{step}
 use Rattle.averages_blend.specs.Blend.{smoothLine}
-use Rattle.averages_blend.specs.inner.Blending.{blendFrom, Blending, BlendedBoth}
+use Rattle.averages_blend.specs.inner.Blending.{blendFrom, stored, Blending, BlendedRest, BlendedBoth}
 use Rattle.averages_blend.proofs.Blending.{more-blended, blended-cell}
 use Rattle.averages_blend.proofs.Halves.{Parts, more-parts, joined}
 
@@ -39,11 +41,18 @@ module _ {alpha : Float} {first : ℕ} {seed : Float} {f : Line} where
         upper = more-blended m j (s .upper) (w .upper) (omega arith);
       }
 
-  -- the same to the end: the first half reaches the second
-  pub sides-end : {lo b hi m : ℕ} {old now next : List Float} {u v x y : Float}
-      → Sides alpha first seed f lo b hi old now u v → BlendedBoth alpha f u v lo hi m now x y next
-      → (first < lo) × (lo + m ≡ b) × (b ≤ hi) × (hi + m ≤ length old)
-      → Writing (hi + m) (smoothLine alpha first seed f) old next × Blending alpha first seed f (hi + m) y
-  sides-end {lo} {hi = hi} {m} s w h =
-      let whole = sides-on m (lo + m) (hi + m) s w (omega arith) in
-      (joined (whole .parts) (omega arith), whole .upper)
+  -- the first half has reached the second, and m bars follow
+  pub sides-end : {lo b hi a m : ℕ} {old now next : List Float} {u v : Float} (i : ℕ)
+      → Sides alpha first seed f lo b hi old now u v → BlendedRest alpha f v a m now next
+      → (first < hi) × (lo ≡ b) × (b ≤ hi) × (hi ≡ a) × (a + m ≡ i) × (i ≤ length old)
+      → Writing i (smoothLine alpha first seed f) old next
+  unfolding recur
+  sides-end {hi = hi} {m = m} {old} {now} {v = v} i s e (p, q, r, w, g, h) =
+      rw (e .cells, ← g, ← w) (go m (omega arith))
+    where
+      go : (m : ℕ) → hi + m ≤ length old
+          → Writing (hi + m) (smoothLine alpha first seed f) old (recur now (stored alpha f v hi) m)
+      go zero l =
+          let none : hi + 0 ≡ hi = omega arith in
+          rw none (joined (s .parts) (omega arith))
+      go (suc m) l = step (hi + m) (hi + suc m) (go m (omega arith)) (on-line m (s .upper) p) (omega arith)

@@ -30,14 +30,11 @@ module _ {p : Float → Bool} {f : Line} {a : ℕ} where
       let y = passFrom p f b m in
       record { both = rw (r .both, ← first .is, ← second .is) (sym (and-assoc (x && y) u v) ∙ and-turns x y u v) }
 
-  -- the same to the end: the first reaches the second
-  pub parts-end : {b c d i j k m : ℕ} {t u v : Bool} (l : ℕ) → TwoParts p f a k b m t → Passing p f c i u
-      → Passing p f d j v
-      → (a + k ≡ c) × (b + m ≡ d) × (a + (k + i) ≡ b) × (k + i + (m + j) ≡ l)
-      → Passing p f a l (t && u && v)
-  parts-end {i = i} {j} {k} {m} l r q s (e, h, g, w) =
-      let whole = parts-on (k + i) (m + j) r q s (e, refl, h, refl) in
-      record {
-        is = whole .both
-            ∙ both-passing {p = p} {f = f} {a = a} l (record { is = refl }) (record { is = refl }) (g, w) .is;
-      }
+  -- the first has reached the second, and the rest follows
+  pub parts-end : {b d j k m : ℕ} {t v : Bool} (l : ℕ) → TwoParts p f a k b m t → Passing p f d j v
+      → (a + k ≡ b) × (b + m ≡ d) × (k + (m + j) ≡ l)
+      → Passing p f a l (t && v)
+  parts-end {b} {j = j} {k} {m} {v = v} l r s (e, h, g) =
+      let second = both-passing {p = p} {f = f} {a = b} (m + j) (record { is = refl }) s (h, refl) in
+      let whole = both-passing {p = p} {f = f} {a = a} l (record { is = refl }) second (e, g) in
+      record { is = rw (r .both) (sym (and-assoc (passFrom p f a k) (passFrom p f b m) v) ∙ whole .is) }

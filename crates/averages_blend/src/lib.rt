@@ -1,11 +1,12 @@
 // The step of the exponential averages, and a line of such steps written from its seed on.
 use values_series::Tested;
 ghost use mathlib.Core.Path.{_≡_};
-ghost use Prim.Native.Nat.{_+_, _≤_};
+ghost use Prim.Native.Nat.{_+_, _-_, _≤_};
 ghost use lib.ListN.{length};
 ghost use Rattle.cells.specs.Line.{line};
 ghost use Rattle.averages_blend.specs.Blend.{blend};
-ghost use Rattle.averages_blend.specs.inner.Blending.{blendFrom, BlendedBoth, Middle, Smoothing, Smooth};
+ghost use Rattle.averages_blend.specs.inner.Blending.{blendFrom, BlendedRest, BlendedBoth};
+ghost use Rattle.averages_blend.specs.inner.Blending.{Middle, Smoothing, Smooth};
 ghost use Rattle.averages_blend.specs.inner.Tested.{TestedSeed, TestedHalf};
 
 // alpha of x and the rest of `last`.
@@ -35,23 +36,22 @@ pub fn blend_tested(series: &[f64], alpha: f64, first: usize, seed: Tested) -> T
     requires { ⌜ TestedSeed (now series) first (seed .accept) ⌝ }
     ensures { λ r. ⌜ TestedHalf (now (series .entry)) alpha first (seed .value) r ⌝ }
 {
-    let half = (series.len() - first - 1) / 2;
+    let eights = (series.len() - first - 1) / 16;
     let low = first + 1;
-    let high = low + half;
+    let high = low + 8 * eights;
     let mut accept = seed.accept;
     let mut last = seed.value;
-    let mut i = 0;
-    while half - i >= 8 {
-        accept = accept & values_series::some_accepted(series, low + i, 8);
-        accept = accept & values_series::some_accepted(series, high + i, 8);
-        last = blend_more(alpha, last, series, low + i, 8);
-        i += 8;
+    let mut k = 0;
+    while k < eights {
+        accept = accept & values_series::some_accepted(series, low + 8 * k, 8);
+        accept = accept & values_series::some_accepted(series, high + 8 * k, 8);
+        last = blend_more(alpha, last, series, low + 8 * k, 8);
+        k += 1;
     }
-    accept = accept & values_series::some_accepted(series, low + i, half - i);
-    accept = accept & values_series::some_accepted(series, high + i, series.len() - high - i);
+    let end = high + 8 * eights;
     Tested {
-        accept,
-        value: blend_more(alpha, last, series, low + i, half - i),
+        accept: accept & values_series::some_accepted(series, end, series.len() - end),
+        value: last,
     }
 }
 
@@ -90,29 +90,41 @@ fn blend_both(
     Ends { lower, upper }
 }
 
+// Writes the cells from bar `from` on, of which the first goes on from the cell `last`.
+fn blend_rest(series: &[f64], alpha: f64, last: f64, from: usize, out: &mut [f64])
+    requires { ⌜ (from ≤ length (now series)) × (length (now series) ≤ length (now out)) ⌝ }
+    ensures { λ _. ⌜ BlendedRest alpha (line (now (series .entry))) last from (length (now (series .entry)) - from)
+        (now (out .entry)) (now (out .exit)) ⌝ }
+{
+    let mut cell = last;
+    let mut k = 0;
+    while from + k < series.len() {
+        cell = blended(alpha, cell, series[from + k]);
+        out[from + k] = cell;
+        k += 1;
+    }
+}
+
 // Writes the blended cells after bar `first`, where the seed stands: both halves side by side, eight bars of each at a
-// time, the second from the cell half way on.
+// time, the second from the cell half way on; then the second half's last bars.
 fn blend_halves(series: &[f64], alpha: f64, first: usize, seed: f64, middle: f64, out: &mut [f64])
     requires { ⌜ Smoothing (now series) alpha first seed (first + 1) (now out)
         × Middle (now series) alpha first seed middle ⌝ }
     ensures { λ _. ⌜ Smooth (now (series .entry)) alpha first seed (now (out .entry)) (now (out .exit)) ⌝ }
 {
-    let half = (series.len() - first - 1) / 2;
+    let eights = (series.len() - first - 1) / 16;
     let low = first + 1;
-    let high = low + half;
+    let high = low + 8 * eights;
     let mut last = Ends {
         lower: seed,
         upper: middle,
     };
-    let mut i = 0;
-    while half - i >= 8 {
-        last = blend_both(series, alpha, last, low + i, high + i, 8, out);
-        i += 8;
+    let mut k = 0;
+    while k < eights {
+        last = blend_both(series, alpha, last, low + 8 * k, high + 8 * k, 8, out);
+        k += 1;
     }
-    last = blend_both(series, alpha, last, low + i, high + i, half - i, out);
-    if high + half < series.len() {
-        out[high + half] = blended(alpha, last.upper, series[high + half]);
-    }
+    blend_rest(series, alpha, last.upper, high + 8 * eights, out);
 }
 
 // Writes the cells of a smoothed line: NaN, the seed at bar `first`, and the blended cells after it.

@@ -1,22 +1,22 @@
--- `blend_halves` meets its contract: each turn writes eight cells of either half, from the one before them there.
--- Assumes nothing.
-use Prim.Native.Nat.{_+_, _-_, _≤_}
+-- `blend_halves` meets its contract: each turn writes eight cells of either half, from the one before them there; the
+-- last bars follow. Assumes nothing.
+use Prim.Native.Nat.{_+_, _-_, _*_, _≤_}
 use native.Mathlib.Omega.{arith}
 use borrow.Author.Needs.{needs}
 use Rattle.cells.specs.Line.{line}
-use Rattle.cells.proofs.Written.{step, ends}
-use Rattle.averages_blend.proofs.Blending.{seeded, next-blended, at-bar, blended-cell}
+use Rattle.averages_blend.proofs.Blending.{seeded, at-bar}
 use Rattle.averages_blend.proofs.Halves.{one-part}
 use Rattle.averages_blend.proofs.Sides.{Sides, sides-on, sides-end}
 use Rattle.averages_blend.proofs.blend_halves.Statement.{statement}
 use Rattle.averages_blend.proofs.blend_halves.Tie as tie
 
 abbrev Inv-loop : tie.InvT-loop
-Inv-loop series alpha first seed middle out₀ half low high last₀ i₀ out last i =
-    (i ≤ half) × Sides alpha first seed (line series) (low + i) high (high + i) out₀ out (last .lower) (last .upper)
+Inv-loop series alpha first seed middle out₀ eights low high last₀ k₀ out last k =
+    (k ≤ eights)
+    × Sides alpha first seed (line series) (low + 8 * k) high (high + 8 * k) out₀ out (last .lower) (last .upper)
 
 abbrev μ-loop : tie.MeasureT-loop
-μ-loop series alpha first seed middle out₀ half low high last₀ i₀ out last i = half - i
+μ-loop series alpha first seed middle out₀ eights low high last₀ k₀ out last k = eights - k
 
 loop-holds : tie.Need-loop-holds Inv-loop μ-loop
 loop-holds c =
@@ -37,17 +37,8 @@ loop-again c =
 
 returns : tie.Need-returns Inv-loop μ-loop
 returns c =
-    let at-both = c .before .before .before .before .before in
-    let at = at-both .before .before .before .loop in
-    let (cells, upper) = sides-end (at .inv .1) (at-both .blend-both2 .ensures) (omega arith) in
-    let next = next-blended (at-bar upper (omega arith)) (c .blended .ensures) (omega arith) in
-    step _ _ cells (blended-cell _ next) (omega arith)
-
-returns-2 : tie.Need-returns-2 Inv-loop μ-loop
-returns-2 c =
-    let at-both = c .before .before .before in
-    let at = at-both .before .before .before .loop in
-    ends (sides-end (at .inv .1) (at-both .blend-both2 .ensures) (omega arith) .0) (omega arith)
+    let at-rest = c .before .before in
+    sides-end _ (at-rest .before .before .before .loop .inv .1) (at-rest .blend-rest .ensures) (omega arith)
 
 pub blend-halves-spec : {M : Type 1} → statement M
 blend-halves-spec =
@@ -55,32 +46,23 @@ blend-halves-spec =
     (tie.spec
     Inv-loop
     μ-loop
-    (λ c. search needs)  -- sub-half
-    (λ c. search needs)  -- sub-half-2
+    (λ c. search needs)  -- sub-eights
+    (λ c. search needs)  -- sub-eights-2
     (λ c. search needs)  -- add-low
+    (λ c. search needs)  -- mul-high
     (λ c. search needs)  -- add-high
     loop-holds
-    (λ c. search needs)  -- sub-loop
+    (λ c. search needs)  -- mul-blend-both
     (λ c. search needs)  -- add-blend-both
+    (λ c. search needs)  -- mul-blend-both-2
     (λ c. search needs)  -- add-blend-both-2
     (λ c κs. search needs)  -- blend-both-requires
-    (λ c. search needs)  -- add-i
+    (λ c. search needs)  -- add-k
     (λ c. search needs)  -- loop-less
     loop-again
-    (λ c. search needs)  -- add-blend-both-3
-    (λ c. search needs)  -- add-blend-both-4
-    (λ c. search needs)  -- sub-blend-both
-    (λ c κs. search needs)  -- blend-both-requires-2
-    (λ c. search needs)  -- add-if1
-    (λ c. search needs)  -- add-blended
-    (λ c. search needs)  -- mul-blended
-    (λ c. search needs)  -- shared-slice-read-blended
-    (λ c κs. search needs)  -- blended-requires
-    (λ c. search needs)  -- add-out
-    (λ c. search needs)  -- mul-out
-    (λ c. search needs)  -- slice-write-out
+    (λ c. search needs)  -- mul-blend-rest
+    (λ c. search needs)  -- add-blend-rest
+    (λ c κs. search needs)  -- blend-rest-requires
     (λ c. returns c .long)  -- same-length
     returns
-    (λ c. search needs)  -- same-length-2
-    returns-2
     )

@@ -1,6 +1,6 @@
 -- `blend_tested` meets its contract: the loop blends the first half, and tests both. Assumes nothing.
 use mathlib.Core.Path.{refl}
-use Prim.Native.Nat.{_+_, _-_, _≤_}
+use Prim.Native.Nat.{_+_, _-_, _*_, _≤_}
 use native.Mathlib.Omega.{arith}
 use borrow.Author.Needs.{needs}
 use denote.Ref.{now}
@@ -15,12 +15,12 @@ use Rattle.averages_blend.proofs.blend_tested.Statement.{statement}
 use Rattle.averages_blend.proofs.blend_tested.Tie as tie
 
 abbrev Inv-loop : tie.InvT-loop
-Inv-loop series alpha first half low high accept₀ last₀ i₀ accept last i =
-    (i ≤ half) × TwoParts accepted (line series) 0 (low + i) high i accept
-    × Blending alpha first last₀ (line series) (low + i) last
+Inv-loop series alpha first eights low high accept₀ last₀ k₀ accept last k =
+    (k ≤ eights) × TwoParts accepted (line series) 0 (low + 8 * k) high (8 * k) accept
+    × Blending alpha first last₀ (line series) (low + 8 * k) last
 
 abbrev μ-loop : tie.MeasureT-loop
-μ-loop series alpha first half low high accept₀ last₀ i₀ accept last i = half - i
+μ-loop series alpha first eights low high accept₀ last₀ k₀ accept last k = eights - k
 
 loop-holds : tie.Need-loop-holds Inv-loop μ-loop
 loop-holds c =
@@ -39,15 +39,11 @@ loop-again c =
 
 returns : tie.Need-returns Inv-loop μ-loop
 returns c =
-    let at-high = c .before in
-    let at-low = at-high .before in
-    let inv = at-low .before .before .loop .inv in
-    let s = now (at-low .before .before .before .before .args .series) in
-    let all = parts-end (length s) (inv .1) (at-low .some-accepted3 .ensures) (at-high .some-accepted4 .ensures)
-    (omega arith) in
+    let inv = c .before .before .loop .inv in
+    let s = now (c .before .before .before .before .args .series) in
     record {
-      middle = more-blended _ _ (inv .2) (c .blend-more2 .ensures) (omega arith);
-      accept = all-passing s all refl;
+      middle = at-bar (inv .2) (omega arith);
+      accept = all-passing s (parts-end (length s) (inv .1) (c .some-accepted3 .ensures) (omega arith)) refl;
     }
 
 pub blend-tested-spec : {M : Type 1} → statement M
@@ -56,30 +52,27 @@ blend-tested-spec =
     (tie.spec
     Inv-loop
     μ-loop
-    (λ c. search needs)  -- sub-half
-    (λ c. search needs)  -- sub-half-2
+    (λ c. search needs)  -- sub-eights
+    (λ c. search needs)  -- sub-eights-2
     (λ c. search needs)  -- add-low
+    (λ c. search needs)  -- mul-high
     (λ c. search needs)  -- add-high
     loop-holds
-    (λ c. search needs)  -- sub-loop
+    (λ c. search needs)  -- mul-some-accepted
     (λ c. search needs)  -- add-some-accepted
     (λ c κs. search needs)  -- some-accepted-requires
+    (λ c. search needs)  -- mul-some-accepted-2
     (λ c. search needs)  -- add-some-accepted-2
     (λ c κs. search needs)  -- some-accepted-requires-2
+    (λ c. search needs)  -- mul-blend-more
     (λ c. search needs)  -- add-blend-more
     (λ c κs. search needs)  -- blend-more-requires
-    (λ c. search needs)  -- add-i
+    (λ c. search needs)  -- add-k
     (λ c. search needs)  -- loop-less
     loop-again
-    (λ c. search needs)  -- add-some-accepted-3
+    (λ c. search needs)  -- mul-end
+    (λ c. search needs)  -- add-end
     (λ c. search needs)  -- sub-some-accepted
     (λ c κs. search needs)  -- some-accepted-requires-3
-    (λ c. search needs)  -- add-some-accepted-4
-    (λ c. search needs)  -- sub-some-accepted-2
-    (λ c. search needs)  -- sub-some-accepted-3
-    (λ c κs. search needs)  -- some-accepted-requires-4
-    (λ c. search needs)  -- add-blend-more-2
-    (λ c. search needs)  -- sub-blend-more
-    (λ c κs. search needs)  -- blend-more-requires-2
     returns
     )

@@ -1,7 +1,7 @@
 -- What the functions under the exponential averages ask of each other. Assumes nothing.
 use mathlib.Core.Path.{_≡_}
 use mathlib.Core.List.{List}
-use Prim.Native.Nat.{ℕ, _+_, _-_, _/_, _<_, _≤_}
+use Prim.Native.Nat.{ℕ, _+_, _-_, _*_, _/_, _<_, _≤_}
 use lib.ListN.{length, set}
 use lib.Ieee.{Float}
 use Rattle.cells.specs.Line.{Line, line}
@@ -13,10 +13,17 @@ use Rattle.averages_blend.specs.Blend.{blend, smoothLine}
 abbrev pub blendFrom : Float → Float → Line → ℕ → ℕ → Float
 blendFrom alpha last f a = recur last (λ k cell. blend alpha cell (f (a + k)))
 
--- a cell more of two parts: bar a + k of the one that goes on from the cell x, bar b + k of the one that goes on from y
+-- a cell more, of those from bar a on that go on from the cell x: bar a + k
+abbrev pub stored : Float → Line → Float → ℕ → ℕ → List Float → List Float
+stored alpha f x a k cells = set cells (a + k) (blendFrom alpha x f a (k + 1))
+
+-- `count` of them are stored
+pub record BlendedRest (alpha : Float) (f : Line) (x : Float) (a count : ℕ) (old now : List Float) : Type 0 where
+  pub cells : now ≡ recur old (stored alpha f x a) count
+
+-- a cell more of two parts: those from bar a on that go on from x, and those from bar b on that go on from y
 abbrev pub bothStored : Float → Line → Float → Float → ℕ → ℕ → ℕ → List Float → List Float
-bothStored alpha f x y a b k cells = set (set cells (a + k) (blendFrom alpha x f a (k + 1))) (b + k)
-    (blendFrom alpha y f b (k + 1))
+bothStored alpha f x y a b k cells = stored alpha f y b k (stored alpha f x a k cells)
 
 -- `count` cells of each are stored; u and v are their last ones
 pub record BlendedBoth (alpha : Float) (f : Line) (x y : Float) (a b count : ℕ) (old : List Float) (u v : Float)
@@ -29,9 +36,9 @@ pub record BlendedBoth (alpha : Float) (f : Line) (x y : Float) (a b count : ℕ
 pub record Blending (alpha : Float) (a : ℕ) (seed : Float) (f : Line) (i : ℕ) (x : Float) : Type 0 where
   pub is : x ≡ smoothLine alpha a seed f (i - 1)
 
--- how many bars half of those after bar `first` are
+-- how many bars the first half of those after bar `first` has: eights only, so that the second has up to 15 more
 abbrev pub half : ℕ → ℕ → ℕ
-half bars first = (bars - first - 1) / 2
+half bars first = 8 * ((bars - first - 1) / 16)
 
 -- x is the cell half way through the bars after the seed
 abbrev pub Middle : List Float → Float → ℕ → Float → Float → Type 0
