@@ -11,7 +11,8 @@ fit : (c : tie.Start) → T (fits binary64 (c .args .x))
 fit c = subst T (sym (c .good .0 .1)) tt
 
 returns : tie.Need-returns
-returns c = rw (c .bits-unless .ensures, c .before .is-tick-size .ensures) (sym (tick-parts _ (fit (c .before .before))))
+returns c =
+    rw (c .bits-unless .ensures, c .before .is-tick-size .ensures) (sym (tick-parts _ (fit (c .before .before))))
 
 pub off-tick-bits-spec : {M : Type 1} → statement M
 off-tick-bits-spec =
