@@ -1,5 +1,5 @@
 pub mod All
-pub mod Flags
+pub mod Both
 pub mod Fraction
 pub mod Numbers
 pub mod Part

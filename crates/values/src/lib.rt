@@ -2,18 +2,18 @@
 use limits::LARGEST_TICK;
 use limits::LARGEST_VALUE;
 ghost use mathlib.Core.Path.{_≡_};
-ghost use mathlib.Core.Bool.{not, _&&_};
+ghost use mathlib.Core.Bool.{not};
 ghost use Prim.Native.Nat.{_^_};
 ghost use lib.Dec.{eqb};
 ghost use lib.Ieee.{binary64, toBits};
-ghost use Rattle.values.specs.Accepted.{within, accepted, tick, finite};
+ghost use Rattle.values.specs.Accepted.{within, tick, finite};
 ghost use Rattle.rounding.specs.Leaves.{magnitudeOf};
 ghost use Rattle.values.specs.inner.Quick.{capped};
 ghost use Rattle.values.specs.inner.Fraction.{comesBack};
 ghost use Rattle.limits.specs.Limits.{valuePower};
 
 // Whether x lies within 2^30. A NaN does not.
-fn is_near(x: f64) -> bool
+pub fn is_near(x: f64) -> bool
     ensures { λ r. ⌜ r ≡ within valuePower x ⌝ }
 {
     if x >= -LARGEST_VALUE {
@@ -24,25 +24,10 @@ fn is_near(x: f64) -> bool
 }
 
 // 0, unless x is -0.0.
-fn minus_zero_bits(x: f64) -> u64
+pub fn minus_zero_bits(x: f64) -> u64
     ensures { λ r. ⌜ eqb r 0 ≡ not (eqb (toBits binary64 x) (2 ^ 63)) ⌝ }
 {
     if x == 0.0 { f64::to_bits(x) } else { 0 }
-}
-
-// 0 if `good` and x is not -0.0. What is not good has all bits, as a comparison gives them.
-fn bits_unless(good: bool, x: f64) -> u64
-    ensures { λ r. ⌜ eqb r 0 ≡ good && not (eqb (toBits binary64 x) (2 ^ 63)) ⌝ }
-{
-    let bad = if good { 0 } else { 18446744073709551615 };
-    bad | minus_zero_bits(x)
-}
-
-// 0 if a series may hold x, and else not.
-pub fn refused_bits(x: f64) -> u64
-    ensures { λ r. ⌜ eqb r 0 ≡ accepted x ⌝ }
-{
-    bits_unless(is_near(x), x)
 }
 
 // Whether x is a whole tick.
@@ -85,16 +70,9 @@ pub fn is_whole(x: f64) -> bool
 }
 
 // Whether x without its sign is a whole tick.
-fn is_tick_size(x: f64) -> bool
+pub fn is_tick_size(x: f64) -> bool
     ensures { λ r. ⌜ r ≡ tick (magnitudeOf x) ⌝ }
 {
     let size = rounding::magnitude(x);
     (size <= LARGEST_TICK) & is_whole(size)
-}
-
-// 0 if x is a whole tick, and else not.
-pub fn off_tick_bits(x: f64) -> u64
-    ensures { λ r. ⌜ eqb r 0 ≡ tick x ⌝ }
-{
-    bits_unless(is_tick_size(x), x)
 }

@@ -31,19 +31,21 @@ pub fn bits_together(s: &[f64], first: usize, end: usize) -> u64
     together
 }
 
-// Whether a series may hold the `count` numbers of s from index `first` on. All are looked at, so that the loop takes
-// several at a time.
+// Whether a series may hold the `count` numbers of s from index `first` on. All are looked at, and what was found is
+// kept in two variables: so the loop takes several at a time.
 pub fn some_accepted(s: &[f64], first: usize, count: usize) -> bool
     requires { ⌜ first + count ≤ length (now s) ⌝ }
     ensures { λ r. ⌜ Passing accepted (line (now (s .entry))) first count r ⌝ }
 {
-    let mut refused = 0;
+    let mut near = true;
+    let mut minus_zeros = 0;
     let mut i = 0;
     while i < count {
-        refused = refused | values::refused_bits(s[first + i]);
+        near = near & values::is_near(s[first + i]);
+        minus_zeros = minus_zeros | values::minus_zero_bits(s[first + i]);
         i += 1;
     }
-    refused == 0
+    near & (minus_zeros == 0)
 }
 
 // Whether a series may hold every number of s from index `first` on. Where their bits together are at most those of
@@ -95,13 +97,15 @@ fn gather(s: &[f64]) -> Gathered
 fn each_tick(s: &[f64]) -> bool
     ensures { λ r. ⌜ r ≡ all tick (now (s .entry)) ⌝ }
 {
-    let mut off = 0;
+    let mut whole = true;
+    let mut minus_zeros = 0;
     let mut i = 0;
     while i < s.len() {
-        off = off | values::off_tick_bits(s[i]);
+        whole = whole & values::is_tick_size(s[i]);
+        minus_zeros = minus_zeros | values::minus_zero_bits(s[i]);
         i += 1;
     }
-    off == 0
+    whole & (minus_zeros == 0)
 }
 
 // Whether every number of s is a whole tick. Where prices have fractions the first one mostly shows it; where all
