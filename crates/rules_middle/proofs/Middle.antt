@@ -11,13 +11,14 @@ use Rattle.cells.specs.Written.{Writing}
 use Rattle.cells.proofs.Carried.{from-same}
 use Rattle.cells.proofs.Rows.{beside-first, beside-second}
 use Rattle.cells.proofs.Written.{read-back}
-use Rattle.cells.proofs.Line.{causal-then, causal-from, from-bar}
+use Rattle.cells.proofs.Line.{causal-then, causal-from}
 use Rattle.windows.specs.Window.{mean}
 use Rattle.windows.proofs.Window.{causal-mean}
 use Rattle.extremes.specs.Extreme.{larger, smaller, extreme}
 use Rattle.extremes.proofs.Extreme.{causal-extreme}
-use Rattle.rules_middle.specs.Middle.{againstMiddle, midLine}
-use Rattle.rules_middle.specs.inner.Positions.{positions}
+use Rattle.rules_middle_bar.specs.AgainstMiddle.{againstMiddle}
+use Rattle.rules_middle_bar.specs.inner.Positions.{positions}
+use Rattle.rules_middle.specs.Middle.{midLine}
 
 pub causal-mid : (n : ℕ) → 0 < n → Causal (midLine n)
 unfolding midLine
@@ -39,10 +40,6 @@ middles n g =
 pub middles-mid : (n : ℕ) (f : Line) → middles n (mean n f) ≡ midLine n f
 unfolding midLine
 middles-mid n f = refl
-
-pub position-at : (n bars : ℕ) (g rows : Line) (i : ℕ) {m h l : Float} → m ≡ g i → h ≡ rows i → l ≡ rows (bars + i)
-    → 2 * n - 2 ≤ i → againstMiddle m h l ≡ positions n bars g rows i
-position-at n bars g rows i e p q b = rw (e, p, q, from-bar (2 * n - 2) plusZero _ i b)
 
 -- the means of g stand in one slice, and the highest and the lowest of the last n in two rows of another
 pub record Standing (n bars : ℕ) (g : Line) (now rows : List Float) : Type 0 where

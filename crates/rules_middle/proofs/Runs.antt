@@ -21,7 +21,7 @@ use Rattle.running_sums.specs.inner.Margin.{largestOf, marginOf, farFromMiddle,
 use Rattle.running_sums.proofs.Twice.{runs-small}
 use Rattle.running_sums.proofs.Middle.{decided-middle}
 use Rattle.rules_middle.specs.Middle.{midLine}
-use Rattle.rules_middle.specs.inner.Positions.{positions}
+use Rattle.rules_middle_bar.specs.inner.Positions.{positions}
 use Rattle.rules_middle.proofs.Middle.{middles-mid, Standing, positions-are}
 
 module _ (s : List Float) (n : ℕ) (ok : all accepted s ≡ true) (floats : (j : ℕ) → T (fits binary64 (line s j)))

@@ -1,4 +1,3 @@
 -- The middle rule: what it answers and writes.
 pub mod Cases
 pub mod Middle
-pub mod inner

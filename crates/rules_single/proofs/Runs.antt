@@ -9,16 +9,17 @@ use lib.ListN.{length}
 use lib.Ieee.{Float, nan, binary64, fits}
 use Rattle.limits.specs.Limits.{Window, longestSeries}
 use Rattle.values.specs.Accepted.{accepted, all}
-use Rattle.cells.specs.Line.{line}
+use Rattle.cells.specs.Line.{line, plusZero}
 use Rattle.cells.specs.Written.{Writing}
+use Rattle.cells.proofs.Carried.{from-same}
 use Rattle.cells.proofs.Written.{read-back}
 use Rattle.windows.specs.Window.{mean}
 use Rattle.sliding_means.specs.inner.Means.{runMeans}
 use Rattle.running_sums.specs.inner.Margin.{largestOf, marginOf, far, AllFar}
 use Rattle.running_sums.proofs.Twice.{decided-twice}
+use Rattle.rules_single_bar.specs.inner.Positions.{positions}
 use Rattle.rules_single.specs.Single.{singleLine}
-use Rattle.rules_single.specs.inner.Runs.{positions}
-use Rattle.rules_single.proofs.Single.{positions-same, positions-single}
+use Rattle.rules_single.proofs.Single.{positions-single}
 
 -- where every price is far enough from its average, the averages by running sums give the rule's cells
 pub by-runs : (s : List Float) (n : ℕ) {old now : List Float} → all accepted s ≡ true
@@ -29,7 +30,7 @@ pub by-runs : (s : List Float) (n : ℕ) {old now : List Float} → all accepted
     → (i : ℕ) → i < length s → positions n (line s) (line now) i ≡ singleLine n (line s) i
 by-runs s n {old} {now} ok floats w B cells room e m far i h =
     let cell = read-back i nan cells (omega arith) in
-    positions-same n (line s) (line now) (mean n (mean n (line s))) i
+    from-same (2 * n - 2) plusZero _ _ i
     (λ b. let (sign, some, other) = decided-twice s n ok floats w B i h (rw (m, cell) at (far .each e i b h)) in
     rw (cell, some, other, sign))
     ∙ ap (λ g. g i) (positions-single n (line s))

@@ -9,25 +9,10 @@ ghost use Rattle.cells.specs.Written.{Writing};
 ghost use Rattle.windows.specs.Window.{mean};
 ghost use Rattle.rules_single.specs.inner.Ticks.{TickRows};
 ghost use Rattle.rules_single.specs.Single.{singleLine};
-ghost use Rattle.rules_single.specs.inner.Runs.{positions};
 ghost use Rattle.running_sums.specs.inner.Decided.{Decided};
-ghost use Rattle.windows.specs.inner.Eight.{WindowRoom};
 ghost use Rattle.cells.specs.inner.Touched.{Touched};
 ghost use Rattle.checks.specs.inner.Due.{Priced};
 ghost use Rattle.window_means.specs.inner.Ticks.{longTicks};
-
-// Writes each bar's position over the average that stands in its cell.
-fn write_against_means(series: &[f64], n: usize, out: &mut [f64])
-    requires { ⌜ WindowRoom n (length (now series)) (length (now out)) ⌝ }
-    ensures { λ _. ⌜ Writing (length (now (series .entry)))
-        (positions n (line (now (series .entry))) (line (now (out .entry)))) (now (out .entry)) (now (out .exit)) ⌝ }
-{
-    let mut i = cells::fill_lead(out, 2 * n - 2, series.len(), 0.0);
-    while i < series.len() {
-        out[i] = rules_single_bar::against_mean(series[i], out[i]);
-        i += 1;
-    }
-}
 
 // The position of bar i. The rows of `work` are the means, which decide a tie, and the sums of the last n window sums.
 fn tick_position(series: &[f64], work: &[f64], n: usize, i: usize) -> f64
@@ -91,7 +76,7 @@ fn write_single_by_runs(series: &[f64], n: usize, out: &mut [f64], work: &mut [f
     sliding_means::write_means(&work[..bars], n, out);
     let far = running_sums::all_far(series, out, 2 * n - 2, running_sums::margin(series));
     if far {
-        write_against_means(series, n, out);
+        rules_single_bar::write_against_means(series, n, out);
     }
     far
 }
@@ -107,7 +92,7 @@ fn write_single_of_means(series: &[f64], n: usize, ticks: bool, out: &mut [f64],
     let bars = series.len();
     window_means::write_means_by(series, n, ticks, work);
     window_means::write_means(&work[..bars], n, out);
-    write_against_means(series, n, out);
+    rules_single_bar::write_against_means(series, n, out);
 }
 
 // Writes each bar's position. The first two rows of `work` are used.

@@ -1,2 +1,3 @@
 -- What the crate's own functions ask of each other.
+pub mod Positions
 pub mod Tie

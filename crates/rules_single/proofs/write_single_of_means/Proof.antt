@@ -3,13 +3,14 @@ use mathlib.Core.Path.{sym, ap}
 use native.Mathlib.Omega.{arith}
 use borrow.Author.Needs.{needs}
 use lib.Ieee.{nan}
+use Rattle.cells.specs.Line.{plusZero}
+use Rattle.cells.proofs.Carried.{from-same}
 use Rattle.cells.proofs.Parts.{part-long, through}
 use Rattle.cells.proofs.Touched.{touched, touched-more}
 use Rattle.cells.proofs.Written.{then-written, writing-same, read-back}
 use Rattle.windows.specs.Window.{mean}
 use Rattle.windows.proofs.Window.{causal-mean}
 use Rattle.rules_single.specs.Single.{againstMean, singleLine}
-use Rattle.rules_single.proofs.Single.{positions-same}
 use Rattle.rules_single.proofs.write_single_of_means.Statement.{statement}
 use Rattle.rules_single.proofs.write_single_of_means.Tie as tie
 
@@ -28,7 +29,7 @@ returns c =
     (second .write-means .ensures) in
     let positions = then-written doubled (cells .write-against-means .ensures) (omega arith) in (
       writing-same positions
-          (λ i l. positions-same _ _ _ _ i (λ b. ap (againstMean _) (read-back i nan doubled (omega arith)))),
+          (λ i l. from-same _ plusZero _ _ i (λ b. ap (againstMean _) (read-back i nan doubled (omega arith)))),
       touched-more (touched (first .write-means-by .ensures)) (omega arith),
     )
 

@@ -6,15 +6,16 @@ use native.Mathlib.Omega.{arith}
 use borrow.Author.Needs.{needs}
 use lib.Ieee.{ofBits}
 use lib.ListN.{length}
-use Rattle.cells.specs.Line.{line}
+use Rattle.cells.specs.Line.{line, plusZero}
+use Rattle.cells.proofs.Carried.{from-same}
 use Rattle.cells.proofs.Leads.{lead-stands, lead-then, not-yet}
 use Rattle.cells.specs.Written.{Writing}
 use Rattle.cells.proofs.Written.{one-more, writing-same}
-use Rattle.rules_single.specs.Single.{againstMean}
-use Rattle.rules_single.specs.inner.Runs.{positions}
-use Rattle.rules_single.proofs.Single.{position-at, positions-same}
-use Rattle.rules_single.proofs.write_against_means.Statement.{statement}
-use Rattle.rules_single.proofs.write_against_means.Tie as tie
+use Rattle.rules_single_bar.specs.AgainstMean.{againstMean}
+use Rattle.rules_single_bar.specs.inner.Positions.{positions}
+use Rattle.rules_single_bar.proofs.Positions.{position-at}
+use Rattle.rules_single_bar.proofs.write_against_means.Statement.{statement}
+use Rattle.rules_single_bar.proofs.write_against_means.Tie as tie
 
 abbrev Inv-loop : tie.InvT-loop
 Inv-loop series n out₀ i₀ out i =
@@ -38,7 +39,7 @@ returns : tie.Need-returns Inv-loop μ-loop
 returns c =
     let lead = c .before .before .before .before .fill-lead .ensures in
     writing-same (lead-then lead (c .before .loop .inv .2) (omega arith))
-    (λ i l. positions-same _ _ _ _ i (λ b. ap (againstMean _) (not-yet i (lead .lead) (omega arith))))
+    (λ i l. from-same _ plusZero _ _ i (λ b. ap (againstMean _) (not-yet i (lead .lead) (omega arith))))
 
 pub write-against-means-spec : {M : Type 1} → statement M
 write-against-means-spec =

@@ -1,8 +1,8 @@
 -- `against_middle` meets its contract: its tests are those of `againstMiddle`. Assumes nothing.
 use borrow.Author.Needs.{needs}
 use lib.Ieee.{ofBits}
-use Rattle.rules_middle.proofs.against_middle.Statement.{statement}
-use Rattle.rules_middle.proofs.against_middle.Tie as tie
+use Rattle.rules_middle_bar.proofs.against_middle.Statement.{statement}
+use Rattle.rules_middle_bar.proofs.against_middle.Tie as tie
 
 pub against-middle-spec : {M : Type 1} → statement M
 against-middle-spec =

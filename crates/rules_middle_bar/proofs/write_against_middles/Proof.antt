@@ -10,10 +10,10 @@ use Rattle.cells.proofs.Carried.{from-same}
 use Rattle.cells.proofs.Leads.{lead-stands, lead-then, not-yet}
 use Rattle.cells.specs.Written.{Writing}
 use Rattle.cells.proofs.Written.{one-more, writing-same}
-use Rattle.rules_middle.specs.inner.Positions.{positions}
-use Rattle.rules_middle.proofs.Middle.{position-at}
-use Rattle.rules_middle.proofs.write_against_middles.Statement.{statement}
-use Rattle.rules_middle.proofs.write_against_middles.Tie as tie
+use Rattle.rules_middle_bar.specs.inner.Positions.{positions}
+use Rattle.rules_middle_bar.proofs.Positions.{position-at}
+use Rattle.rules_middle_bar.proofs.write_against_middles.Statement.{statement}
+use Rattle.rules_middle_bar.proofs.write_against_middles.Tie as tie
 
 abbrev Inv-loop : tie.InvT-loop
 Inv-loop bars n out₀ work i₀ out i =

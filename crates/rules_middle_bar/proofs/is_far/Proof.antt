@@ -1,8 +1,8 @@
 -- `is_far` meets its contract: its tests are those of `farFromMiddle`. Assumes nothing.
 use borrow.Author.Needs.{needs}
 use lib.Ieee.{ofBits}
-use Rattle.rules_middle.proofs.is_far.Statement.{statement}
-use Rattle.rules_middle.proofs.is_far.Tie as tie
+use Rattle.rules_middle_bar.proofs.is_far.Statement.{statement}
+use Rattle.rules_middle_bar.proofs.is_far.Tie as tie
 
 returns : tie.Need-returns
 unfolding ofBits

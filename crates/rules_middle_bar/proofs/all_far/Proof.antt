@@ -5,8 +5,8 @@ use borrow.Author.Needs.{needs}
 use Rattle.cells.specs.Line.{line}
 use Rattle.running_sums.specs.inner.Margin.{farFromMiddle, AllFar}
 use Rattle.running_sums.proofs.Far.{none-looked-at, one-more-far, fewer-far}
-use Rattle.rules_middle.proofs.all_far.Statement.{statement}
-use Rattle.rules_middle.proofs.all_far.Tie as tie
+use Rattle.rules_middle_bar.proofs.all_far.Statement.{statement}
+use Rattle.rules_middle_bar.proofs.all_far.Tie as tie
 
 abbrev Inv-loop : tie.InvT-loop
 Inv-loop bars means rows first d far₀ i₀ far i = (first ≤ i)

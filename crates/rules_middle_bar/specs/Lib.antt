@@ -1,0 +1,3 @@
+-- One bar of the middle rule.
+pub mod AgainstMiddle
+pub mod inner
