@@ -13,9 +13,10 @@ use Rattle.sheet_blocks.specs.Whole.{Reached, last}
 use Rattle.sheet_blocks.specs.inner.Place.{stateOf}
 use Rattle.sheet_run.specs.inner.Block.{Fed}
 use Rattle.sheet_run.proofs.Whole.{reached-none, reached-block, reached-end}
-use Rattle.sheet_run.specs.declared.Carried.{Carried}
+use Rattle.sheet_carried.specs.declared.Carried.{Carried}
+use Rattle.sheet_carried.specs.inner.Start.{start}
 use Rattle.sheet_run.specs.Run.{Ran}
-use Rattle.sheet_run.specs.inner.Turn.{start, Carrying, Turned}
+use Rattle.sheet_run.specs.inner.Turn.{Carrying, Turned}
 
 -- the bytes that came and those that were handed over so far, with what is carried after them
 pub record Progress (c : Carried) (block : List ℕ) (series : List Float) : Type 0 where

@@ -3,9 +3,8 @@
 // the loop that feeds a block, and the loop that reads blocks, feeds them and writes.
 use sheet_blocks::Place;
 use sheet_blocks::Sheet;
-use sheet_blocks::Stage;
 use sheet_blocks::TEXT_ROOM;
-use sheet_input::Input;
+use sheet_carried::Carried;
 use sheet_input::Output;
 use sheet_lines::MOST_BARS;
 use sheet_requests::WORK_CELLS;
@@ -17,48 +16,16 @@ ghost use Rattle.sheet_blocks.specs.inner.Place.{Sound};
 ghost use Rattle.sheet_answers.specs.inner.Lent.{Lent};
 ghost use Rattle.sheet_blocks.specs.inner.Taken.{textRoom};
 ghost use Rattle.sheet_closing.specs.inner.Finished.{cutBytes, Finished};
-ghost use Rattle.sheet_run.specs.Run.{statusOf, Ran};
+ghost use Rattle.sheet_carried.specs.Stands.{statusOf};
+ghost use Rattle.sheet_run.specs.Run.{Ran};
 ghost use Rattle.sheet_run.specs.inner.Block.{Fed};
 ghost use Rattle.sheet_run.specs.inner.Buffers.{Buffers};
-ghost use Rattle.sheet_run.specs.inner.Turn.{start, Carrying, Turned};
+ghost use Rattle.sheet_run.specs.inner.Turn.{Carrying, Turned};
 
 // The most bytes that are in the block, and the bytes that it may print.
 const BLOCK_BYTES: usize = 65536;
 
 const TEXT_BYTES: usize = BLOCK_BYTES + TEXT_ROOM;
-
-// What is carried from turn to turn: the sheet and its place in the
-// block, where the bytes in the block end, and what was answered last.
-struct Carried {
-    place: Place,
-    end: usize,
-    input: Input,
-    output: Output,
-}
-
-// How the program stands after a turn.
-fn status(carried: Carried) -> Status
-    ensures { λ r. ⌜ r ≡ statusOf (carried .output .taken) (carried .input) (carried .place .sheet .stage) ⌝ }
-{
-    let output = carried.output;
-    let input = carried.input;
-    let place = carried.place;
-    let sheet = place.sheet;
-    let stage = sheet.stage;
-    if output.taken {
-        match input {
-            Input::Failed => Status::ReadFailed,
-            Input::Ended => Status::Done,
-            Input::Came(_) => match stage {
-                Stage::Waiting => Status::Reading,
-                Stage::Collecting(_, _) => Status::Reading,
-                Stage::Stopped => Status::Done,
-            },
-        }
-    } else {
-        Status::WriteFailed
-    }
-}
 
 // Reads a block as far as its bytes make whole lines, and prints the answers from the start of the text on.
 fn feed(
@@ -115,25 +82,6 @@ fn turn(
     }
 }
 
-// Before the first turn.
-fn first() -> Carried
-    ensures { λ r. ⌜ r ≡ start ⌝ }
-{
-    Carried {
-        place: Place {
-            sheet: sheet_blocks::begin(),
-            at: 0,
-            filled: 0,
-        },
-        end: 0,
-        input: Input::Came(0),
-        output: Output {
-            bytes: 0,
-            taken: true,
-        },
-    }
-}
-
 // Writes what is printed last: nothing where not all was read and written.
 fn close(carried: Carried, text: &mut [u8]) -> Output
     requires { ⌜ Carrying carried × (cutBytes ≤ length (now text)) ⌝ }
@@ -141,7 +89,12 @@ fn close(carried: Carried, text: &mut [u8]) -> Output
         (carried .place .sheet) (carried .end - carried .place .at) (r .bytes) (now (text .exit)) ⌝ }
 {
     let place = carried.place;
-    let count = sheet_closing::finish(status(carried), place.sheet, carried.end - place.at, text);
+    let count = sheet_closing::finish(
+        sheet_carried::status(carried),
+        place.sheet,
+        carried.end - place.at,
+        text,
+    );
     sheet_input::write_text(text, count)
 }
 
@@ -157,15 +110,15 @@ fn run(
     requires { ⌜ Buffers (now block) (now series) (now out) (now work) (now text) ⌝ }
     ensures { λ r. ⌜ Ran r ⌝ }
 {
-    let mut carried = first();
+    let mut carried = sheet_carried::first();
     let mut turns = u64::MAX;
-    while turns > 0 && sheet_status::goes_on(status(carried)) {
+    while turns > 0 && sheet_status::goes_on(sheet_carried::status(carried)) {
         carried = turn(carried, block, series, out, work, text);
         turns -= 1;
     }
     let last = close(carried, text);
     if last.taken {
-        status(carried)
+        sheet_carried::status(carried)
     } else {
         Status::WriteFailed
     }

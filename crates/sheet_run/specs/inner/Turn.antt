@@ -1,27 +1,14 @@
--- What is carried from turn to turn, and what a turn does. Assumes nothing.
+-- What holds between two turns, and what a turn does. Assumes nothing.
 use mathlib.Core.Path.{_≡_}
-use mathlib.Core.Bool.{true}
 use mathlib.Core.List.{List}
 use Prim.Native.Nat.{ℕ, _+_, _-_, _≤_}
 use lib.ListN.{take}
 use lib.Seq.{slice}
 use lib.Ieee.{Float}
-use Rattle.sheet_blocks.specs.inner.Place.{beginning}
 use Rattle.sheet_run.specs.inner.Block.{Fed, Between}
-use Rattle.sheet_run.specs.declared.Carried.{Carried}
-use Rattle.sheet_input.specs.declared.Input.the-variants.{Came}
+use Rattle.sheet_carried.specs.declared.Carried.{Carried}
 use Rattle.sheet_input.specs.Input.{came}
 use Rattle.sheet_run.specs.inner.Buffers.{blockBytes}
-
--- before the first turn
-abbrev pub start : Carried
-start =
-    record {
-      place = record { sheet = beginning; at = 0; filled = 0 };
-      end = 0;
-      input = Came 0;
-      output = record { bytes = 0; taken = true };
-    }
 
 -- what holds between two turns: the bytes that are left lie in the block, and are too few for a line
 pub record Carrying (c : Carried) : Type 0 where

@@ -1,7 +1,7 @@
 -- `first` meets its contract: nothing was read yet. Assumes nothing.
 use borrow.Author.Needs.{needs}
-use Rattle.sheet_run.proofs.first.Statement.{statement}
-use Rattle.sheet_run.proofs.first.Tie as tie
+use Rattle.sheet_carried.proofs.first.Statement.{statement}
+use Rattle.sheet_carried.proofs.first.Tie as tie
 
 pub first-spec : {M : Type 1} → statement M
 first-spec =

@@ -1,7 +1,7 @@
 -- `status` meets its contract: its tests are those of `statusOf`. Assumes nothing.
 use borrow.Author.Needs.{needs}
-use Rattle.sheet_run.proofs.status.Statement.{statement}
-use Rattle.sheet_run.proofs.status.Tie as tie
+use Rattle.sheet_carried.proofs.status.Statement.{statement}
+use Rattle.sheet_carried.proofs.status.Tie as tie
 
 -- bytes came, and all was written
 returns-3 : tie.Need-returns-3

@@ -1,0 +1,3 @@
+-- How the program stands after a turn.
+pub mod Stands
+pub mod inner
