@@ -1,4 +1,3 @@
 pub mod Calls
 pub mod Oscillator
-pub mod Sliding
 pub mod Zeros

@@ -7,7 +7,6 @@ use native.Mathlib.Omega.{arith}
 use lib.ListN.{length, take, length-take}
 use lib.Ieee.{Float, nan}
 use Rattle.cells.specs.Line.{Line, line, plusZero, minusZero, Same}
-use Rattle.cells.proofs.Line.{from-bar}
 use Rattle.cells.proofs.Carried.{from-same}
 use Rattle.cells.specs.Written.{Writing}
 use Rattle.cells.proofs.Written.{read-back, ends, writing-same}
@@ -22,8 +21,10 @@ use Rattle.window_laws.proofs.Zeros.{EitherZero, sums-from-either}
 use Rattle.true_range.specs.declared.CloseBefore.{CloseBefore}
 use Rattle.true_range.specs.TrueRange.{trueRanges, closeBefore}
 use Rattle.true_range.proofs.TrueRange.{Causal₃, causal-close, causal-ranges}
-use Rattle.oscillator_bar.specs.Oscillator.{pressure, pressures, share, weighed, weighedShares, oscillatorLine}
-use Rattle.oscillator.specs.inner.Rows.{afresh, eachRatio, eachWeighed}
+use Rattle.oscillator_bar.specs.Oscillator.{pressure, pressures, share, weighedShares, oscillatorLine}
+use Rattle.oscillator_ticks.specs.inner.Begun.{afresh}
+use Rattle.oscillator_ticks.proofs.Cells.{cell-is}
+use Rattle.oscillator.specs.inner.Rows.{eachRatio, eachWeighed}
 
 -- ---- lines that agree
 
@@ -64,11 +65,6 @@ pub pressure-at : (low close : Line) (i : ℕ) {x : Float} {before : CloseBefore
     → x ≡ pressure (low i) (close i) before → before ≡ closeBefore close i → x ≡ pressures low close i
 unfolding pressures
 pressure-at low close i e h = rw (e, h)
-
-pub cell-is : (z : Float) (n m k i : ℕ) (f g : Line) {x y w : Float} → x ≡ share z n f g i → y ≡ share z m f g i
-    → w ≡ share z k f g i → max n (max m k) ≤ i + 1 → weighed x y w ≡ weighedShares z n m k f g i
-unfolding weighedShares
-cell-is z n m k i f g a b c h = rw (a, b, c, from-bar (max n (max m k) - 1) nan _ i (omega arith))
 
 pub eight-shares : (n i : ℕ) (f g : Line) {x y : Lanes} → Eight (windowSum n f) i x → Eight (windowSum n g) i y
     → Eight (share minusZero n f g) i (eachRatio x y)

@@ -1,13 +1,10 @@
 // The ultimate oscillator: buying pressure over true range in three windows.
 use calls::Answer;
-use oscillator_bar::Sums;
 use windows::Lanes;
 use windows::Sixteen;
 ghost use mathlib.Core.Path.{_≡_};
-ghost use Prim.Native.Nat.{_*_, _<_, _≤_, max};
-ghost use mathlib.Core.Bool.{true};
+ghost use Prim.Native.Nat.{_*_, _≤_, max};
 ghost use lib.ListN.{length};
-ghost use Rattle.values.specs.Accepted.{tick, all};
 ghost use Rattle.cells.specs.Line.{line, minusZero};
 ghost use Rattle.cells.specs.Written.{Writing};
 ghost use Rattle.cells.specs.inner.Touched.{Touched};
@@ -15,23 +12,18 @@ ghost use Rattle.windows.specs.inner.Eight.{Windows, SixteenOf};
 ghost use Rattle.oscillator_bar.specs.Oscillator.{
   pressure,
   pressures,
-  ratio,
-  weighed,
   share,
   weighedShares,
   oscillatorLine,
   oscillatorAnswer,
   OscillatorCall,
 };
-ghost use Rattle.oscillator_bar.specs.inner.Sliding.{SumsOf};
+ghost use Rattle.oscillator_ticks.specs.inner.Begun.{Windows₃, Begun, afresh};
 ghost use Rattle.oscillator.specs.inner.Rows.{
   Ready,
-  Windows₃,
   Whole₃,
   TwoRows,
-  Begun,
   Reached,
-  afresh,
   eachRatio,
   eachWeighed,
 };
@@ -176,48 +168,6 @@ fn cells_by_one(f: &[f64], g: &[f64], n: usize, m: usize, k: usize, from: usize,
     }
 }
 
-// The sums of the n cells up to bar i.
-fn sums_at(f: &[f64], g: &[f64], n: usize, i: usize) -> Sums
-    requires { ⌜ Windows n i 1 (length (now f)) × (length (now g) ≡ length (now f)) ⌝ }
-    ensures { λ r. ⌜ SumsOf n (line (now (f .entry))) (line (now (g .entry))) i r ⌝ }
-{
-    Sums {
-        over: windows::sum_at(f, n, i),
-        under: windows::sum_at(g, n, i),
-    }
-}
-
-// The cell of three windows' sums.
-fn cell_of(short: Sums, medium: Sums, long: Sums) -> f64
-    ensures { λ r. ⌜ r ≡ weighed (ratio (short .over) (short .under)) (ratio (medium .over) (medium .under))
-        (ratio (long .over) (long .under)) ⌝ }
-{
-    let a = oscillator_bar::ratio_of(short.over, short.under);
-    let b = oscillator_bar::ratio_of(medium.over, medium.under);
-    oscillator_bar::weigh(a, b, oscillator_bar::ratio_of(long.over, long.under))
-}
-
-// Writes the cells of whole ticks from bar `from` to the last, by running sums.
-fn cells_of_ticks(f: &[f64], g: &[f64], n: usize, m: usize, k: usize, from: usize, out: &mut [f64])
-    requires { ⌜ Begun n m k (now f) (now g) from (now out) × (from < length (now f)) ⌝ }
-    requires { ⌜ (all tick (now f) ≡ true) × (all tick (now g) ≡ true) ⌝ }
-    ensures { λ _. ⌜ Writing (length (now (f .entry))) (afresh n m k (now (f .entry)) (now (g .entry)))
-        (now (out .entry)) (now (out .exit)) ⌝ }
-{
-    let mut i = from;
-    let mut short = sums_at(f, g, n, i);
-    let mut medium = sums_at(f, g, m, i);
-    let mut long = sums_at(f, g, k, i);
-    while i + 1 < f.len() {
-        out[i] = cell_of(short, medium, long);
-        i += 1;
-        short = oscillator_bar::slid(f, g, n, i, short);
-        medium = oscillator_bar::slid(f, g, m, i, medium);
-        long = oscillator_bar::slid(f, g, k, i, long);
-    }
-    out[i] = cell_of(short, medium, long);
-}
-
 // Writes the cells from bar `from` to the last, each window summed afresh.
 fn cells_afresh(f: &[f64], g: &[f64], n: usize, m: usize, k: usize, from: usize, out: &mut [f64])
     requires { ⌜ Begun n m k (now f) (now g) from (now out) ⌝ }
@@ -237,7 +187,7 @@ fn cells_from(f: &[f64], g: &[f64], n: usize, m: usize, k: usize, from: usize, o
     if from < f.len() {
         if window_means::are_long_ticks(f, from) {
             if window_means::are_long_ticks(g, from) {
-                cells_of_ticks(f, g, n, m, k, from, out);
+                oscillator_ticks::cells_of_ticks(f, g, n, m, k, from, out);
                 return;
             }
         }

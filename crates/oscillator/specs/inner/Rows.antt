@@ -1,15 +1,15 @@
 -- What the functions under `ultimate_oscillator` ask of each other. Assumes nothing.
 use mathlib.Core.Path.{_≡_}
 use mathlib.Core.List.{List, [], _∷_}
-use Prim.Native.Nat.{ℕ, _+_, _-_, _*_, _<_, _≤_, max, min}
+use Prim.Native.Nat.{ℕ, _+_, _*_, _≤_, max}
 use lib.ListN.{length}
 use lib.Ieee.{Float}
 use Rattle.limits.specs.Limits.{Window}
 use Rattle.checks.specs.inner.Three.{ValuesOfThree}
-use Rattle.cells.specs.Line.{Line, line, minusZero}
 use Rattle.cells.specs.Written.{Writing}
 use Rattle.windows.specs.declared.Lanes.{Lanes}
-use Rattle.oscillator_bar.specs.Oscillator.{ratio, weighed, weighedShares}
+use Rattle.oscillator_bar.specs.Oscillator.{ratio, weighed}
+use Rattle.oscillator_ticks.specs.inner.Begun.{Windows₃, afresh}
 
 -- three series of one length with accepted values, three windows, a cell for each bar, and eight rows of work cells
 pub record Ready (high low close : List Float) (n m k out work : ℕ) : Type 0 where
@@ -21,13 +21,6 @@ pub record Ready (high low close : List Float) (n m k out work : ℕ) : Type 0 w
   pub long : Window k
   pub out-long : length high ≤ out
   pub work-long : 8 * length high ≤ work
-
--- three windows over two rows of one length
-pub record Windows₃ (n m k : ℕ) (f g : List Float) : Type 0 where
-  pub short : Window n
-  pub medium : Window m
-  pub long : Window k
-  pub same : length g ≡ length f
 
 -- all of them are whole at each of `count` bars from i on
 pub record Whole₃ (n m k : ℕ) (f g : List Float) (i count : ℕ) : Type 0 where
@@ -42,18 +35,6 @@ pub record TwoRows (n m k bars rows out : ℕ) : Type 0 where
   pub long : Window k
   pub inside : 2 * bars ≤ rows
   pub room : bars ≤ out
-
--- the cells, with windows summed from -0.0
-abbrev pub afresh : ℕ → ℕ → ℕ → List Float → List Float → Line
-afresh n m k f g = weighedShares minusZero n m k (line f) (line g)
-
--- the cells before bar `from`, which is past the lead, stand in `now`, which has room for the rest
-pub record Begun (n m k : ℕ) (f g : List Float) (from : ℕ) (now : List Float) : Type 0 where
-  pub windows : Windows₃ n m k f g
-  pub past-lead : min (max n (max m k) - 1) (length f) ≤ from
-  pub inside : from ≤ length f
-  pub room : length f ≤ length now
-  pub cells : Writing from (afresh n m k f g) now now
 
 -- they were written on, up to bar r
 pub record Reached (n m k : ℕ) (f g : List Float) (from r : ℕ) (old now : List Float) : Type 0 where

@@ -6,11 +6,11 @@ use lib.ListN.{length}
 use Rattle.cells.specs.Line.{line}
 use Rattle.cells.specs.Written.{Writing}
 use Rattle.cells.proofs.Written.{one-more, ends}
-use Rattle.oscillator.specs.inner.Rows.{afresh}
+use Rattle.oscillator_ticks.specs.inner.Begun.{afresh}
 use Rattle.oscillator_bar.specs.inner.Sliding.{SumsOf}
-use Rattle.oscillator.proofs.Sliding.{may-slide, cell-of-sums}
-use Rattle.oscillator.proofs.cells_of_ticks.Statement.{statement}
-use Rattle.oscillator.proofs.cells_of_ticks.Tie as tie
+use Rattle.oscillator_ticks.proofs.Sliding.{may-slide, cell-of-sums}
+use Rattle.oscillator_ticks.proofs.cells_of_ticks.Statement.{statement}
+use Rattle.oscillator_ticks.proofs.cells_of_ticks.Tie as tie
 
 abbrev Inv-loop : tie.InvT-loop
 Inv-loop f g n m k from out₀ i₀ short₀ medium₀ long₀ out i short medium long =

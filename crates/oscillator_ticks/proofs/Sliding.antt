@@ -13,7 +13,7 @@ use Rattle.windows.specs.Window.{windowSum}
 use Rattle.oscillator_bar.specs.declared.Sums.{Sums}
 use Rattle.oscillator_bar.specs.Oscillator.{ratio, weighed, share, weighedShares}
 use Rattle.oscillator_bar.specs.inner.Sliding.{SumsOf, TickRows}
-use Rattle.oscillator.proofs.Oscillator.{cell-is}
+use Rattle.oscillator_ticks.proofs.Cells.{cell-is}
 
 -- the share of the sums
 pub share-of : {n : ℕ} {f g : Line} {i : ℕ} {r : Sums} → SumsOf n f g i r

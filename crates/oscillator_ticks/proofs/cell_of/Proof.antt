@@ -1,7 +1,7 @@
 -- `cell_of` meets its contract: three shares, weighed. Assumes nothing.
 use borrow.Author.Needs.{needs}
-use Rattle.oscillator.proofs.cell_of.Statement.{statement}
-use Rattle.oscillator.proofs.cell_of.Tie as tie
+use Rattle.oscillator_ticks.proofs.cell_of.Statement.{statement}
+use Rattle.oscillator_ticks.proofs.cell_of.Tie as tie
 
 returns : tie.Need-returns
 returns c =

@@ -1,7 +1,7 @@
 -- `sums_at` meets its contract. Assumes nothing.
 use borrow.Author.Needs.{needs}
-use Rattle.oscillator.proofs.sums_at.Statement.{statement}
-use Rattle.oscillator.proofs.sums_at.Tie as tie
+use Rattle.oscillator_ticks.proofs.sums_at.Statement.{statement}
+use Rattle.oscillator_ticks.proofs.sums_at.Tie as tie
 
 pub sums-at-spec : {M : Type 1} → statement M
 sums-at-spec =

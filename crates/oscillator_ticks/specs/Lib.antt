@@ -1,0 +1,2 @@
+-- What the functions that write the oscillator's cells ask.
+pub mod inner
