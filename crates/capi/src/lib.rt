@@ -24,7 +24,7 @@ ghost use Rattle.rules_rsi_bar.specs.RsiReverse.{RsiReverseCall};
 ghost use Rattle.rules_ema_bar.specs.SingleEma.{SingleEmaCall};
 ghost use Rattle.rules_mms.specs.Mms.{MmsCall};
 ghost use Rattle.rules_rank.specs.Rank.{RankCall};
-ghost use Rattle.rules_rank.specs.RollingRank.{RollingRankCall};
+ghost use Rattle.rules_rolling_rank.specs.RollingRank.{RollingRankCall};
 ghost use Rattle.rules_triple_bar.specs.Triple.{TripleCall};
 
 #[no_mangle]

@@ -60,9 +60,10 @@ use Rattle.rules_bands_bar.specs.Boll.{BollCall}
 use Rattle.rules_bands_bar.specs.BollReverse.{BollReverseCall}
 use Rattle.rules_mms.proofs.Scaled.{causal-mms}
 use Rattle.rules_mms.specs.Mms.{MmsCall}
-use Rattle.rules_rank.proofs.Causal.{causal-rank, causal-rolling-rank}
+use Rattle.rules_rank.proofs.Causal.{causal-rank}
 use Rattle.rules_rank.specs.Rank.{RankCall}
-use Rattle.rules_rank.specs.RollingRank.{RollingRankCall, rollingRankAnswer}
+use Rattle.rules_rolling_rank.proofs.Causal.{causal-rolling-rank}
+use Rattle.rules_rolling_rank.specs.RollingRank.{RollingRankCall, rollingRankAnswer}
 use Rattle.rules_rsi_bar.proofs.Index.{causal-rsi-reverse}
 use Rattle.rules_rsi_bar.specs.RsiReverse.{RsiReverseCall, rsiReverseAnswer}
 use Rattle.rules_triple.proofs.Crossover.{causal-triple}

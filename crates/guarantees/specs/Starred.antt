@@ -25,7 +25,7 @@ use Rattle.rules_bands_bar.specs.Answer.{bandAnswer}
 use Rattle.rules_bands_bar.specs.BollReverse.{bollReverseLine, bandSignals, turnedBands}
 use Rattle.rules_mms.specs.Mms.{mmsAnswer, mmsLine}
 use Rattle.rules_rank.specs.Rank.{rankLine, belowNow, wholeRank}
-use Rattle.rules_rank.specs.RollingRank.{rollingRankAnswer, rollingRankLine}
+use Rattle.rules_rolling_rank.specs.RollingRank.{rollingRankAnswer, rollingRankLine}
 use Rattle.deviations.specs.Deviation.{deviation}
 use Rattle.extremes.specs.Extreme.{extreme, pickFrom}
 use Rattle.ranks.specs.Counted.{countFrom}

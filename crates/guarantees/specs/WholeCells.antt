@@ -28,8 +28,8 @@ use Rattle.rules_bands_bar.proofs.Bands.{boll-position, boll-reverse-position, 
 use Rattle.rules_triple_bar.specs.Triple.{tripleLine, tripleAnswer, TripleCall}
 use Rattle.rules_rsi_bar.specs.RsiReverse.{rsiReverseAnswer, RsiReverseCall}
 use Rattle.rules_rsi_bar.proofs.Index.{rsi-reverse-position, rsi-reverse-neighbours}
-use Rattle.rules_rank.specs.RollingRank.{rollingRankAnswer, RollingRankCall}
-use Rattle.rules_rank.proofs.RollingCells.{rolling-before, rolling-within}
+use Rattle.rules_rolling_rank.specs.RollingRank.{rollingRankAnswer, RollingRankCall}
+use Rattle.rules_rolling_rank.proofs.RollingCells.{rolling-before, rolling-within}
 
 -- long, short or flat
 abbrev pub WholePosition : ℤ → Type 0

@@ -10,7 +10,7 @@ use Rattle.calls.specs.declared.Answer.{Answer}
 use Rattle.averages_ticks.specs.TickMean.{TickMeanCall}
 use Rattle.rules_bands_bar.specs.Boll.{BollCall}
 use Rattle.rules_bands_bar.specs.BollReverse.{BollReverseCall}
-use Rattle.rules_rank.specs.RollingRank.{RollingRankCall}
+use Rattle.rules_rolling_rank.specs.RollingRank.{RollingRankCall}
 use Rattle.rules_rsi_bar.specs.RsiReverse.{RsiReverseCall}
 use Rattle.rules_triple_bar.specs.Triple.{TripleCall}
 use Rattle.replay_asked.specs.declared.Parameters.{Parameters}

@@ -11,7 +11,7 @@ ghost use Rattle.rules_rsi_bar.specs.RsiReverse.{RsiReverseCall};
 ghost use Rattle.rules_ema_bar.specs.SingleEma.{SingleEmaCall};
 ghost use Rattle.rules_mms.specs.Mms.{MmsCall};
 ghost use Rattle.rules_rank.specs.Rank.{RankCall};
-ghost use Rattle.rules_rank.specs.RollingRank.{RollingRankCall};
+ghost use Rattle.rules_rolling_rank.specs.RollingRank.{RollingRankCall};
 ghost use Rattle.rules_triple_bar.specs.Triple.{TripleCall};
 
 // One average: the sign of price less the doubly averaged price, from bar 2n - 2 on.
@@ -129,9 +129,9 @@ pub fn rolling_rank(series: &[f64], window: usize, out: &mut [u64], work: &mut [
     ensures { λ r. ⌜ RollingRankCall (now (series .entry)) window (now (out .entry)) (now (work .entry)) r
         (now (out .exit)) (now (work .exit)) ⌝ }
 {
-    let due = rules_rank::answer_rolling_rank(series, window, out.len(), work.len());
+    let due = rules_rolling_rank::answer_rolling_rank(series, window, out.len(), work.len());
     if checks::cells_due(due, series.len(), work) {
-        rules_rank::write_rolling_rank(series, window, out);
+        rules_rolling_rank::write_rolling_rank(series, window, out);
         cells::clear(work, 8 * series.len());
     }
     due

@@ -1,6 +1,5 @@
 -- No look-ahead. Assumes nothing.
-use mathlib.Core.Path.{refl}
-use Prim.Native.Nat.{ℕ, zero, suc, _+_, _-_, _*_, _<_}
+use Prim.Native.Nat.{ℕ, _+_, _-_, _*_, _<_}
 use native.Mathlib.Omega.{arith}
 use Rattle.cells.specs.Line.{plusZero, Causal}
 use Rattle.cells.proofs.Line.{causal-same, causal-from}
@@ -9,7 +8,6 @@ use Rattle.windows.proofs.Window.{causal-mean}
 use Rattle.ranks.specs.Counted.{below}
 use Rattle.ranks.proofs.Counted.{countFrom-same}
 use Rattle.rules_rank.specs.Rank.{belowNow, rankLine}
-use Rattle.rules_rank.specs.RollingRank.{wellBelow, rollingRankLine}
 
 pub causal-rank : (n : ℕ) → 0 < n → Causal (rankLine n)
 unfolding rankLine belowNow
@@ -19,11 +17,3 @@ causal-rank n p =
     let means = causal-same (causal-mean n) f g b s in
     rw (countFrom-same (below (mean n f b)) (below (mean n g b)) (mean n f) (mean n g) (b + 1 - n) (n - 1)
     (λ j h. rw (means j (omega arith), means b (omega arith)))))
-
-pub causal-rolling-rank : (w : ℕ) → Causal (rollingRankLine w)
-unfolding rollingRankLine
-causal-rolling-rank zero = λ f g b s. refl
-causal-rolling-rank (suc k) =
-    causal-from k 0
-    (λ f g b s l. rw (countFrom-same (wellBelow (f b)) (wellBelow (g b)) f g (b - k) (suc k)
-    (λ j h. rw (s j (omega arith), s b (omega arith)))))

@@ -5,8 +5,8 @@ use native.Mathlib.Omega.{arith}
 use borrow.Author.Needs.{needs}
 use Rattle.cells.specs.Written.{Writing}
 use Rattle.cells.proofs.Written.{none-written, one-more, ends}
-use Rattle.rules_rank.proofs.fill_none.Statement.{statement}
-use Rattle.rules_rank.proofs.fill_none.Tie as tie
+use Rattle.rules_rolling_rank.proofs.fill_none.Statement.{statement}
+use Rattle.rules_rolling_rank.proofs.fill_none.Tie as tie
 
 abbrev Inv-loop : tie.InvT-loop
 Inv-loop out₀ n i₀ out i = (i ≤ n) × Writing i (λ j. 0) out₀ out

@@ -2,9 +2,9 @@
 use borrow.Author.Needs.{needs}
 use Rattle.values.proofs.All.{and-true}
 use Rattle.calls.proofs.Room.{or-false}
-use Rattle.rules_rank.specs.RollingRank.{rollingRankAnswer}
-use Rattle.rules_rank.proofs.answer_rolling_rank.Statement.{statement}
-use Rattle.rules_rank.proofs.answer_rolling_rank.Tie as tie
+use Rattle.rules_rolling_rank.specs.RollingRank.{rollingRankAnswer}
+use Rattle.rules_rolling_rank.proofs.answer_rolling_rank.Statement.{statement}
+use Rattle.rules_rolling_rank.proofs.answer_rolling_rank.Tie as tie
 
 returns : tie.Need-returns
 unfolding rollingRankAnswer

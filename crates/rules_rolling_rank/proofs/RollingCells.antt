@@ -27,10 +27,10 @@ use Rattle.checks.specs.inner.Due.{CellsDue}
 use Rattle.checks.proofs.Due.{some-due, clearable-then, room-then}
 use Rattle.rounding_order.proofs.Outward.{lt-self}
 use Rattle.rules_rank_bar.specs.inner.Place.{countedPlace}
-use Rattle.rules_rank.specs.RollingRank.{wellBelow, rollingRankLine, rollingRankAnswer}
-use Rattle.rules_rank.specs.inner.Rows.{RankRoom}
+use Rattle.rules_rolling_rank.specs.RollingRank.{wellBelow, rollingRankLine, rollingRankAnswer}
+use Rattle.rules_rolling_rank.specs.inner.Room.{RankRoom}
 use Rattle.values.proofs.Numbers.{accepted-finite}
-use Rattle.rules_rank.proofs.Distances.{well-below-is}
+use Rattle.rules_rolling_rank.proofs.Distances.{well-below-is}
 
 -- 0 before the first whole window
 pub rolling-before : (w : ℕ) (f : Line) (i : ℕ) → i < w - 1 → rollingRankLine w f i ≡ 0

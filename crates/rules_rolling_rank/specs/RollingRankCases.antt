@@ -12,7 +12,7 @@ use Rattle.rounding.specs.Leaves.{magnitudeOf}
 use Rattle.cells.specs.Shown.{prices, bits, cellsOf}
 use Rattle.rounding.specs.Literals.{tenToMinus}
 use Rattle.ranks.specs.Counted.{countFrom}
-use Rattle.rules_rank.specs.RollingRank.{rollingRankLine, rollingRankAnswer}
+use Rattle.rules_rolling_rank.specs.RollingRank.{rollingRankLine, rollingRankAnswer}
 
 -- 3, 1, 2 with window 2 gives 0, 1, 2; windows 0, 1, as long as the series, and longer; equal values have one place,
 -- zeros too

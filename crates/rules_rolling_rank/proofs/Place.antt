@@ -16,13 +16,13 @@ use Rattle.extremes.proofs.Order.{lt-between}
 use Rattle.cells.specs.Line.{Line, line}
 use Rattle.cells.proofs.Line.{from-bar}
 use Rattle.ranks.specs.Counted.{countFrom}
-use Rattle.rules_rank.specs.RollingRank.{near, wellBelow, rollingRankLine}
-use Rattle.rules_rank.specs.Sorted.{cellsFrom, Rearranged, none, keep, swap, then, ascending, next, placeOf}
+use Rattle.rules_rolling_rank.specs.RollingRank.{near, wellBelow, rollingRankLine}
+use Rattle.rules_rolling_rank.specs.Sorted.{cellsFrom, Rearranged, none, keep, swap, then, ascending, next, placeOf}
 use Rattle.rounding_order.proofs.Outward.{lt-self}
 use Rattle.rounding_order.proofs.Compared.{either-way}
 use Rattle.rounding_order.proofs.Enclosed.{neither-way}
 use Rattle.values.proofs.Numbers.{accepted-finite}
-use Rattle.rules_rank.proofs.Distances.{number, below-with, first-near}
+use Rattle.rules_rolling_rank.proofs.Distances.{number, below-with, first-near}
 
 -- how many pass
 abbrev pub countIn : (Float → Bool) → List Float → ℕ

@@ -35,7 +35,7 @@ use Rattle.extremes.proofs.Order.{lt-between}
 use Rattle.rounding_order.proofs.Compared.{either-way, le-is}
 use Rattle.rounding_order.proofs.Enclosed.{neither-way}
 use Rattle.ranks.specs.Counted.{belowBy}
-use Rattle.rules_rank.specs.RollingRank.{near, wellBelow}
+use Rattle.rules_rolling_rank.specs.RollingRank.{near, wellBelow}
 
 -- ---- rounded numbers
 

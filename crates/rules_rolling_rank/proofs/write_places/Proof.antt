@@ -8,10 +8,10 @@ use lib.ListN.{length}
 use Rattle.cells.specs.Line.{line}
 use Rattle.cells.specs.Written.{Writing}
 use Rattle.cells.proofs.Written.{one-more, stands, then-written, ends}
-use Rattle.rules_rank.specs.RollingRank.{rollingRankLine}
-use Rattle.rules_rank.proofs.RollingCells.{none-placed, placed}
-use Rattle.rules_rank.proofs.write_places.Statement.{statement}
-use Rattle.rules_rank.proofs.write_places.Tie as tie
+use Rattle.rules_rolling_rank.specs.RollingRank.{rollingRankLine}
+use Rattle.rules_rolling_rank.proofs.RollingCells.{none-placed, placed}
+use Rattle.rules_rolling_rank.proofs.write_places.Statement.{statement}
+use Rattle.rules_rolling_rank.proofs.write_places.Tie as tie
 
 abbrev Inv-loop : tie.InvT-loop
 Inv-loop series window out₀ bars i₀ out i =

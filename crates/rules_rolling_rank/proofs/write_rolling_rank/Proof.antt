@@ -1,9 +1,9 @@
 -- `write_rolling_rank` meets its contract: places, or 0 at every bar for a window of none. Assumes nothing.
 use native.Mathlib.Omega.{arith}
 use borrow.Author.Needs.{needs}
-use Rattle.rules_rank.proofs.RollingCells.{no-window}
-use Rattle.rules_rank.proofs.write_rolling_rank.Statement.{statement}
-use Rattle.rules_rank.proofs.write_rolling_rank.Tie as tie
+use Rattle.rules_rolling_rank.proofs.RollingCells.{no-window}
+use Rattle.rules_rolling_rank.proofs.write_rolling_rank.Statement.{statement}
+use Rattle.rules_rolling_rank.proofs.write_rolling_rank.Tie as tie
 
 pub write-rolling-rank-spec : {M : Type 1} → statement M
 write-rolling-rank-spec =

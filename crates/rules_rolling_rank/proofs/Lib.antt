@@ -1,0 +1,4 @@
+pub mod Causal
+pub mod Distances
+pub mod Place
+pub mod RollingCells
