@@ -1,4 +1,2 @@
 pub mod Blending
-pub mod Halves
-pub mod Sides
 pub mod TwoParts

@@ -21,7 +21,7 @@ fn answer_smooth(series: &[f64], alpha: f64, first: usize, seed: Tested, out: &m
 {
     let half = averages_blend::blend_tested(series, alpha, first, seed);
     if half.accept {
-        averages_blend::write_smooth(series, alpha, first, seed.value, half.value, out);
+        averages_halves::write_smooth(series, alpha, first, seed.value, half.value, out);
         Answer::Cells(series.len())
     } else {
         Answer::Refused(Refusal::ValueNotAccepted)

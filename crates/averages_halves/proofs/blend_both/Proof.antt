@@ -8,10 +8,10 @@ use lib.ListN.{length, length-set}
 use Rattle.cells.specs.Line.{line}
 use Rattle.cells.specs.inner.Recurring.{Recurring}
 use Rattle.cells.proofs.Recur.{no-step, one-step}
 use Rattle.averages_blend.specs.Blend.{blend}
-use Rattle.averages_blend.specs.inner.Blending.{bothStored}
-use Rattle.averages_blend.proofs.blend_both.Statement.{statement}
-use Rattle.averages_blend.proofs.blend_both.Tie as tie
+use Rattle.averages_halves.specs.inner.Smoothing.{bothStored}
+use Rattle.averages_halves.proofs.blend_both.Statement.{statement}
+use Rattle.averages_halves.proofs.blend_both.Tie as tie
 
 abbrev Inv-loop : tie.InvT-loop
 Inv-loop series alpha low high count out₀ lower₀ upper₀ k₀ out lower upper k =

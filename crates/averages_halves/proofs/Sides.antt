@@ -9,10 +9,12 @@ use Rattle.cells.specs.Line.{Line}
 use Rattle.cells.specs.Recur.{recur}
 use Rattle.cells.specs.Written.{Writing}
 use Rattle.cells.proofs.Written.{step}
 use Rattle.averages_blend.specs.Blend.{smoothLine}
-use Rattle.averages_blend.specs.inner.Blending.{blendFrom, stored, Blending, BlendedRest, BlendedBoth}
-use Rattle.averages_blend.proofs.Blending.{more-blended, blended-cell}
-use Rattle.averages_blend.proofs.Halves.{Parts, more-parts, joined}
+use Rattle.averages_blend.specs.inner.Blending.{blendFrom, Blending}
+use Rattle.averages_blend.proofs.Blending.{more-blended}
+use Rattle.averages_halves.specs.inner.Smoothing.{stored, BlendedRest, BlendedBoth}
+use Rattle.averages_halves.proofs.Smoothed.{blended-cell}
+use Rattle.averages_halves.proofs.Halves.{Parts, more-parts, joined}
 
 module _ (alpha : Float) (first : ℕ) (seed : Float) (f : Line) where
   -- the first half is written up to bar `lo` and the second, from bar b on, up to bar `hi`

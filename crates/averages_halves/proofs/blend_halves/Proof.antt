@@ -4,11 +4,11 @@ use Prim.Native.Nat.{_+_, _-_, _*_, _≤_}
 use native.Mathlib.Omega.{arith}
 use borrow.Author.Needs.{needs}
 use Rattle.cells.specs.Line.{line}
 use Rattle.averages_blend.proofs.Blending.{seeded, at-bar}
-use Rattle.averages_blend.proofs.Halves.{one-part}
-use Rattle.averages_blend.proofs.Sides.{Sides, sides-on, sides-end}
-use Rattle.averages_blend.proofs.blend_halves.Statement.{statement}
-use Rattle.averages_blend.proofs.blend_halves.Tie as tie
+use Rattle.averages_halves.proofs.Halves.{one-part}
+use Rattle.averages_halves.proofs.Sides.{Sides, sides-on, sides-end}
+use Rattle.averages_halves.proofs.blend_halves.Statement.{statement}
+use Rattle.averages_halves.proofs.blend_halves.Tie as tie
 
 abbrev Inv-loop : tie.InvT-loop
 Inv-loop series alpha first seed middle out₀ eights low high last₀ k₀ out last k =

@@ -8,10 +8,10 @@ use lib.ListN.{length, length-set}
 use Rattle.cells.specs.Line.{line}
 use Rattle.cells.specs.inner.Recurring.{Recurring}
 use Rattle.cells.proofs.Recur.{no-step, one-step}
 use Rattle.averages_blend.specs.Blend.{blend}
-use Rattle.averages_blend.specs.inner.Blending.{stored}
-use Rattle.averages_blend.proofs.blend_rest.Statement.{statement}
-use Rattle.averages_blend.proofs.blend_rest.Tie as tie
+use Rattle.averages_halves.specs.inner.Smoothing.{stored}
+use Rattle.averages_halves.proofs.blend_rest.Statement.{statement}
+use Rattle.averages_halves.proofs.blend_rest.Tie as tie
 
 abbrev Inv-loop : tie.InvT-loop
 Inv-loop series alpha last from out₀ cell₀ k₀ out cell k =

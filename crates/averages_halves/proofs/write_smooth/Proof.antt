@@ -5,9 +5,9 @@ use borrow.Author.Needs.{needs}
 use denote.Ref.{now}
 use lib.ListN.{length-set}
 use Rattle.cells.proofs.Written.{stands, then-written}
-use Rattle.averages_blend.proofs.Blending.{seed-written}
-use Rattle.averages_blend.proofs.write_smooth.Statement.{statement}
-use Rattle.averages_blend.proofs.write_smooth.Tie as tie
+use Rattle.averages_halves.proofs.Smoothed.{seed-written}
+use Rattle.averages_halves.proofs.write_smooth.Statement.{statement}
+use Rattle.averages_halves.proofs.write_smooth.Tie as tie
 
 blend-halves-requires : tie.Need-blend-halves-requires
 blend-halves-requires c κs =
