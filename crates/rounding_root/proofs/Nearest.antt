@@ -35,8 +35,9 @@ use Rattle.rounding_root.proofs.Neighbours.{
   sum-square,
   no-tie-at,
 }
-use Rattle.rounding_root.proofs.Squares.{square-lt-back, square-next, root-is, closest-unique}
-use Rattle.rounding_root.specs.inner.Squares.{Closest}
+use Rattle.rounding_root.proofs.Squares.{square-lt-back, root-is, closest-unique}
+use Rattle.rounding_root_whole.specs.inner.Squares.{Closest}
+use Rattle.rounding_root_whole.proofs.Squares.{square-next}
 
 -- how many digits a number has, by the powers that it lies between
 pub size-is : (n j : ℕ) → 2 ^ j ≤ n → n < 2 ^ suc j → size n ≡ suc j

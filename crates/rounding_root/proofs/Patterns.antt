@@ -36,7 +36,6 @@ use lib.Ieee.{
   lt,
   eq,
   fits,
-  isNan,
   nanBits,
   ofFields,
   ofBits,
@@ -48,7 +47,8 @@ use lib.Ieee.Fits.{and-l, up-pos}
 use lib.Ieee.Positive.{first-pos}
 use lib.Ieee.Scale.{overflow}
 use Rattle.rounding_root.specs.Root.{nearestRoot, sqrtOf}
-use Rattle.rounding_root.specs.inner.Steps.{Digits}
+use Rattle.rounding_root_whole.specs.inner.Steps.{Digits}
+use Rattle.rounding_root_whole.proofs.Above.{Above}
 use Rattle.rounding_laws.proofs.Multiples.{value-units, units-fits}
 use Rattle.rounding_root.proofs.Nearest.{size-is}
 use lib.Pow as Pow
@@ -90,15 +90,6 @@ written q k d l =
     ap (ofBits binary64) (sym bits) ∙ ofBits-toBits binary64 x (units-fits binary64 false q k (le-of-lt (d .high)) fine)
 
 -- ---- the root of a number above zero, by its value
-
-abbrev Above : Float → Type 0
-Above x = lt (fin false 0 (pos 0)) x ≡ true
-
-pub above-is-number : (x : Float) → Above x → T (not (isNan x))
-unfolding lt isNan
-above-is-number nan h = absurd (false≢true h)
-above-is-number (inf s) h = tt
-above-is-number (fin s m e) h = tt
 
 by-value : (x : Float) (s : Bool) (a : ℕ) → Above x → HasValue x s a (2 ^ 1074) → (0 < a)
     × (sqrtOf binary64 x ≡ nearestRoot binary64 (a * 2 ^ 1074))

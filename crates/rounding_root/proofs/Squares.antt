@@ -8,17 +8,15 @@ use native.Mathlib.Nat.{
   mul-le-mul,
   mul-suc,
   suc-mul,
-  one-mul,
-  mul-add,
-  add-mul,
   mul-mul-mul-comm,
   pow-suc,
 }
 use native.Mathlib.Omega.{arith}
 use lib.Dec.{T, leb, leb→le, nleb→lt}
 use lib.Ieee.Digits.{size-lt}
+use Rattle.rounding_root_whole.specs.inner.Squares.{Closest}
+use Rattle.rounding_root_whole.proofs.Squares.{square-next}
 use Rattle.rounding_root.specs.Root.{rootBelow, root}
-use Rattle.rounding_root.specs.inner.Squares.{Closest}
 
 -- ---- the order of squares
 
@@ -38,11 +36,7 @@ pub square-le-back : {a b : ℕ} → a * a ≤ b * b → a ≤ b
 square-le-back {a} {b} h = let l : a < suc b = lt-of-not-le (λ (g : suc b ≤ a). not-le-of-lt (square-lt g) h) in omega
     arith
 
--- (a + 1) * (a + 1) and (2 * a + 1) * (2 * a + 1), written out
-pub square-next : (a : ℕ) → (a + 1) * (a + 1) ≡ a * a + 2 * a + 1
-square-next a = mul-add (a + 1) a 1 ∙ ap (λ (x : ℕ). x + (a + 1) * 1) (add-mul a 1 a)
-    ∙ (let u : 1 * a ≡ a = one-mul a in omega arith)
-
+-- (2 * a + 1) * (2 * a + 1), written out
 pub square-odd : (a : ℕ) → (2 * a + 1) * (2 * a + 1) ≡ 4 * (a * a) + 4 * a + 1
 square-odd a =
     let next = square-next (2 * a) in

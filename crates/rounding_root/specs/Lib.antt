@@ -1,5 +1,4 @@
--- The square root's definition, what it means, and what the functions under `square_root` ask of each other.
+-- The square root's definition, and what it means.
 pub mod Cases
 pub mod Meaning
 pub mod Root
-pub mod inner

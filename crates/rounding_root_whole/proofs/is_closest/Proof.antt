@@ -3,9 +3,9 @@ use mathlib.Core.Bool.{false≢true}
 use native.Mathlib.Omega.{arith}
 use borrow.Author.Needs.{needs}
 use borrow.Author.Tests.{leb-true}
-use Rattle.rounding_root.proofs.Search.{passed}
-use Rattle.rounding_root.proofs.is_closest.Statement.{statement}
-use Rattle.rounding_root.proofs.is_closest.Tie as tie
+use Rattle.rounding_root_whole.proofs.Search.{passed}
+use Rattle.rounding_root_whole.proofs.is_closest.Statement.{statement}
+use Rattle.rounding_root_whole.proofs.is_closest.Tie as tie
 
 returns : tie.Need-returns
 returns c =

@@ -2,9 +2,9 @@
 -- nothing.
 use native.Mathlib.Omega.{arith}
 use borrow.Author.Needs.{needs}
-use Rattle.rounding_root.proofs.Halves.{Small, small, by-halves}
-use Rattle.rounding_root.proofs.high.Statement.{statement}
-use Rattle.rounding_root.proofs.high.Tie as tie
+use Rattle.rounding_root_whole.proofs.Halves.{Small, small, by-halves}
+use Rattle.rounding_root_whole.proofs.high.Statement.{statement}
+use Rattle.rounding_root_whole.proofs.high.Tie as tie
 
 parts : (c : tie.Start) → Small (c .args .h)
 parts c = small (c .args .h) (c .pre .0)

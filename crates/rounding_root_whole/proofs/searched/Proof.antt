@@ -1,9 +1,9 @@
 -- `searched` meets its contract: each turn halves the range, which keeps the closest root. Assumes nothing.
 use Prim.Native.Nat.{_-_}
 use borrow.Author.Needs.{needs}
-use Rattle.rounding_root.proofs.Search.{Span, found}
-use Rattle.rounding_root.proofs.searched.Statement.{statement}
-use Rattle.rounding_root.proofs.searched.Tie as tie
+use Rattle.rounding_root_whole.proofs.Search.{Span, found}
+use Rattle.rounding_root_whole.proofs.searched.Statement.{statement}
+use Rattle.rounding_root_whole.proofs.searched.Tie as tie
 
 abbrev Inv-loop : tie.InvT-loop
 Inv-loop m lo₀ hi₀ lo hi = Span m lo hi

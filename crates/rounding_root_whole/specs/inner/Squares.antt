@@ -1,4 +1,4 @@
--- Squares of whole numbers: `root n` is the whole root of n, and a number has one closest whole root. Assumes nothing.
+-- The whole number closest to a root. Assumes nothing.
 use Prim.Native.Nat.{ℕ, _+_, _*_, _≤_, _<_}
 
 -- ---- the whole number closest to √x: from x - x's own middle below, √x > r - 1/2, to the middle above, √x < r + 1/2

@@ -3,9 +3,9 @@
 use native.Mathlib.Omega.{arith}
 use borrow.Author.Needs.{needs}
 use lib.Ieee.{ofBits}
-use Rattle.rounding_root.proofs.Patterns.{above-is-number}
-use Rattle.rounding_root.proofs.closest.Statement.{statement}
-use Rattle.rounding_root.proofs.closest.Tie as tie
+use Rattle.rounding_root_whole.proofs.Above.{above-is-number}
+use Rattle.rounding_root_whole.proofs.closest.Statement.{statement}
+use Rattle.rounding_root_whole.proofs.closest.Tie as tie
 
 pub closest-spec : {M : Type 1} → statement M
 closest-spec =

@@ -2,9 +2,9 @@
 use mathlib.Core.Path.{_≡_, subst}
 use Prim.Native.Nat.{ℕ, _+_, _-_, _*_, _/_, _^_, _≤_, _<_}
 use native.Mathlib.Omega.{arith}
-use Rattle.rounding_root.proofs.Squares.{square-next}
-use Rattle.rounding_root.specs.inner.Squares.{Closest}
-use Rattle.rounding_root.specs.inner.Steps.{Rooted}
+use Rattle.rounding_root_whole.proofs.Squares.{square-next}
+use Rattle.rounding_root_whole.specs.inner.Squares.{Closest}
+use Rattle.rounding_root_whole.specs.inner.Steps.{Rooted}
 
 -- h * (h + 1) < m * 2 ^ 52 at the low end, m * 2 ^ 52 ≤ (h + 1) * (h + 2) at the high one: where they meet, h + 1 is
 -- closest

@@ -1,0 +1,4 @@
+pub mod Above
+pub mod Halves
+pub mod Search
+pub mod Squares

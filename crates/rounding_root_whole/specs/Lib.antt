@@ -1,0 +1,2 @@
+-- What the functions of a whole root ask of each other.
+pub mod inner
