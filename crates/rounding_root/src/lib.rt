@@ -1,4 +1,4 @@
-// The square root, correctly rounded, by a guess with floats at its digits.
+// The square root, correctly rounded: a guess with floats at its digits, and the whole number closest to the root.
 use rounding_root_whole::FIRST;
 ghost use mathlib.Core.Path.{_≡_};
 ghost use mathlib.Core.Bool.{true, false};

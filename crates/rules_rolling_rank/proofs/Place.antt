@@ -17,7 +17,17 @@ use Rattle.cells.specs.Line.{Line, line}
 use Rattle.cells.proofs.Line.{from-bar}
 use Rattle.ranks.specs.Counted.{countFrom}
 use Rattle.rules_rolling_rank.specs.RollingRank.{near, wellBelow, rollingRankLine}
-use Rattle.rules_rolling_rank.specs.Sorted.{cellsFrom, Rearranged, none, keep, swap, then, ascending, next, placeOf}
+use Rattle.rules_rolling_rank.specs.Sorted.{
+  cellsFrom,
+  Rearranged,
+  none,
+  keep,
+  swap,
+  then,
+  ascending,
+  next,
+  placeOf,
+}
 use Rattle.rounding_order.proofs.Outward.{lt-self}
 use Rattle.rounding_order.proofs.Compared.{either-way}
 use Rattle.rounding_order.proofs.Enclosed.{neither-way}
