@@ -4,9 +4,10 @@ use mathlib.Core.List.{List}
 use Prim.Native.Nat.{ℕ, _-_, min}
 use lib.ListN.{length}
 use lib.Ieee.{Float}
-use Rattle.extremes_ranges.specs.inner.Part.{Replacing}
-use Rattle.extremes_ranges.proofs.Part.{part-ends, stays}
-use Rattle.extremes_ranges.specs.inner.Blocks.{Begun, Room, Whole}
+use Rattle.extremes_blocks.specs.inner.Part.{Replacing}
+use Rattle.extremes_blocks.proofs.Part.{part-ends, stays}
+use Rattle.extremes_blocks.specs.inner.Windows.{Whole}
+use Rattle.extremes_ranges.specs.inner.Blocks.{Begun, Room}
 
 pub begun : {s : List Float} {n k : ℕ} {old now : List Float} → Room s n (length old)
     → Replacing (length s) 0 k (Whole s n) old now

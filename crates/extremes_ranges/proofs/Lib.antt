@@ -1,5 +1,2 @@
-pub mod Best
 pub mod Blocks
-pub mod Part
 pub mod Parts
-pub mod Range

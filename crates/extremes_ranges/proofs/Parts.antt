@@ -6,7 +6,7 @@ use lib.ListN.{length, take}
 use lib.Ieee.{Float}
 use Rattle.cells.specs.Line.{Line, line}
 use Rattle.cells.specs.Written.{Writing}
-use Rattle.extremes_ranges.specs.inner.Best.{Numbers}
+use Rattle.extremes_blocks.specs.inner.Best.{Numbers}
 use Rattle.cells.proofs.Parts.{part-is, part-long}
 
 module _ {k : ℕ} {g : Line} {old mid : List Float} (w : Writing k g old mid) (h : k ≤ length old) where

@@ -1,5 +1,2 @@
 -- What the crate's own functions ask of each other.
-pub mod Best
 pub mod Blocks
-pub mod Part
-pub mod Range

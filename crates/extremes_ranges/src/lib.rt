@@ -1,5 +1,6 @@
 // The highest and the lowest of the last n cells, in time that does not grow with n: a window that reaches over bar e
 // is the bars up to e and the bars from e on, and the range of either is had from its neighbour's in one step.
+use extremes_blocks::HighLow;
 ghost use mathlib.Core.Path.{_≡_};
 ghost use Prim.Native.Nat.{_+_, _-_, _<_, _≤_, min};
 ghost use lib.ListN.{length};
@@ -7,34 +8,12 @@ ghost use Rattle.cells.specs.Line.{line};
 ghost use Rattle.cells.specs.inner.Rows.{beside};
 ghost use Rattle.cells.specs.Written.{Writing};
 ghost use Rattle.extremes.specs.Extreme.{larger, smaller, extreme};
-ghost use Rattle.extremes_ranges.specs.inner.Best.{Numbers};
-ghost use Rattle.extremes_ranges.specs.inner.Range.{alone, joined, RangeOf};
-ghost use Rattle.extremes_ranges.specs.inner.Part.{Replacing};
-ghost use Rattle.extremes_ranges.specs.inner.Blocks.{Room, Begun, Windows, UpTo, Whole};
+ghost use Rattle.extremes_blocks.specs.inner.Best.{Numbers};
+ghost use Rattle.extremes_blocks.specs.inner.Range.{RangeOf};
+ghost use Rattle.extremes_blocks.specs.inner.Part.{Replacing};
+ghost use Rattle.extremes_blocks.specs.inner.Windows.{UpTo, Whole, Windows};
+ghost use Rattle.extremes_ranges.specs.inner.Blocks.{Room, Begun};
 ghost use Rattle.limits.specs.Limits.{longestSeries, longestWindow};
-
-// The highest and the lowest of neighbouring cells.
-pub struct HighLow {
-    pub high: f64,
-    pub low: f64,
-}
-
-// The range of one cell.
-fn of_one(x: f64) -> HighLow
-    ensures { λ r. ⌜ r ≡ alone x ⌝ }
-{
-    HighLow { high: x, low: x }
-}
-
-// The range of the cells of x and those of y, which stand right of them.
-fn join(x: HighLow, y: HighLow) -> HighLow
-    ensures { λ r. ⌜ r ≡ joined x y ⌝ }
-{
-    HighLow {
-        high: extremes::larger_of(x.high, y.high),
-        low: extremes::smaller_of(x.low, y.low),
-    }
-}
 
 // The range of the cells of bars a to e.
 fn range_of(cells: &[f64], a: usize, e: usize) -> HighLow
@@ -42,10 +21,10 @@ fn range_of(cells: &[f64], a: usize, e: usize) -> HighLow
     ensures { λ r. ⌜ RangeOf (line (now (cells .entry))) a e r ⌝ }
 {
     let mut i = a;
-    let mut best = of_one(cells[a]);
+    let mut best = extremes_blocks::of_one(cells[a]);
     while i < e {
         i += 1;
-        best = join(best, of_one(cells[i]));
+        best = extremes_blocks::join(best, extremes_blocks::of_one(cells[i]));
     }
     best
 }
@@ -63,33 +42,10 @@ fn write_up_to(cells: &[f64], n: usize, e: usize, last: usize, rows: &mut [f64])
         rows[i] = best.high;
         rows[bars + i] = best.low;
         i -= 1;
-        best = join(of_one(cells[i + 1 - n]), best);
+        best = extremes_blocks::join(extremes_blocks::of_one(cells[i + 1 - n]), best);
     }
     rows[i] = best.high;
     rows[bars + i] = best.low;
-}
-
-// Joins to it, for each bar from e to `last`, the range of the bars from e on.
-fn join_from(cells: &[f64], n: usize, e: usize, last: usize, rows: &mut [f64])
-    requires { ⌜ Windows (now cells) n e last (length (now rows)) ⌝ }
-    requires { ⌜ Replacing (length (now cells)) e (last + 1) (UpTo (now cells) n e) (now rows) (now rows) ⌝ }
-    ensures { λ _. ⌜ Replacing (length (now (cells .entry))) e (last + 1) (Whole (now (cells .entry)) n)
-        (now (rows .entry)) (now (rows .exit)) ⌝ }
-{
-    let bars = cells.len();
-    let mut i = e;
-    let mut best = of_one(cells[e]);
-    while i < last {
-        i += 1;
-        best = join(best, of_one(cells[i]));
-        let up_to = HighLow {
-            high: rows[i],
-            low: rows[bars + i],
-        };
-        let whole = join(up_to, best);
-        rows[i] = whole.high;
-        rows[bars + i] = whole.low;
-    }
 }
 
 // Writes the ranges of the windows that end at bars e to `last`.
@@ -99,7 +55,7 @@ fn write_block(cells: &[f64], n: usize, e: usize, last: usize, rows: &mut [f64])
         (now (rows .entry)) (now (rows .exit)) ⌝ }
 {
     write_up_to(cells, n, e, last, rows);
-    join_from(cells, n, e, last, rows);
+    extremes_blocks::join_from(cells, n, e, last, rows);
 }
 
 // The last of n bars from e on, or the last of all.
@@ -132,7 +88,10 @@ fn write_pairs(cells: &[f64], n: usize, rows: &mut [f64])
     let bars = cells.len();
     let mut i = n - 1;
     while i < bars {
-        let whole = join(of_one(cells[i + 1 - n]), of_one(cells[i]));
+        let whole = extremes_blocks::join(
+            extremes_blocks::of_one(cells[i + 1 - n]),
+            extremes_blocks::of_one(cells[i]),
+        );
         rows[i] = whole.high;
         rows[bars + i] = whole.low;
         i += 1;

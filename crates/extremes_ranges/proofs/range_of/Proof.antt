@@ -3,8 +3,8 @@ use Prim.Native.Nat.{_-_, _≤_}
 use native.Mathlib.Omega.{arith}
 use borrow.Author.Needs.{needs}
 use Rattle.cells.specs.Line.{line}
-use Rattle.extremes_ranges.specs.inner.Range.{RangeOf}
-use Rattle.extremes_ranges.proofs.Range.{one-bar, spans, joins}
+use Rattle.extremes_blocks.specs.inner.Range.{RangeOf}
+use Rattle.extremes_blocks.proofs.Range.{one-bar, spans, joins}
 use Rattle.extremes_ranges.proofs.range_of.Statement.{statement}
 use Rattle.extremes_ranges.proofs.range_of.Tie as tie
 

@@ -1,7 +1,7 @@
 -- `write_block` meets its contract: the second pass writes over the first. Assumes nothing.
 use native.Mathlib.Omega.{arith}
 use borrow.Author.Needs.{needs}
-use Rattle.extremes_ranges.proofs.Part.{stays, replaced-again}
+use Rattle.extremes_blocks.proofs.Part.{stays, replaced-again}
 use Rattle.extremes_ranges.proofs.write_block.Statement.{statement}
 use Rattle.extremes_ranges.proofs.write_block.Tie as tie
 

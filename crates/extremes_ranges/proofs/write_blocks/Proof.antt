@@ -3,9 +3,9 @@ use Prim.Native.Nat.{_+_, _-_, _≤_, min}
 use native.Mathlib.Omega.{arith}
 use borrow.Author.Needs.{needs}
 use lib.ListN.{length}
-use Rattle.extremes_ranges.specs.inner.Blocks.{Whole}
-use Rattle.extremes_ranges.specs.inner.Part.{Replacing}
-use Rattle.extremes_ranges.proofs.Part.{goes-on, part-ends}
+use Rattle.extremes_blocks.specs.inner.Windows.{Whole}
+use Rattle.extremes_blocks.specs.inner.Part.{Replacing}
+use Rattle.extremes_blocks.proofs.Part.{goes-on, part-ends}
 use Rattle.extremes_ranges.proofs.write_blocks.Statement.{statement}
 use Rattle.extremes_ranges.proofs.write_blocks.Tie as tie
 

@@ -6,11 +6,11 @@ use borrow.Author.Needs.{needs}
 use lib.Ieee.{ofBits}
 use lib.ListN.{length, length-set}
 use Rattle.cells.specs.Line.{plusZero}
-use Rattle.extremes_ranges.specs.inner.Range.{alone}
-use Rattle.extremes_ranges.proofs.Range.{not-whole}
-use Rattle.extremes_ranges.specs.inner.Blocks.{Whole}
-use Rattle.extremes_ranges.specs.inner.Part.{Replacing}
-use Rattle.extremes_ranges.proofs.Part.{none-replaced, one-above, part-ends}
+use Rattle.extremes_blocks.specs.inner.Range.{alone}
+use Rattle.extremes_blocks.proofs.Range.{not-whole}
+use Rattle.extremes_blocks.specs.inner.Windows.{Whole}
+use Rattle.extremes_blocks.specs.inner.Part.{Replacing}
+use Rattle.extremes_blocks.proofs.Part.{none-replaced, one-above, part-ends}
 use Rattle.extremes_ranges.proofs.write_lead.Statement.{statement}
 use Rattle.extremes_ranges.proofs.write_lead.Tie as tie
 

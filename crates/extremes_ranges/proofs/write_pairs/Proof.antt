@@ -3,10 +3,10 @@ use Prim.Native.Nat.{_+_, _-_, _≤_, min}
 use native.Mathlib.Omega.{arith}
 use borrow.Author.Needs.{needs}
 use lib.ListN.{length, length-set}
-use Rattle.extremes_ranges.proofs.Range.{one-bar, pairs, whole}
-use Rattle.extremes_ranges.specs.inner.Blocks.{Whole}
-use Rattle.extremes_ranges.specs.inner.Part.{Replacing}
-use Rattle.extremes_ranges.proofs.Part.{one-above, part-ends}
+use Rattle.extremes_blocks.proofs.Range.{one-bar, pairs, whole}
+use Rattle.extremes_blocks.specs.inner.Windows.{Whole}
+use Rattle.extremes_blocks.specs.inner.Part.{Replacing}
+use Rattle.extremes_blocks.proofs.Part.{one-above, part-ends}
 use Rattle.extremes_ranges.proofs.write_pairs.Statement.{statement}
 use Rattle.extremes_ranges.proofs.write_pairs.Tie as tie
 

@@ -2,7 +2,7 @@
 use native.Mathlib.Omega.{arith}
 use borrow.Author.Needs.{needs}
 use Rattle.extremes_ranges.proofs.Blocks.{begun}
-use Rattle.extremes_ranges.proofs.Part.{replaced-again, rows-written}
+use Rattle.extremes_blocks.proofs.Part.{replaced-again, rows-written}
 use Rattle.extremes_ranges.proofs.write_ranges.Statement.{statement}
 use Rattle.extremes_ranges.proofs.write_ranges.Tie as tie
 

@@ -3,10 +3,10 @@ use Prim.Native.Nat.{_+_, _-_, _≤_}
 use native.Mathlib.Omega.{arith}
 use borrow.Author.Needs.{needs}
 use lib.ListN.{length, length-set}
-use Rattle.extremes_ranges.proofs.Range.{one-bar, joins}
-use Rattle.extremes_ranges.specs.inner.Blocks.{UpTo}
-use Rattle.extremes_ranges.specs.inner.Part.{Replacing}
-use Rattle.extremes_ranges.proofs.Part.{none-replaced, one-below}
+use Rattle.extremes_blocks.proofs.Range.{one-bar, joins}
+use Rattle.extremes_blocks.specs.inner.Windows.{UpTo}
+use Rattle.extremes_blocks.specs.inner.Part.{Replacing}
+use Rattle.extremes_blocks.proofs.Part.{none-replaced, one-below}
 use Rattle.extremes_ranges.proofs.write_up_to.Statement.{statement}
 use Rattle.extremes_ranges.proofs.write_up_to.Tie as tie
 

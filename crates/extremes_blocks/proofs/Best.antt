@@ -10,7 +10,7 @@ use Rattle.cells.specs.Line.{Line, plusZero}
 use Rattle.cells.proofs.Line.{from-bar}
 use Rattle.extremes.specs.Extreme.{pickOf, pickFrom, extreme}
 use Rattle.extremes.proofs.Order.{lt-between}
-use Rattle.extremes_ranges.specs.inner.Best.{Best, Numbers}
+use Rattle.extremes_blocks.specs.inner.Best.{Best, Numbers}
 
 -- ---- two and three numbers
 

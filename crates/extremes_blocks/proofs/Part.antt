@@ -17,8 +17,8 @@ use Rattle.cells.specs.inner.Rows.{beside}
 use Rattle.cells.proofs.Rows.{beside-first, beside-second}
 use Rattle.cells.specs.Written.{written, Writing}
 use Rattle.cells.proofs.Written.{length-written, getD-written, getD-untouched}
-use Rattle.extremes_ranges.specs.declared.HighLow.{HighLow}
-use Rattle.extremes_ranges.specs.inner.Part.{Replacing, rangeAt}
+use Rattle.extremes_blocks.specs.declared.HighLow.{HighLow}
+use Rattle.extremes_blocks.specs.inner.Part.{Replacing, rangeAt}
 
 before-or-not : (i k : ℕ) → (i < k) ⊎ (k ≤ i)
 before-or-not i k = go (ltb i k) refl

@@ -7,11 +7,11 @@ use native.Mathlib.Nat.{eq-or-lt-of-le}
 use native.Mathlib.Omega.{arith}
 use Rattle.cells.specs.Line.{Line, plusZero}
 use Rattle.cells.proofs.Line.{before-bar}
-use Rattle.extremes_ranges.specs.declared.HighLow.{HighLow}
+use Rattle.extremes_blocks.specs.declared.HighLow.{HighLow}
 use Rattle.extremes.specs.Extreme.{larger, smaller, extreme}
-use Rattle.extremes_ranges.specs.inner.Best.{Numbers, Best}
-use Rattle.extremes_ranges.specs.inner.Range.{RangeOf, alone, joined}
-use Rattle.extremes_ranges.proofs.Best as Best
+use Rattle.extremes_blocks.specs.inner.Best.{Numbers, Best}
+use Rattle.extremes_blocks.specs.inner.Range.{RangeOf, alone, joined}
+use Rattle.extremes_blocks.proofs.Best as Best
 
 module _ {f : Line} where
   pub one-bar : (a : ℕ) {x : HighLow} → x ≡ alone (f a) → RangeOf f a a x

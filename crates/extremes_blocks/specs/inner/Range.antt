@@ -4,9 +4,9 @@ use mathlib.Core.Bool.{true, false}
 use Prim.Native.Nat.{ℕ}
 use lib.Ieee.{Float}
 use Rattle.cells.specs.Line.{Line}
-use Rattle.extremes_ranges.specs.declared.HighLow.{HighLow}
+use Rattle.extremes_blocks.specs.declared.HighLow.{HighLow}
 use Rattle.extremes.specs.Extreme.{larger, smaller}
-use Rattle.extremes_ranges.specs.inner.Best.{Best}
+use Rattle.extremes_blocks.specs.inner.Best.{Best}
 
 -- the range of one cell
 abbrev pub alone : Float → HighLow

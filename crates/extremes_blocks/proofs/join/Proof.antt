@@ -1,7 +1,7 @@
 -- `join` meets its contract: the larger of the highest and the smaller of the lowest. Assumes nothing.
 use borrow.Author.Needs.{needs}
-use Rattle.extremes_ranges.proofs.join.Statement.{statement}
-use Rattle.extremes_ranges.proofs.join.Tie as tie
+use Rattle.extremes_blocks.proofs.join.Statement.{statement}
+use Rattle.extremes_blocks.proofs.join.Tie as tie
 
 pub join-spec : {M : Type 1} → statement M
 join-spec =

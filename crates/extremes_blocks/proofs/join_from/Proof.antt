@@ -5,13 +5,13 @@ use native.Mathlib.Omega.{arith}
 use borrow.Author.Needs.{needs}
 use lib.ListN.{length, length-set}
 use Rattle.cells.specs.Line.{line}
-use Rattle.extremes_ranges.specs.inner.Range.{RangeOf}
-use Rattle.extremes_ranges.proofs.Range.{one-bar, joins, meets, whole}
-use Rattle.extremes_ranges.specs.inner.Blocks.{Whole}
-use Rattle.extremes_ranges.specs.inner.Part.{Replacing}
-use Rattle.extremes_ranges.proofs.Part.{one-stands, not-yet, one-above, part-ends}
-use Rattle.extremes_ranges.proofs.join_from.Statement.{statement}
-use Rattle.extremes_ranges.proofs.join_from.Tie as tie
+use Rattle.extremes_blocks.specs.inner.Range.{RangeOf}
+use Rattle.extremes_blocks.proofs.Range.{one-bar, joins, meets, whole}
+use Rattle.extremes_blocks.specs.inner.Windows.{Whole}
+use Rattle.extremes_blocks.specs.inner.Part.{Replacing}
+use Rattle.extremes_blocks.proofs.Part.{one-stands, not-yet, one-above, part-ends}
+use Rattle.extremes_blocks.proofs.join_from.Statement.{statement}
+use Rattle.extremes_blocks.proofs.join_from.Tie as tie
 
 abbrev Inv-loop : tie.InvT-loop
 Inv-loop cells n e last rows₀ bars i₀ best₀ rows i best =

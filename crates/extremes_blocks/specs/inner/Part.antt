@@ -6,7 +6,7 @@ use Prim.Native.Nat.{ℕ, _+_, _<_, _≤_}
 use lib.ListN.{length}
 use lib.Ieee.{Float}
 use Rattle.cells.specs.Line.{line}
-use Rattle.extremes_ranges.specs.declared.HighLow.{HighLow}
+use Rattle.extremes_blocks.specs.declared.HighLow.{HighLow}
 
 -- what stands in the rows at bar i
 abbrev pub rangeAt : ℕ → List Float → ℕ → HighLow
