@@ -30,7 +30,7 @@ pub fn join(x: HighLow, y: HighLow) -> HighLow
     }
 }
 
-// Joins to it, for each bar from e to `last`, the range of the bars from e on.
+// Joins to what the rows hold, for each bar from e to `last`, the range of the bars from e on.
 pub fn join_from(cells: &[f64], n: usize, e: usize, last: usize, rows: &mut [f64])
     requires { ⌜ Windows (now cells) n e last (length (now rows)) ⌝ }
     requires { ⌜ Replacing (length (now cells)) e (last + 1) (UpTo (now cells) n e) (now rows) (now rows) ⌝ }
