@@ -1,16 +1,16 @@
 -- `all_far` meets its contract: each turn looks at one more bar. Assumes nothing.
-use Prim.Native.Nat.{_-_, _≤_}
+use Prim.Native.Nat.{_-_, _≤_, max}
 use native.Mathlib.Omega.{arith}
 use borrow.Author.Needs.{needs}
 use lib.ListN.{length}
 use Rattle.cells.specs.Line.{line}
 use Rattle.running_sums.specs.inner.Margin.{far, AllFar}
-use Rattle.running_sums.proofs.Far.{none-looked-at, one-more-far, fewer-far}
+use Rattle.running_sums.proofs.Far.{none-looked-at, one-more-far, all-looked-at}
 use Rattle.running_sums.proofs.all_far.Statement.{statement}
 use Rattle.running_sums.proofs.all_far.Tie as tie
 
 abbrev Inv-loop : tie.InvT-loop
-Inv-loop series averages first d far₀ i₀ far₁ i = (first ≤ i)
+Inv-loop series averages first d far₀ i₀ far₁ i = (first ≤ i) × (i ≤ max first (length series))
     × AllFar far₁ first (λ j. far d (line series j) (line averages j)) i
 
 abbrev μ-loop : tie.MeasureT-loop
@@ -19,10 +19,10 @@ abbrev μ-loop : tie.MeasureT-loop
 loop-again : tie.Need-loop-again Inv-loop μ-loop
 loop-again c =
     let at = c .before .before .before .before in
-    (omega arith, one-more-far (at .loop .inv .1) (c .is-far .ensures))
+    (omega arith, omega arith, one-more-far (at .loop .inv .2) (at .loop .inv .0) (c .is-far .ensures))
 
 returns : tie.Need-returns Inv-loop μ-loop
-returns c = fewer-far (c .before .loop .inv .1) (omega arith)
+returns c = all-looked-at (c .before .loop .inv .2) (omega arith) (omega arith)
 
 pub all-far-spec : {M : Type 1} → statement M
 all-far-spec =
@@ -30,7 +30,7 @@ all-far-spec =
     (tie.spec
     Inv-loop
     μ-loop
-    (λ c. (omega arith, none-looked-at (omega arith)))  -- loop-holds
+    (λ c. (omega arith, omega arith, none-looked-at (omega arith)))  -- loop-holds
     (λ c. search needs)  -- mul-is-far
     (λ c. search needs)  -- shared-slice-read-is-far
     (λ c. search needs)  -- mul-is-far-2

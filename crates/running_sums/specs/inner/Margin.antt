@@ -27,6 +27,7 @@ farFromMiddle d average high low =
     lt d (magnitudeOf (sub binary64 average (div binary64 (add binary64 high low) two)))
     && (lt d (magnitudeOf high) && lt d (magnitudeOf low))
 
--- r says that the bars from `first` on all meet a test
+-- r says whether the bars from `first` on all meet a test
 pub record AllFar (r : Bool) (first : ℕ) (test : ℕ → Bool) (bars : ℕ) : Type 0 where
   pub each : r ≡ true → (i : ℕ) → first ≤ i → i < bars → test i ≡ true
+  pub only : ((i : ℕ) → first ≤ i → i < bars → test i ≡ true) → r ≡ true
