@@ -4,3 +4,5 @@ pub mod Leads
 pub mod Recurring
 pub mod Rows
 pub mod Touched
+pub mod Finished
+pub mod Scratch

@@ -26,7 +26,7 @@ use Rattle.smoother.specs.Smoother.{formula, smooth}
 use Rattle.cells.specs.Shown.{num, prices, bits, firstCells}
 use Rattle.averages_wilder.specs.Wilder.{wilder}
 use Rattle.outer_lines.specs.OuterLines.{upperLine, lowerLine}
-use Rattle.channel_widths.specs.Channel.{
+use Rattle.channel.specs.Channel.{
   averageRange,
   channelWidth,
   channelMiddle,

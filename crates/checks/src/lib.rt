@@ -58,7 +58,7 @@ pub fn check_values(due: Answer, series: &[f64]) -> Answer
     if let Answer::Refused(_) = due {
         return due;
     }
-    if values_series::all_accepted(series) {
+    if values::series::all_accepted(series) {
         Answer::Cells(series.len())
     } else {
         Answer::Refused(Refusal::ValueNotAccepted)
@@ -73,7 +73,7 @@ fn check_tick_values(due: Answer, series: &[f64]) -> Answer
     if let Answer::Refused(_) = due {
         return due;
     }
-    if values_series::all_ticks(series) {
+    if values::series::all_ticks(series) {
         Answer::Cells(series.len())
     } else {
         Answer::Refused(Refusal::ValueNotAccepted)

@@ -25,8 +25,7 @@ use Rattle.cells.proofs.Line.{from-bar}
 use Rattle.windows.specs.Window.{sumFrom, over, mean}
 use Rattle.deviations.specs.Deviation.{square, deviation}
 use Rattle.rules_held.specs.Held.{flat}
-use Rattle.rules_bands_bar.specs.Answer.{bandAnswer}
-use Rattle.rules_bands_bar.specs.Boll.{outsideAt, outsideBands, bollLine, BollCall}
+use Rattle.rules_bands.specs.Boll.{bandAnswer, outsideAt, outsideBands, bollLine, BollCall}
 
 -- ---- the mean of one cell is the cell
 

@@ -15,7 +15,7 @@ use Rattle.cells.specs.Search.{firstBar}
 use Rattle.cells.specs.Shown.{prices, num}
 use Rattle.windows.specs.Window.{sumFrom, windowSum, mean}
 use Rattle.changes.specs.Changes.{change}
-use Rattle.jurik_bar.specs.Jurik.{
+use Rattle.jurik.specs.Jurik.{
   averaged,
   copied,
   firstDiffering,
@@ -27,7 +27,7 @@ use Rattle.jurik_bar.specs.Jurik.{
   jurikWith,
   jurikLine,
 }
-use Rattle.rules_ema_bar.specs.SingleEma.{firstUsable, emaOfMeans, singleEmaFrom, singleEmaLine}
+use Rattle.rules_ema.specs.SingleEma.{firstUsable, emaOfMeans, singleEmaFrom, singleEmaLine}
 
 -- the cell of bar b of the series s, `first`, is `then` once the price x follows
 pub record Changed (F : ℕ → Line → Line) (s : List Float) (x : Float) (b : ℕ) (first then : Float) : Type 0 where

@@ -22,9 +22,9 @@ use Rattle.checks.proofs.Passed.{three-passed}
 use Rattle.checks.proofs.Three.{checked-three-room}
 use Rattle.averages.specs.Sma.{SmaCall}
 use Rattle.averages.proofs.Causal.{causal-sma}
-use Rattle.averages_exponential.specs.Ema.{EmaCall}
-use Rattle.averages_exponential.specs.ExponentialSmoothing.{exponentialAnswer, ExponentialSmoothingCall}
-use Rattle.averages_exponential.proofs.Causal.{causal-ema, causal-exponential}
+use Rattle.averages.specs.Ema.{EmaCall}
+use Rattle.averages.specs.ExponentialSmoothing.{exponentialAnswer, ExponentialSmoothingCall}
+use Rattle.averages.proofs.CausalExponential.{causal-ema, causal-exponential}
 use Rattle.averages_ticks.specs.TickMean.{TickMeanCall}
 use Rattle.averages_ticks.proofs.Causal.{causal-tick-mean}
 use Rattle.smoother_table.specs.Coefficients.{coefficients}
@@ -33,11 +33,11 @@ use Rattle.smoother.specs.Smoother.{smootherAnswer, UltimateSmootherCall}
 use Rattle.smoother.proofs.Smoother.{causal-smooth}
 use Rattle.true_range.specs.TrueRange.{TrueRangeCall}
 use Rattle.true_range.proofs.TrueRange.{Causal₃, causal-given, causal-ranges}
-use Rattle.oscillator_bar.specs.Oscillator.{oscillatorAnswer, OscillatorCall}
+use Rattle.oscillator.specs.Oscillator.{oscillatorAnswer, OscillatorCall}
 use Rattle.oscillator.proofs.Oscillator.{causal-oscillator}
 use Rattle.rules_single.specs.Single.{SingleCall}
 use Rattle.rules_single.proofs.Single.{causal-single}
-use Rattle.rules_double_bar.specs.Double.{doubleAnswer, DoubleCall}
+use Rattle.rules_double.specs.Double.{doubleAnswer, DoubleCall}
 use Rattle.rules_double.proofs.Double.{causal-double}
 use Rattle.rules_double.proofs.Open.{double-opened}
 use Rattle.rules_middle.specs.Middle.{MidCall}
@@ -52,22 +52,21 @@ use Rattle.bands.proofs.Call.{bands-ready}
 use Rattle.bands.proofs.Lines.{causal-bands-middle, causal-bands-upper, causal-bands-lower}
 use Rattle.bands.specs.Bands.{UltimateBandsCall}
 use Rattle.channel.proofs.Causal.{causal-channel-middle, causal-channel-upper, causal-channel-lower}
-use Rattle.channel_widths.proofs.Stages.{channel-ready}
-use Rattle.channel_widths.specs.Channel.{ChannelCall}
-use Rattle.rules_bands_bar.proofs.Bands.{causal-boll, causal-boll-reverse}
-use Rattle.rules_bands_bar.specs.Answer.{bandAnswer}
-use Rattle.rules_bands_bar.specs.Boll.{BollCall}
-use Rattle.rules_bands_bar.specs.BollReverse.{BollReverseCall}
+use Rattle.channel.proofs.Stages.{channel-ready}
+use Rattle.channel.specs.Channel.{ChannelCall}
+use Rattle.rules_bands.proofs.Bands.{causal-boll, causal-boll-reverse}
+use Rattle.rules_bands.specs.Boll.{bandAnswer, BollCall}
+use Rattle.rules_bands.specs.BollReverse.{BollReverseCall}
 use Rattle.rules_mms.proofs.Scaled.{causal-mms}
 use Rattle.rules_mms.specs.Mms.{MmsCall}
 use Rattle.rules_rank.proofs.Causal.{causal-rank}
 use Rattle.rules_rank.specs.Rank.{RankCall}
-use Rattle.rules_rolling_rank.proofs.Causal.{causal-rolling-rank}
-use Rattle.rules_rolling_rank.specs.RollingRank.{RollingRankCall, rollingRankAnswer}
-use Rattle.rules_rsi_bar.proofs.Index.{causal-rsi-reverse}
-use Rattle.rules_rsi_bar.specs.RsiReverse.{RsiReverseCall, rsiReverseAnswer}
+use Rattle.rules_rank.proofs.CausalRolling.{causal-rolling-rank}
+use Rattle.rules_rank.specs.RollingRank.{RollingRankCall, rollingRankAnswer}
+use Rattle.rules_rsi.proofs.Index.{causal-rsi-reverse}
+use Rattle.rules_rsi.specs.RsiReverse.{RsiReverseCall, rsiReverseAnswer}
 use Rattle.rules_triple.proofs.Crossover.{causal-triple}
-use Rattle.rules_triple_bar.specs.Triple.{TripleCall, tripleAnswer}
+use Rattle.rules_triple.specs.Triple.{TripleCall, tripleAnswer}
 
 -- both series have more than b bars, and the same values at bars 0 to b
 pub record EqualBars (s t : List Float) (b : ℕ) : Type 0 where

@@ -16,24 +16,23 @@ use Rattle.cells.specs.Line.{line, fromBar}
 use Rattle.cells.specs.Recur.{recur, carried}
 use Rattle.windows.specs.Window.{sumFrom, windowSum, mean, runningSum}
 use Rattle.averages.specs.Sma.{smaLine}
-use Rattle.averages_exponential.specs.Ema.{emaLine}
+use Rattle.averages.specs.Ema.{emaLine}
 use Rattle.averages_ticks.specs.TickMean.{toTick, tickMeanLine}
 use Rattle.rules_single.specs.Single.{singleLine}
-use Rattle.rules_double_bar.specs.Double.{runningMean, doubleLine, doubleAnswer}
+use Rattle.rules_double.specs.Double.{runningMean, doubleLine, doubleAnswer}
 use Rattle.cells.specs.Shown.{firstCells, num}
-use Rattle.rules_bands_bar.specs.Answer.{bandAnswer}
-use Rattle.rules_bands_bar.specs.BollReverse.{bollReverseLine, bandSignals, turnedBands}
+use Rattle.rules_bands.specs.Boll.{bandAnswer}
+use Rattle.rules_bands.specs.BollReverse.{bollReverseLine, bandSignals, turnedBands}
 use Rattle.rules_mms.specs.Mms.{mmsAnswer, mmsLine}
 use Rattle.rules_rank.specs.Rank.{rankLine, belowNow, wholeRank}
-use Rattle.rules_rolling_rank.specs.RollingRank.{rollingRankAnswer, rollingRankLine}
+use Rattle.rules_rank.specs.RollingRank.{rollingRankAnswer, rollingRankLine}
 use Rattle.deviations.specs.Deviation.{deviation}
 use Rattle.extremes.specs.Extreme.{extreme, pickFrom}
 use Rattle.ranks.specs.Counted.{countFrom}
 use Rattle.rounding.specs.Literals.{tenToMinus}
 use Rattle.rounding_root.specs.Root.{nearestRoot, root, rootBelow, sqrtOf}
 use Rattle.rules_held.specs.Held.{hold, moved}
-use Rattle.holt_winters.specs.HoltWinters.{weights, fitLine, fitsAfter, withNext, nextFit}
-use Rattle.holt_winters.specs.HoltWinters.{holtWintersLine, holtWintersAnswer}
+use Rattle.holt_winters.specs.HoltWinters.{weights, fitLine, fitsAfter, withNext, nextFit, holtWintersLine, holtWintersAnswer}
 
 -- a cell of an output: an f64 or a whole number
 pub data Cell : Type 0 where

@@ -21,15 +21,14 @@ use Rattle.cells.specs.Line.{Line, line, fromBar}
 use Rattle.windows.specs.Window.{mean}
 use Rattle.rules_held.specs.Held.{flat, long, short}
 use Rattle.rules_held.proofs.Holding.{Position, at-flat, at-long, at-short, either-position}
-use Rattle.rules_bands_bar.specs.Answer.{bandAnswer}
-use Rattle.rules_bands_bar.specs.Boll.{BollCall}
-use Rattle.rules_bands_bar.specs.BollReverse.{BollReverseCall}
-use Rattle.rules_bands_bar.proofs.Bands.{boll-position, boll-reverse-position, boll-reverse-neighbours}
-use Rattle.rules_triple_bar.specs.Triple.{tripleLine, tripleAnswer, TripleCall}
-use Rattle.rules_rsi_bar.specs.RsiReverse.{rsiReverseAnswer, RsiReverseCall}
-use Rattle.rules_rsi_bar.proofs.Index.{rsi-reverse-position, rsi-reverse-neighbours}
-use Rattle.rules_rolling_rank.specs.RollingRank.{rollingRankAnswer, RollingRankCall}
-use Rattle.rules_rolling_rank.proofs.RollingCells.{rolling-before, rolling-within}
+use Rattle.rules_bands.specs.Boll.{bandAnswer, BollCall}
+use Rattle.rules_bands.specs.BollReverse.{BollReverseCall}
+use Rattle.rules_bands.proofs.Bands.{boll-position, boll-reverse-position, boll-reverse-neighbours}
+use Rattle.rules_triple.specs.Triple.{tripleLine, tripleAnswer, TripleCall}
+use Rattle.rules_rsi.specs.RsiReverse.{rsiReverseAnswer, RsiReverseCall}
+use Rattle.rules_rsi.proofs.Index.{rsi-reverse-position, rsi-reverse-neighbours}
+use Rattle.rules_rank.specs.RollingRank.{rollingRankAnswer, RollingRankCall}
+use Rattle.rules_rank.proofs.RollingCells.{rolling-before, rolling-within}
 
 -- long, short or flat
 abbrev pub WholePosition : ℤ → Type 0

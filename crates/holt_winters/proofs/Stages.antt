@@ -17,10 +17,10 @@ use Rattle.checks.proofs.Passed.{one-passed, one-clearable}
 use Rattle.cells.specs.Line.{Line, plusZero}
 use Rattle.cells.proofs.Written.{one-more, stands, then-written, writing-same}
 use Rattle.windows.specs.Window.{mean}
-use Rattle.work_rows.specs.inner.Scratch.{putAt}
-use Rattle.work_rows.proofs.Scratch.{one-put, goes-on, then-put, scratch-same}
-use Rattle.holt_winters_bar.specs.declared.Fit.{Fit}
-use Rattle.holt_winters_bar.specs.declared.Weights.{Weights}
+use Rattle.cells.specs.inner.Scratch.{putAt}
+use Rattle.cells.proofs.Scratch.{one-put, goes-on, then-put, scratch-same}
+use Rattle.holt_winters.specs.declared.Fit.{Fit}
+use Rattle.holt_winters.specs.declared.Weights.{Weights}
 use Rattle.holt_winters.specs.HoltWinters.{firstFit, nextFit, total, fitLine, holtWintersLine, holtWintersAnswer}
 use Rattle.holt_winters.specs.inner.Stages.{Ready, First, Smoothed}
 use Rattle.holt_winters.proofs.Bars.{fit-first, fit-next, cell-first, cell-later}

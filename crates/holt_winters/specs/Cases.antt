@@ -15,7 +15,7 @@ use Rattle.cells.specs.Recur.{recur}
 use Rattle.rounding.specs.Leaves.{minusOne}
 use Rattle.windows.specs.Window.{sumFrom, windowSum, mean}
 use Rattle.cells.specs.Shown.{num, prices, bits, cellsOf}
-use Rattle.holt_winters_bar.specs.declared.Weights.{Weights}
+use Rattle.holt_winters.specs.declared.Weights.{Weights}
 use Rattle.holt_winters.specs.HoltWinters.{weights, nextFit, withNext, fitsAfter, fitLine, holtWintersLine}
 use Rattle.holt_winters.specs.HoltWinters.{holtWintersAnswer}
 

@@ -16,9 +16,9 @@ use Rattle.cells.proofs.Carried.{carried-seed, carried-next}
 use Rattle.cells.proofs.Search.{firstBar-found, firstBar-met, firstBar-most}
 use Rattle.cells.proofs.Touched.{touched, untouched}
 use Rattle.cells.proofs.Written.{writing-same}
-use Rattle.averages_blend.specs.Blend.{blend, emaAlpha}
-use Rattle.jurik_bar.specs.Jurik.{averaged, alike, isNumber, swings, once, twice, lean, leaned, jurikWith, jurikLine}
-use Rattle.jurik_bar.specs.inner.Passes.{
+use Rattle.averages.specs.Blend.{blend, emaAlpha}
+use Rattle.jurik.specs.Jurik.{averaged, alike, isNumber, swings, once, twice, lean, leaned, jurikWith, jurikLine}
+use Rattle.jurik.specs.inner.Passes.{
   differs,
   tested,
   blendedOnce,
@@ -29,7 +29,7 @@ use Rattle.jurik_bar.specs.inner.Passes.{
   BothAverage,
 }
 use Rattle.jurik.proofs.Causal.{causal-averaged, causal-leaned}
-use Rattle.jurik_bar.proofs.Passes.{differing-is, differing-same, averaged-is}
+use Rattle.jurik.proofs.TwoPasses.{differing-is, differing-same, averaged-is}
 use Rattle.jurik.proofs.Stages.{local-causal}
 
 -- ---- what the loops find

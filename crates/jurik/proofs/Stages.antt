@@ -25,10 +25,10 @@ use Rattle.cells.proofs.Line.{before-bar, from-bar}
 use Rattle.cells.proofs.Written.{read-back, writing-same, then-written}
 use Rattle.rounding.specs.Leaves.{magnitudeOf}
 use Rattle.changes.specs.Changes.{earlier, change}
-use Rattle.jurik_bar.specs.Jurik.{swings, leaned, jurikAnswer}
-use Rattle.jurik_bar.specs.inner.Passes.{tested, leanAt, Ready}
+use Rattle.jurik.specs.Jurik.{swings, leaned, jurikAnswer}
+use Rattle.jurik.specs.inner.Passes.{tested, leanAt, Ready}
 use Rattle.jurik.proofs.Causal.{causal-averaged, causal-copied}
-use Rattle.jurik_bar.proofs.Passes.{differing-same}
+use Rattle.jurik.proofs.TwoPasses.{differing-same}
 
 -- ---- cells
 

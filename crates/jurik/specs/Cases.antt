@@ -14,7 +14,7 @@ use Rattle.cells.specs.Recur.{recur, carried}
 use Rattle.cells.specs.Search.{firstBar}
 use Rattle.cells.specs.Shown.{prices, bits, cellsOf}
 use Rattle.changes.specs.Changes.{change}
-use Rattle.jurik_bar.specs.Jurik.{
+use Rattle.jurik.specs.Jurik.{
   averaged,
   copied,
   firstDiffering,

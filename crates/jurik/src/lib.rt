@@ -1,4 +1,7 @@
 // The volatility of a series: the sizes of its changes, smoothed three times.
+pub mod bar;
+pub mod passes;
+
 use calls::Answer;
 use calls::Refusal;
 ghost use mathlib.Core.Path.{_≡_};
@@ -7,23 +10,8 @@ ghost use Prim.Native.Nat.{_<_, _≤_};
 ghost use lib.ListN.{length};
 ghost use Rattle.cells.specs.Line.{line};
 ghost use Rattle.cells.specs.Written.{Writing};
-ghost use Rattle.jurik_bar.specs.Jurik.{
-  isNumber,
-  swings,
-  lean,
-  leaned,
-  jurikLine,
-  jurikAnswer,
-  JurikCall,
-};
-ghost use Rattle.jurik_bar.specs.inner.Passes.{
-  differs,
-  leanAt,
-  Ready,
-  Differing,
-  Leant,
-  BothAverage,
-};
+ghost use Rattle.jurik.specs.Jurik.{isNumber, swings, lean, leaned, jurikLine, jurikAnswer, JurikCall};
+ghost use Rattle.jurik.specs.inner.Passes.{differs, leanAt, Ready, Differing, Leant, BothAverage};
 
 // The size of the change of bar i.
 fn swing_at(close: &[f64], i: usize) -> f64
@@ -92,20 +80,20 @@ fn write_passes(close: &[f64], n: usize, power: f64, out: &mut [f64])
         (now (out .exit)) ⌝ }
 {
     let bars = close.len();
-    let none = jurik_bar::no_number();
+    let none = bar::no_number();
     let half = 2.0 / ((n / 2 + 1) as f64);
     write_swings(close, out);
-    jurik_passes::pass(out, bars, false, none, half);
-    jurik_passes::pass(out, bars, false, none, half);
+    passes::pass(out, bars, false, none, half);
+    passes::pass(out, bars, false, none, half);
     lean_on(out, bars, power);
-    jurik_passes::third_pass(out, bars, n);
+    passes::third_pass(out, bars, n);
 }
 
 // Whether x is a number that is not equal to `first`.
 fn differing(first: f64, x: f64) -> bool
     ensures { λ r. ⌜ r ≡ differs isNumber first x ⌝ }
 {
-    jurik_bar::usable(false, x) & (x != first)
+    bar::usable(false, x) & (x != first)
 }
 
 // Whether the first pass averages: some change is of another size than the first.
@@ -119,7 +107,7 @@ fn uneven(close: &[f64]) -> bool
     let first = swing_at(close, 1);
     let mut i = 2;
     while i < bars {
-        if jurik_bar::usable(false, first) & differing(first, swing_at(close, i)) {
+        if bar::usable(false, first) & differing(first, swing_at(close, i)) {
             return true;
         }
         i += 1;
@@ -141,8 +129,8 @@ fn average_twice(close: &[f64], alpha: f64, power: f64, out: &mut [f64]) -> bool
     let mut i = cells::fill_lead(out, 2, bars, 0.0);
     while i < bars {
         let last = twice;
-        once = averages_blend::blended(alpha, once, swing_at(close, i));
-        twice = averages_blend::blended(alpha, twice, once);
+        once = averages::blend::blended(alpha, once, swing_at(close, i));
+        twice = averages::blend::blended(alpha, twice, once);
         differ = differ | differing(first, once);
         out[i] = leaned_by(power, last, twice);
         i += 1;
@@ -172,7 +160,7 @@ fn write_jurik(close: &[f64], n: usize, power: f64, out: &mut [f64])
         (now (out .exit)) ⌝ }
 {
     if lean_averages(close, n, power, out) {
-        jurik_passes::third_pass(out, close.len(), n);
+        passes::third_pass(out, close.len(), n);
     } else {
         write_passes(close, n, power, out);
     }

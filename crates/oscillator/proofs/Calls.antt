@@ -20,7 +20,7 @@ use Rattle.cells.proofs.Written.{writing-same}
 use Rattle.cells.specs.inner.Rows.{beside}
 use Rattle.window_means.specs.inner.Row.{rowAt}
 use Rattle.true_range.specs.TrueRange.{trueRanges, closeBefore}
-use Rattle.oscillator_bar.specs.Oscillator.{pressures, weighedShares, oscillatorLine, oscillatorAnswer}
+use Rattle.oscillator.specs.Oscillator.{pressures, weighedShares, oscillatorLine, oscillatorAnswer}
 use Rattle.oscillator.specs.inner.Rows.{Ready}
 use Rattle.oscillator.proofs.Oscillator.{shares-either, from-rows}
 use Rattle.oscillator.proofs.Zeros.{Plain, plain-values, either-pressures, either-ranges}

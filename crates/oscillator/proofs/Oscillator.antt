@@ -11,19 +11,19 @@ use Rattle.cells.proofs.Carried.{from-same}
 use Rattle.cells.specs.Written.{Writing}
 use Rattle.cells.proofs.Written.{read-back, ends, writing-same}
 use Rattle.cells.specs.inner.Rows.{beside}
-use Rattle.cells.proofs.Rows.{beside-first, beside-second}
+use Rattle.cells.proofs.RowWrites.{beside-first, beside-second}
 use Rattle.window_means.specs.inner.Row.{rowAt}
 use Rattle.windows.specs.declared.Lanes.{Lanes}
 use Rattle.windows.specs.inner.Eight.{Eight}
 use Rattle.windows.specs.Window.{windowSum}
 use Rattle.windows.proofs.Window.{sumFrom-same}
-use Rattle.window_laws.proofs.Zeros.{EitherZero, sums-from-either}
+use Rattle.windows.proofs.Zeros.{EitherZero, sums-from-either}
 use Rattle.true_range.specs.declared.CloseBefore.{CloseBefore}
 use Rattle.true_range.specs.TrueRange.{trueRanges, closeBefore}
 use Rattle.true_range.proofs.TrueRange.{Causal₃, causal-close, causal-ranges}
-use Rattle.oscillator_bar.specs.Oscillator.{pressure, pressures, share, weighedShares, oscillatorLine}
-use Rattle.oscillator_ticks.specs.inner.Begun.{afresh}
-use Rattle.oscillator_ticks.proofs.Cells.{cell-is}
+use Rattle.oscillator.specs.Oscillator.{pressure, pressures, share, weighedShares, oscillatorLine}
+use Rattle.oscillator.specs.inner.Begun.{afresh}
+use Rattle.oscillator.proofs.Cells.{cell-is}
 use Rattle.oscillator.specs.inner.Rows.{eachRatio, eachWeighed}
 
 -- ---- lines that agree

@@ -15,7 +15,7 @@ use Rattle.cells.specs.Shown.{prices, bits, firstCells}
 use Rattle.rounding.specs.Leaves.{magnitudeOf}
 use Rattle.windows.specs.Window.{sumFrom}
 use Rattle.true_range.specs.TrueRange.{trueRange, trueRanges, givenBefore}
-use Rattle.oscillator_bar.specs.Oscillator.{
+use Rattle.oscillator.specs.Oscillator.{
   pressure,
   pressures,
   share,

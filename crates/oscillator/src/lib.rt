@@ -1,4 +1,7 @@
 // The ultimate oscillator: buying pressure over true range in three windows.
+pub mod bar;
+pub mod ticks;
+
 use calls::Answer;
 use windows::Lanes;
 use windows::Sixteen;
@@ -9,24 +12,9 @@ ghost use Rattle.cells.specs.Line.{line, minusZero};
 ghost use Rattle.cells.specs.Written.{Writing};
 ghost use Rattle.cells.specs.inner.Touched.{Touched};
 ghost use Rattle.windows.specs.inner.Eight.{Windows, SixteenOf};
-ghost use Rattle.oscillator_bar.specs.Oscillator.{
-  pressure,
-  pressures,
-  share,
-  weighedShares,
-  oscillatorLine,
-  oscillatorAnswer,
-  OscillatorCall,
-};
-ghost use Rattle.oscillator_ticks.specs.inner.Begun.{Windows₃, Begun, afresh};
-ghost use Rattle.oscillator.specs.inner.Rows.{
-  Ready,
-  Whole₃,
-  TwoRows,
-  Reached,
-  eachRatio,
-  eachWeighed,
-};
+ghost use Rattle.oscillator.specs.Oscillator.{pressure, pressures, share, weighedShares, oscillatorLine, oscillatorAnswer, OscillatorCall};
+ghost use Rattle.oscillator.specs.inner.Begun.{Windows₃, Begun, afresh};
+ghost use Rattle.oscillator.specs.inner.Rows.{Ready, Whole₃, TwoRows, Reached, eachRatio, eachWeighed};
 ghost use Rattle.window_means.specs.inner.Row.{rowAt};
 
 // Writes the buying pressure of every bar.
@@ -37,11 +25,7 @@ fn write_pressures(low: &[f64], close: &[f64], out: &mut [f64])
 {
     let mut i = 0;
     while i < close.len() {
-        out[i] = oscillator_bar::pressure_of(
-            low[i],
-            close[i],
-            true_range::close_before(close, 1, i),
-        );
+        out[i] = bar::pressure_of(low[i], close[i], true_range::close_before(close, 1, i));
         i += 1;
     }
 }
@@ -59,7 +43,7 @@ fn share_at(f: &[f64], g: &[f64], n: usize, i: usize) -> f64
     requires { ⌜ Windows n i 1 (length (now f)) × (length (now g) ≡ length (now f)) ⌝ }
     ensures { λ r. ⌜ r ≡ share minusZero n (line (now (f .entry))) (line (now (g .entry))) i ⌝ }
 {
-    oscillator_bar::ratio_of(windows::sum_at(f, n, i), windows::sum_at(g, n, i))
+    bar::ratio_of(windows::sum_at(f, n, i), windows::sum_at(g, n, i))
 }
 
 // Each lane of x over that of y.
@@ -67,14 +51,14 @@ fn ratios(x: Lanes, y: Lanes) -> Lanes
     ensures { λ r. ⌜ r ≡ eachRatio x y ⌝ }
 {
     Lanes {
-        lane0: oscillator_bar::ratio_of(x.lane0, y.lane0),
-        lane1: oscillator_bar::ratio_of(x.lane1, y.lane1),
-        lane2: oscillator_bar::ratio_of(x.lane2, y.lane2),
-        lane3: oscillator_bar::ratio_of(x.lane3, y.lane3),
-        lane4: oscillator_bar::ratio_of(x.lane4, y.lane4),
-        lane5: oscillator_bar::ratio_of(x.lane5, y.lane5),
-        lane6: oscillator_bar::ratio_of(x.lane6, y.lane6),
-        lane7: oscillator_bar::ratio_of(x.lane7, y.lane7),
+        lane0: bar::ratio_of(x.lane0, y.lane0),
+        lane1: bar::ratio_of(x.lane1, y.lane1),
+        lane2: bar::ratio_of(x.lane2, y.lane2),
+        lane3: bar::ratio_of(x.lane3, y.lane3),
+        lane4: bar::ratio_of(x.lane4, y.lane4),
+        lane5: bar::ratio_of(x.lane5, y.lane5),
+        lane6: bar::ratio_of(x.lane6, y.lane6),
+        lane7: bar::ratio_of(x.lane7, y.lane7),
     }
 }
 
@@ -83,14 +67,14 @@ fn weigh_lanes(x: Lanes, y: Lanes, z: Lanes) -> Lanes
     ensures { λ r. ⌜ r ≡ eachWeighed x y z ⌝ }
 {
     Lanes {
-        lane0: oscillator_bar::weigh(x.lane0, y.lane0, z.lane0),
-        lane1: oscillator_bar::weigh(x.lane1, y.lane1, z.lane1),
-        lane2: oscillator_bar::weigh(x.lane2, y.lane2, z.lane2),
-        lane3: oscillator_bar::weigh(x.lane3, y.lane3, z.lane3),
-        lane4: oscillator_bar::weigh(x.lane4, y.lane4, z.lane4),
-        lane5: oscillator_bar::weigh(x.lane5, y.lane5, z.lane5),
-        lane6: oscillator_bar::weigh(x.lane6, y.lane6, z.lane6),
-        lane7: oscillator_bar::weigh(x.lane7, y.lane7, z.lane7),
+        lane0: bar::weigh(x.lane0, y.lane0, z.lane0),
+        lane1: bar::weigh(x.lane1, y.lane1, z.lane1),
+        lane2: bar::weigh(x.lane2, y.lane2, z.lane2),
+        lane3: bar::weigh(x.lane3, y.lane3, z.lane3),
+        lane4: bar::weigh(x.lane4, y.lane4, z.lane4),
+        lane5: bar::weigh(x.lane5, y.lane5, z.lane5),
+        lane6: bar::weigh(x.lane6, y.lane6, z.lane6),
+        lane7: bar::weigh(x.lane7, y.lane7, z.lane7),
     }
 }
 
@@ -115,7 +99,7 @@ fn cell_at(f: &[f64], g: &[f64], n: usize, m: usize, k: usize, i: usize) -> f64
     let short = share_at(f, g, n, i);
     let medium = share_at(f, g, m, i);
     let long = share_at(f, g, k, i);
-    oscillator_bar::weigh(short, medium, long)
+    bar::weigh(short, medium, long)
 }
 
 // The cells of the sixteen bars from i on.
@@ -187,7 +171,7 @@ fn cells_from(f: &[f64], g: &[f64], n: usize, m: usize, k: usize, from: usize, o
     if from < f.len() {
         if window_means::are_long_ticks(f, from) {
             if window_means::are_long_ticks(g, from) {
-                oscillator_ticks::cells_of_ticks(f, g, n, m, k, from, out);
+                ticks::cells_of_ticks(f, g, n, m, k, from, out);
                 return;
             }
         }

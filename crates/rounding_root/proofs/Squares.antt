@@ -14,8 +14,8 @@ use native.Mathlib.Nat.{
 use native.Mathlib.Omega.{arith}
 use lib.Dec.{T, leb, leb→le, nleb→lt}
 use lib.Ieee.Digits.{size-lt}
-use Rattle.rounding_root_whole.specs.inner.Squares.{Closest}
-use Rattle.rounding_root_whole.proofs.Squares.{square-next}
+use Rattle.rounding_root.specs.inner.Squares.{Closest}
+use Rattle.rounding_root.proofs.WholeSquares.{square-next}
 use Rattle.rounding_root.specs.Root.{rootBelow, root}
 
 -- ---- the order of squares

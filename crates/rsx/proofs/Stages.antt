@@ -22,8 +22,8 @@ use Rattle.cells.specs.Line.{Line, plusZero}
 use Rattle.cells.proofs.Line.{from-bar}
 use Rattle.cells.proofs.Carried.{carried-seed, carried-next}
 use Rattle.windows.specs.Window.{over}
-use Rattle.averages_blend.specs.Blend.{blend}
-use Rattle.averages_exponential.specs.ExponentialSmoothing.{exponentialLine}
+use Rattle.averages.specs.Blend.{blend}
+use Rattle.averages.specs.ExponentialSmoothing.{exponentialLine}
 use Rattle.changes.specs.declared.Averages.{Averages}
 use Rattle.changes.specs.Changes.{change, gains, losses, rsi}
 use Rattle.rsx.specs.Rsx.{rsxUnsmoothed, rsxAnswer}

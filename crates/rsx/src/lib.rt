@@ -22,8 +22,8 @@ fn next(close: &[f64], alpha: f64, i: usize, last: Averages) -> Averages
 {
     let change = changes::change_at(close, i);
     Averages {
-        gain: averages_blend::blended(alpha, last.gain, changes::gain_of(change)),
-        loss: averages_blend::blended(alpha, last.loss, changes::loss_of(change)),
+        gain: averages::blend::blended(alpha, last.gain, changes::gain_of(change)),
+        loss: averages::blend::blended(alpha, last.loss, changes::loss_of(change)),
     }
 }
 

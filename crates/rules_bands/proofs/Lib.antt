@@ -1,1 +1,5 @@
+pub mod Bands
+pub mod Guess
+pub mod Narrow
+pub mod Stages
 pub mod Open

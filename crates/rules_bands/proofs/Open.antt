@@ -17,7 +17,7 @@ use Rattle.calls.proofs.Call.{AllBars}
 use Rattle.calls.proofs.Room.{Asked, same-count}
 use Rattle.checks.specs.inner.Due.{CellsDue, Priced}
 use Rattle.checks.proofs.Table.{table-asked, table-clearable, table-priced}
-use Rattle.rules_bands_bar.specs.Answer.{bandAnswer}
+use Rattle.rules_bands.specs.Boll.{bandAnswer}
 
 module _ (s : List Float) (n : ℕ) (k : Float) (out work : ℕ) where
   -- the table, with the window's part by itself

@@ -18,9 +18,8 @@ use Rattle.cells.specs.Shown.{prices, bits, cellsOf}
 use Rattle.windows.specs.Window.{sumFrom, windowSum, mean}
 use Rattle.deviations.specs.Deviation.{deviation}
 use Rattle.rules_held.specs.Held.{flat, long, short, moved, hold}
-use Rattle.rules_bands_bar.specs.Answer.{bandAnswer}
-use Rattle.rules_bands_bar.specs.Boll.{outsideBands, bollLine}
-use Rattle.rules_bands_bar.specs.BollReverse.{bandSignals, turnedBands, bollReverseLine}
+use Rattle.rules_bands.specs.Boll.{bandAnswer, outsideBands, bollLine}
+use Rattle.rules_bands.specs.BollReverse.{bandSignals, turnedBands, bollReverseLine}
 
 abbrev tenths : ℕ → Float
 tenths k = round binary64 false k 10

@@ -1,4 +1,6 @@
 // Both Bollinger rules: what they answer, and how their cells are written.
+pub mod bar;
+
 use calls::Answer;
 use calls::Refusal;
 ghost use mathlib.Core.Path.{_≡_};
@@ -8,8 +10,8 @@ ghost use Rattle.cells.specs.Written.{Writing};
 ghost use Rattle.cells.specs.inner.Touched.{Touched};
 ghost use Rattle.windows.specs.inner.Eight.{WindowRoom};
 ghost use Rattle.checks.specs.inner.Due.{Priced};
-ghost use Rattle.rules_bands_bar.specs.Answer.{bandAnswer};
-ghost use Rattle.rules_bands_bar.specs.inner.Stages.{bandPositions, bandsLine, Begun, Further};
+ghost use Rattle.rules_bands.specs.Boll.{bandAnswer};
+ghost use Rattle.rules_bands.specs.inner.Stages.{bandPositions, bandsLine, Begun, Further};
 
 // The answer of both: refusal 6 for k comes after the series' own refusals, and before those of the window.
 pub fn answer_bands(series: &[f64], n: usize, k: f64, out: usize, work: usize) -> Answer
@@ -38,13 +40,13 @@ fn write_some_positions(
 {
     let mut middles = [0.0; 8];
     let mut variances = [0.0; 8];
-    let d = rules_bands_bar::divisor(reverse, n);
+    let d = bar::divisor(reverse, n);
     let count = deviations::write_spreads(means, n, d, i, &mut middles, &mut variances);
     let inverse = 1.0 / k;
-    let mut position = rules_bands_bar::position_before(out, i);
+    let mut position = bar::position_before(out, i);
     let mut j = 0;
     while j < count {
-        position = rules_bands_bar::position_after(
+        position = bar::position_after(
             reverse,
             position,
             means[i + j],

@@ -18,7 +18,7 @@ use Rattle.calls.specs.Answer.{slices, checked, windowed}
 use Rattle.cells.specs.Line.{plusZero, fromBar}
 use Rattle.cells.specs.Recur.{recur}
 use Rattle.windows.specs.Window.{sumFrom, runningSum}
-use Rattle.rules_double_bar.specs.Double.{runningMean, doubleLine, doubleAnswer}
+use Rattle.rules_double.specs.Double.{runningMean, doubleLine, doubleAnswer}
 use Rattle.cells.specs.Shown.{prices, cellsOf}
 
 -- the positions

@@ -9,16 +9,15 @@ use Rattle.cells.specs.Line.{Line, line, plusZero, fromBar, Causal}
 use Rattle.cells.specs.inner.Rows.{beside}
 use Rattle.cells.specs.Written.{Writing}
 use Rattle.cells.proofs.Carried.{from-same}
-use Rattle.cells.proofs.Rows.{beside-first, beside-second}
+use Rattle.cells.proofs.RowWrites.{beside-first, beside-second}
 use Rattle.cells.proofs.Written.{read-back}
 use Rattle.cells.proofs.Line.{causal-then, causal-from}
 use Rattle.windows.specs.Window.{mean}
 use Rattle.windows.proofs.Window.{causal-mean}
 use Rattle.extremes.specs.Extreme.{larger, smaller, extreme}
 use Rattle.extremes.proofs.Extreme.{causal-extreme}
-use Rattle.rules_middle_bar.specs.AgainstMiddle.{againstMiddle}
-use Rattle.rules_middle_bar.specs.inner.Positions.{positions}
-use Rattle.rules_middle.specs.Middle.{midLine}
+use Rattle.rules_middle.specs.Middle.{againstMiddle, midLine}
+use Rattle.rules_middle.specs.inner.Positions.{positions}
 
 pub causal-mid : (n : ℕ) → 0 < n → Causal (midLine n)
 unfolding midLine

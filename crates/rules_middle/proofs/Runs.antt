@@ -14,14 +14,14 @@ use Rattle.cells.specs.Line.{line, plusZero}
 use Rattle.cells.specs.Written.{Writing}
 use Rattle.cells.proofs.Carried.{from-same}
 use Rattle.cells.proofs.Parts.{part-long}
-use Rattle.extremes_ranges.specs.inner.Blocks.{Room}
-use Rattle.extremes_ranges.proofs.Parts.{part-numbers}
-use Rattle.sliding_means.specs.inner.Means.{runMeans}
-use Rattle.running_sums.specs.inner.Margin.{largestOf, marginOf, farFromMiddle, AllFar}
-use Rattle.running_sums.proofs.Twice.{runs-small}
-use Rattle.running_sums.proofs.Middle.{decided-middle}
+use Rattle.extremes.specs.inner.Blocks.{Room}
+use Rattle.extremes.proofs.Parts.{part-numbers}
+use Rattle.windows.specs.inner.Means.{runMeans}
+use Rattle.margins.specs.inner.Margin.{largestOf, marginOf, farFromMiddle, AllFar}
+use Rattle.margins.proofs.Twice.{runs-small}
+use Rattle.margins.proofs.Middle.{decided-middle}
 use Rattle.rules_middle.specs.Middle.{midLine}
-use Rattle.rules_middle_bar.specs.inner.Positions.{positions}
+use Rattle.rules_middle.specs.inner.Positions.{positions}
 use Rattle.rules_middle.proofs.Middle.{middles-mid, Standing, positions-are}
 
 module _ (s : List Float) (n : ℕ) (ok : all accepted s ≡ true) (floats : (j : ℕ) → T (fits binary64 (line s j)))

@@ -1,16 +1,23 @@
 -- mid_positions, the middle: what it answers and writes. Assumes nothing.
+use mathlib.Core.Bool.{cond, _||_}
 use mathlib.Core.List.{List, [], _∷_}
 use Prim.Native.Nat.{ℕ, _-_, _*_}
-use lib.Ieee.{Float}
+use lib.Ieee.{Float, binary64, add, sub, div, eq}
 use lib.ListN.{length}
-use Rattle.cells.specs.Line.{Line, plusZero, fromBar, line}
+use Rattle.cells.specs.Line.{plusZero, Line, fromBar, line}
+use Rattle.rounding.specs.Leaves.{signOf, two}
 use Rattle.windows.specs.Window.{mean}
 use Rattle.extremes.specs.Extreme.{larger, smaller, extreme}
-use Rattle.rules_middle_bar.specs.AgainstMiddle.{againstMiddle}
 use Rattle.calls.specs.Answer.{answered}
 use Rattle.calls.specs.Call.{WorkCall}
 use Rattle.calls.specs.declared.Answer.{Answer}
 use Rattle.values.specs.Accepted.{accepted}
+
+-- the sign of the mean less half of highest plus lowest, 0 if either is 0
+abbrev pub againstMiddle : Float → Float → Float → Float
+againstMiddle average high low =
+    cond (eq high plusZero || eq low plusZero) plusZero
+    (signOf (sub binary64 average (div binary64 (add binary64 high low) two)))
 
 -- ---- mid_positions: the middle
 

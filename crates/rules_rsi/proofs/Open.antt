@@ -18,7 +18,7 @@ use Rattle.calls.proofs.Room.{Asked, same-count}
 use Rattle.checks.specs.inner.Due.{CellsDue, Priced}
 use Rattle.checks.proofs.Due.{some-due}
 use Rattle.checks.proofs.Table.{table-asked, table-clearable, table-priced}
-use Rattle.rules_rsi_bar.specs.RsiReverse.{rsiReverseAnswer}
+use Rattle.rules_rsi.specs.RsiReverse.{rsiReverseAnswer}
 
 module _ (s : List Float) (n : ℕ) (upper lower exit : Float) (out work : ℕ) where
   -- the table, with the window's part by itself

@@ -17,7 +17,7 @@ use Rattle.cells.specs.Shown.{num, prices, bits, cellsOf}
 use Rattle.windows.specs.Window.{sumFrom, windowSum, mean}
 use Rattle.changes.specs.Changes.{change, gains, losses}
 use Rattle.rules_held.specs.Held.{flat, long, short, moved, hold}
-use Rattle.rules_rsi_bar.specs.RsiReverse.{sumBefore, rsiBefore, turned, rsiReverseLine, rsiReverseAnswer}
+use Rattle.rules_rsi.specs.RsiReverse.{sumBefore, rsiBefore, turned, rsiReverseLine, rsiReverseAnswer}
 
 -- upper 70, lower 30, exit 50
 abbrev usual : ℕ → List Float → List ℤ

@@ -1,4 +1,7 @@
 // The rule against the relative strength index: how its answer is found and its cells are written.
+pub mod bar;
+pub mod held;
+
 use calls::Answer;
 use calls::Refusal;
 use windows::Lanes;
@@ -11,19 +14,8 @@ ghost use Rattle.cells.specs.Written.{Writing};
 ghost use Rattle.cells.specs.inner.Touched.{Touched};
 ghost use Rattle.windows.specs.Window.{mean};
 ghost use Rattle.checks.specs.inner.Due.{Priced};
-ghost use Rattle.rules_rsi_bar.specs.RsiReverse.{
-  rsiBefore,
-  rsiReverseLine,
-  rsiReverseAnswer,
-};
-ghost use Rattle.rules_rsi_bar.specs.inner.Stages.{
-  part,
-  withParts,
-  Changed,
-  eachIndex,
-  Begun,
-  Further,
-};
+ghost use Rattle.rules_rsi.specs.RsiReverse.{rsiBefore, rsiReverseLine, rsiReverseAnswer};
+ghost use Rattle.rules_rsi.specs.inner.Stages.{part, withParts, Changed, eachIndex, Begun, Further};
 
 // The answer: refusal 6 for the levels comes after the series' own refusals, and before those of the window.
 pub fn answer_rsi_reverse(
@@ -88,14 +80,14 @@ fn index_of_eight(up: Lanes, down: Lanes, count: f64) -> Lanes
     ensures { λ r. ⌜ r ≡ eachIndex count up down ⌝ }
 {
     Lanes {
-        lane0: rules_rsi_bar::index_by(up.lane0, down.lane0, count),
-        lane1: rules_rsi_bar::index_by(up.lane1, down.lane1, count),
-        lane2: rules_rsi_bar::index_by(up.lane2, down.lane2, count),
-        lane3: rules_rsi_bar::index_by(up.lane3, down.lane3, count),
-        lane4: rules_rsi_bar::index_by(up.lane4, down.lane4, count),
-        lane5: rules_rsi_bar::index_by(up.lane5, down.lane5, count),
-        lane6: rules_rsi_bar::index_by(up.lane6, down.lane6, count),
-        lane7: rules_rsi_bar::index_by(up.lane7, down.lane7, count),
+        lane0: bar::index_by(up.lane0, down.lane0, count),
+        lane1: bar::index_by(up.lane1, down.lane1, count),
+        lane2: bar::index_by(up.lane2, down.lane2, count),
+        lane3: bar::index_by(up.lane3, down.lane3, count),
+        lane4: bar::index_by(up.lane4, down.lane4, count),
+        lane5: bar::index_by(up.lane5, down.lane5, count),
+        lane6: bar::index_by(up.lane6, down.lane6, count),
+        lane7: bar::index_by(up.lane7, down.lane7, count),
     }
 }
 
@@ -124,7 +116,7 @@ fn write_some(series: &[f64], n: usize, i: usize, work: &mut [f64]) -> usize
         write_sixteen(series, n, i, work);
         16
     } else {
-        work[i] = rules_rsi_bar::index_at(series, n, i, work);
+        work[i] = bar::index_at(series, n, i, work);
         1
     }
 }
@@ -160,5 +152,5 @@ pub fn write_rsi_reverse(
     let bars = series.len();
     write_changes(series, n, work);
     write_indexes(series, n, work);
-    rules_rsi_held::write_turned(&work[..bars], upper, lower, exit, out);
+    held::write_turned(&work[..bars], upper, lower, exit, out);
 }

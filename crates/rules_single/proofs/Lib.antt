@@ -1,3 +1,4 @@
+pub mod Positions
 pub mod Runs
 pub mod Single
 pub mod Ticks

@@ -14,10 +14,10 @@ use Rattle.cells.specs.Written.{Writing}
 use Rattle.cells.proofs.Carried.{from-same}
 use Rattle.cells.proofs.Written.{read-back}
 use Rattle.windows.specs.Window.{mean}
-use Rattle.sliding_means.specs.inner.Means.{runMeans}
-use Rattle.running_sums.specs.inner.Margin.{largestOf, marginOf, far, AllFar}
-use Rattle.running_sums.proofs.Twice.{decided-twice}
-use Rattle.rules_single_bar.specs.inner.Positions.{positions}
+use Rattle.windows.specs.inner.Means.{runMeans}
+use Rattle.margins.specs.inner.Margin.{largestOf, marginOf, far, AllFar}
+use Rattle.margins.proofs.Twice.{decided-twice}
+use Rattle.rules_single.specs.inner.Positions.{positions}
 use Rattle.rules_single.specs.Single.{singleLine}
 use Rattle.rules_single.proofs.Single.{positions-single}
 

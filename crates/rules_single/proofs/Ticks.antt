@@ -21,7 +21,7 @@ use Rattle.rounding_laws.proofs.About.{about-whole, about-sign, about-order, ab
 use Rattle.cells.specs.Line.{Line, line, plusZero}
 use Rattle.cells.proofs.Line.{from-bar}
 use Rattle.calls.proofs.Room.{or-parts}
-use Rattle.cells.proofs.Rows.{beside-first, beside-second}
+use Rattle.cells.proofs.RowWrites.{beside-first, beside-second}
 use Rattle.cells.proofs.Written.{read-back}
 use Rattle.windows.specs.Window.{windowTotal, mean}
 use Rattle.exact_ticks.proofs.Exact.{TickLine, window-size}
@@ -32,7 +32,7 @@ use Rattle.rules_single.proofs.Single.{single-at}
 use Rattle.exact_ticks.proofs.TickMeans.{tick-line}
 use Rattle.exact_ticks.proofs.Runs.{run-exact, runs-whole, size-times, some-abs, times-one}
 use Rattle.windows.specs.inner.Runs.{runs}
-use Rattle.rules_single_bar.specs.inner.Tie.{tie}
+use Rattle.rules_single.specs.inner.Tie.{tie}
 use Rattle.rules_single.specs.inner.Ticks.{TickRows}
 
 module _ {l : ℕ} {f : Line} {t : ℕ → ℤ} (w : TickLine l f t) where

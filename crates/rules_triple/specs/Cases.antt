@@ -10,7 +10,7 @@ use Rattle.calls.specs.Answer.{slices, checked, windowed}
 use Rattle.cells.specs.Line.{plusZero, fromBar}
 use Rattle.cells.specs.Shown.{prices, cellsOf}
 use Rattle.windows.specs.Window.{sumFrom, windowSum, mean}
-use Rattle.rules_triple_bar.specs.Triple.{tripleLine, tripleAnswer}
+use Rattle.rules_triple.specs.Triple.{tripleLine, tripleAnswer}
 use Rattle.rules_held.specs.Held.{flat, long, short}
 
 -- windows 1, 2, 3: both above, both below, one of each; a flat series, and one of zeros; three bars

@@ -1,4 +1,6 @@
-// The tests of one value.
+// The tests of values: of one, and of a whole series (`series`).
+pub mod series;
+
 use limits::LARGEST_TICK;
 use limits::LARGEST_VALUE;
 ghost use mathlib.Core.Path.{_≡_};

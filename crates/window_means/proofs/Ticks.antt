@@ -13,8 +13,8 @@ use Rattle.cells.proofs.Line.{before-bar}
 use Rattle.limits.specs.Limits.{Window}
 use Rattle.windows.specs.Window.{mean}
 use Rattle.windows.specs.inner.Runs.{runs}
-use Rattle.sliding_means.specs.inner.Means.{runMeans}
-use Rattle.sliding_means.proofs.Means.{zero-over}
+use Rattle.windows.specs.inner.Means.{runMeans}
+use Rattle.windows.proofs.Means.{zero-over}
 use Rattle.values.proofs.All.{and-parts}
 use Rattle.window_means.specs.inner.Ticks.{longTicks}
 use Rattle.exact_ticks.proofs.Exact.{mean-exact}

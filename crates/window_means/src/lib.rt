@@ -1,5 +1,7 @@
 // Writing the mean of each bar's window: by running sums where the prices are whole ticks, and else each window summed
 // afresh, sixteen bars at a time.
+pub mod ranges;
+
 use windows::Lanes;
 ghost use mathlib.Core.Path.{_≡_};
 ghost use mathlib.Core.Bool.{true};
@@ -90,7 +92,7 @@ pub fn write_means_of_ticks(series: &[f64], n: usize, means: &mut [f64])
     ensures { λ _. ⌜ Writing (length (now (series .entry))) (mean n (line (now (series .entry)))) (now (means .entry))
         (now (means .exit)) ⌝ }
 {
-    sliding_means::write_means(series, n, means);
+    windows::sliding::write_means(series, n, means);
 }
 
 // Whether it pays to know that the prices are whole ticks, and they are: where the window is long, running sums are
@@ -99,7 +101,7 @@ pub fn are_long_ticks(series: &[f64], n: usize) -> bool
     ensures { λ r. ⌜ r ≡ longTicks n (now (series .entry)) ⌝ }
 {
     if n > 12 {
-        values_series::all_ticks(series)
+        values::series::all_ticks(series)
     } else {
         false
     }

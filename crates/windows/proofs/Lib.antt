@@ -1,3 +1,5 @@
 pub mod Eight
 pub mod Runs
 pub mod Window
+pub mod Means
+pub mod Zeros

@@ -1,5 +1,7 @@
 // Sums and means of windows, each summed afresh from left to right: of one bar, and of eight or sixteen bars side by
-// side.
+// side. `sliding` has the means by running sums.
+pub mod sliding;
+
 ghost use mathlib.Core.Path.{_≡_};
 ghost use Prim.Native.Nat.{_+_, _≤_};
 ghost use lib.ListN.{length};

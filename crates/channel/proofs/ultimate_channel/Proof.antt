@@ -8,8 +8,8 @@ use denote.Ref.{now}
 use Rattle.cells.proofs.Touched.{untouched}
 use Rattle.checks.proofs.Due.{some-due}
 use Rattle.outer_lines.proofs.Calls.{written-band-call, empty-band-call}
-use Rattle.channel_widths.specs.inner.Ready.{Ready}
-use Rattle.channel_widths.proofs.Stages.{channel-clearable, channel-bars, channel-ready}
+use Rattle.channel.specs.inner.Ready.{Ready}
+use Rattle.channel.proofs.Stages.{channel-clearable, channel-bars, channel-ready}
 use Rattle.channel.proofs.ultimate_channel.Statement.{statement}
 use Rattle.channel.proofs.ultimate_channel.Tie as tie
 

@@ -7,8 +7,8 @@ use lib.Ieee.{Float}
 use Rattle.limits.specs.Limits.{Window}
 use Rattle.cells.specs.Line.{Line}
 use Rattle.cells.specs.Written.{Writing}
-use Rattle.work_rows.specs.inner.Scratch.{Scratch}
-use Rattle.holt_winters_bar.specs.declared.Weights.{Weights}
+use Rattle.cells.specs.inner.Scratch.{Scratch}
+use Rattle.holt_winters.specs.declared.Weights.{Weights}
 use Rattle.holt_winters.specs.HoltWinters.{firstFit, fitLine, holtWintersLine}
 
 -- a season that is not longer than the series, a cell for each bar, and eight rows of work cells

@@ -12,8 +12,8 @@ use Rattle.cells.specs.Line.{line}
 use Rattle.cells.specs.Written.{Writing}
 use Rattle.cells.proofs.Written.{one-more}
 use Rattle.cells.proofs.Leads.{lead-stands, lead-then}
-use Rattle.jurik_bar.specs.Jurik.{swings, leaned}
-use Rattle.jurik_bar.specs.inner.Passes.{Other, blendedOnce, blendedTwice}
+use Rattle.jurik.specs.Jurik.{swings, leaned}
+use Rattle.jurik.specs.inner.Passes.{Other, blendedOnce, blendedTwice}
 use Rattle.jurik.proofs.Fused.{begun, begun-twice, at-last, next-blend, lean-at, other-more}
 use Rattle.jurik.proofs.average_twice.Statement.{statement}
 use Rattle.jurik.proofs.average_twice.Tie as tie

@@ -7,7 +7,7 @@ use denote.Ref.{now}
 use lib.ListN.{length}
 use Rattle.cells.proofs.Touched.{untouched}
 use Rattle.checks.proofs.Due.{some-due, written-call, empty-call}
-use Rattle.jurik_bar.specs.inner.Passes.{Ready}
+use Rattle.jurik.specs.inner.Passes.{Ready}
 use Rattle.jurik.proofs.Stages.{jurik-clearable, jurik-bars, jurik-ready}
 use Rattle.jurik.proofs.jurik_volty.Statement.{statement}
 use Rattle.jurik.proofs.jurik_volty.Tie as tie

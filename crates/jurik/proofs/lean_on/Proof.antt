@@ -12,7 +12,7 @@ use Rattle.cells.specs.Written.{Writing}
 use Rattle.cells.proofs.Written.{none-written, one-more, ends}
 use Rattle.cells.proofs.Leads.{not-yet}
 use Rattle.changes.specs.Changes.{earlier}
-use Rattle.jurik_bar.specs.Jurik.{leaned}
+use Rattle.jurik.specs.Jurik.{leaned}
 use Rattle.jurik.proofs.Stages.{leaned-is}
 use Rattle.jurik.proofs.lean_on.Statement.{statement}
 use Rattle.jurik.proofs.lean_on.Tie as tie

@@ -1,7 +1,7 @@
 -- `leaned_by` meets its contract: the formula, where both are numbers. Assumes nothing.
 use lib.Ieee.{ofBits}
-use Rattle.jurik_bar.specs.Jurik.{lean}
-use Rattle.jurik_bar.proofs.Passes.{self-equal}
+use Rattle.jurik.specs.Jurik.{lean}
+use Rattle.jurik.proofs.TwoPasses.{self-equal}
 use Rattle.jurik.proofs.leaned_by.Statement.{statement}
 use Rattle.jurik.proofs.leaned_by.Tie as tie
 

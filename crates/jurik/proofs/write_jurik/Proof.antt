@@ -8,8 +8,8 @@ use Rattle.cells.specs.Line.{line, plusZero}
 use Rattle.cells.specs.Search.{nonZero}
 use Rattle.cells.proofs.Touched.{written-over-all}
 use Rattle.cells.proofs.Written.{writing-same}
-use Rattle.averages_blend.specs.Blend.{emaAlpha}
-use Rattle.jurik_bar.specs.inner.Passes.{tested}
+use Rattle.averages.specs.Blend.{emaAlpha}
+use Rattle.jurik.specs.inner.Passes.{tested}
 use Rattle.jurik.proofs.Fused.{averages-then}
 use Rattle.jurik.proofs.Stages.{next-stage, local-tested}
 use Rattle.jurik.proofs.write_jurik.Statement.{statement}

@@ -8,9 +8,9 @@ use lib.Ieee.{nan, ofBits}
 use Rattle.cells.specs.Line.{plusZero}
 use Rattle.cells.specs.Search.{nonZero}
 use Rattle.windows.proofs.Window.{count-is-float}
-use Rattle.averages_blend.specs.Blend.{emaAlpha}
-use Rattle.jurik_bar.specs.Jurik.{isNumber, once, twice, leaned, jurikWith, jurikLine}
-use Rattle.jurik_bar.specs.inner.Passes.{tested}
+use Rattle.averages.specs.Blend.{emaAlpha}
+use Rattle.jurik.specs.Jurik.{isNumber, once, twice, leaned, jurikWith, jurikLine}
+use Rattle.jurik.specs.inner.Passes.{tested}
 use Rattle.jurik.proofs.Causal.{causal-leaned}
 use Rattle.jurik.proofs.Stages.{next-stage, local-causal, local-tested}
 use Rattle.jurik.proofs.write_passes.Statement.{statement}

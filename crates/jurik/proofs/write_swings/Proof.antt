@@ -7,7 +7,7 @@ use Rattle.cells.specs.Line.{line}
 use Rattle.cells.specs.Written.{Writing}
 use Rattle.cells.proofs.Written.{one-more}
 use Rattle.cells.proofs.Leads.{lead-stands, lead-then}
-use Rattle.jurik_bar.specs.Jurik.{swings}
+use Rattle.jurik.specs.Jurik.{swings}
 use Rattle.jurik.proofs.write_swings.Statement.{statement}
 use Rattle.jurik.proofs.write_swings.Tie as tie
 

@@ -5,7 +5,7 @@ use borrow.Author.Needs.{needs}
 use lib.ListN.{length}
 use Rattle.cells.specs.Written.{Writing}
 use Rattle.cells.proofs.Written.{one-more, ends}
-use Rattle.oscillator_ticks.specs.inner.Begun.{afresh}
+use Rattle.oscillator.specs.inner.Begun.{afresh}
 use Rattle.oscillator.proofs.cells_by_one.Statement.{statement}
 use Rattle.oscillator.proofs.cells_by_one.Tie as tie
 

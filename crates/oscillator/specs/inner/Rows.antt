@@ -8,8 +8,8 @@ use Rattle.limits.specs.Limits.{Window}
 use Rattle.checks.specs.inner.Three.{ValuesOfThree}
 use Rattle.cells.specs.Written.{Writing}
 use Rattle.windows.specs.declared.Lanes.{Lanes}
-use Rattle.oscillator_bar.specs.Oscillator.{ratio, weighed}
-use Rattle.oscillator_ticks.specs.inner.Begun.{Windows₃, afresh}
+use Rattle.oscillator.specs.Oscillator.{ratio, weighed}
+use Rattle.oscillator.specs.inner.Begun.{Windows₃, afresh}
 
 -- three series of one length with accepted values, three windows, a cell for each bar, and eight rows of work cells
 pub record Ready (high low close : List Float) (n m k out work : ℕ) : Type 0 where

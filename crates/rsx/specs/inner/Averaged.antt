@@ -6,7 +6,7 @@ use lib.ListN.{length}
 use lib.Ieee.{Float}
 use Rattle.limits.specs.Limits.{Window, longestPeriod}
 use Rattle.cells.specs.Line.{Line}
-use Rattle.averages_exponential.specs.ExponentialSmoothing.{exponentialLine}
+use Rattle.averages.specs.ExponentialSmoothing.{exponentialLine}
 use Rattle.changes.specs.declared.Averages.{Averages}
 use Rattle.changes.specs.Changes.{gains, losses}
 

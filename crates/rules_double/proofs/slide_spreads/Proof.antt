@@ -9,9 +9,9 @@ use lib.Ieee.{binary64, ofBits, ofInt}
 use Rattle.cells.specs.Line.{line}
 use Rattle.cells.specs.Written.{Writing}
 use Rattle.cells.proofs.Written.{one-more, step, ends}
-use Rattle.rules_double_bar.specs.Double.{doubleLine}
-use Rattle.rules_double_bar.specs.inner.Ticks.{ticksOf, spread}
-use Rattle.rules_double_bar.proofs.Spread.{
+use Rattle.rules_double.specs.Double.{doubleLine}
+use Rattle.rules_double.specs.inner.Ticks.{ticksOf, spread}
+use Rattle.rules_double.proofs.Spread.{
   InParts,
   after-one,
   after-two,

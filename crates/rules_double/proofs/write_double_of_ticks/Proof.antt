@@ -8,8 +8,8 @@ use lib.Ieee.{ofBits}
 use Rattle.cells.proofs.Leads.{lead-then}
 use Rattle.cells.proofs.Written.{stands, then-written}
 use Rattle.exact_ticks.proofs.TickMeans.{tick-line}
-use Rattle.rules_double_bar.specs.inner.Ticks.{OverTicks}
-use Rattle.rules_double_bar.proofs.Spread.{first-position, spread-number}
+use Rattle.rules_double.specs.inner.Ticks.{OverTicks}
+use Rattle.rules_double.proofs.Spread.{first-position, spread-number}
 use Rattle.rules_double.proofs.write_double_of_ticks.Statement.{statement}
 use Rattle.rules_double.proofs.write_double_of_ticks.Tie as tie
 

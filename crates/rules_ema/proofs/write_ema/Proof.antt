@@ -1,7 +1,7 @@
 -- `write_ema` meets its contract: each way of writing the positions does, and where the running sums do not decide, the
 -- means write over what they wrote. Assumes nothing.
 use borrow.Author.Needs.{needs}
-use Rattle.work_rows.proofs.Finished.{then-finished}
+use Rattle.cells.proofs.Finished.{then-finished}
 use Rattle.rules_ema.proofs.write_ema.Statement.{statement}
 use Rattle.rules_ema.proofs.write_ema.Tie as tie
 

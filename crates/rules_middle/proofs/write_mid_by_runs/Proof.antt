@@ -10,7 +10,7 @@ use Rattle.cells.proofs.Touched.{untouched, touched, touched-more}
 use Rattle.cells.proofs.Written.{then-written, writing-same}
 use Rattle.extremes.specs.Extreme.{larger, smaller, extreme}
 use Rattle.extremes.proofs.Extreme.{causal-extreme}
-use Rattle.mean_ranges.proofs.Through.{both-through}
+use Rattle.window_means.proofs.Through.{both-through}
 use Rattle.rules_middle.proofs.Middle.{standing}
 use Rattle.rules_middle.proofs.Runs.{runs-room, by-runs}
 use Rattle.rules_middle.proofs.write_mid_by_runs.Statement.{statement}

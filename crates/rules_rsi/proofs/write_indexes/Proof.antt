@@ -7,8 +7,8 @@ use Rattle.cells.specs.Line.{line}
 use Rattle.cells.specs.Written.{Writing}
 use Rattle.cells.proofs.Written.{none-written, stands, then-written, ends}
 use Rattle.windows.specs.Window.{mean}
-use Rattle.rules_rsi_bar.specs.RsiReverse.{rsiBefore}
-use Rattle.rules_rsi_bar.proofs.Rows.{still-changed}
+use Rattle.rules_rsi.specs.RsiReverse.{rsiBefore}
+use Rattle.rules_rsi.proofs.Rows.{still-changed}
 use Rattle.rules_rsi.proofs.write_indexes.Statement.{statement}
 use Rattle.rules_rsi.proofs.write_indexes.Tie as tie
 

@@ -5,7 +5,7 @@ use borrow.Author.Needs.{needs}
 use denote.Ref.{now}
 use lib.ListN.{length}
 use Rattle.cells.proofs.Written.{one-more}
-use Rattle.rules_rsi_bar.proofs.Rows.{whole-sixteen}
+use Rattle.rules_rsi.proofs.Rows.{whole-sixteen}
 use Rattle.rules_rsi.proofs.write_some.Statement.{statement}
 use Rattle.rules_rsi.proofs.write_some.Tie as tie
 

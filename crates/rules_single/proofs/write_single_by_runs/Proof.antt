@@ -8,8 +8,8 @@ use denote.Ref.{now}
 use Rattle.cells.proofs.Parts.{part-long, through}
 use Rattle.cells.proofs.Touched.{untouched, touched, touched-more}
 use Rattle.cells.proofs.Written.{then-written, writing-same}
-use Rattle.sliding_means.specs.inner.Means.{runMeans}
-use Rattle.sliding_means.proofs.Means.{causal-run-means}
+use Rattle.windows.specs.inner.Means.{runMeans}
+use Rattle.windows.proofs.Means.{causal-run-means}
 use Rattle.rules_single.proofs.Runs.{by-runs}
 use Rattle.rules_single.proofs.write_single_by_runs.Statement.{statement}
 use Rattle.rules_single.proofs.write_single_by_runs.Tie as tie

@@ -4,7 +4,7 @@ use mathlib.Core.Path.{sym}
 use native.Mathlib.Omega.{arith}
 use borrow.Author.Needs.{needs}
 use lib.ListN.{length-take, length-drop}
-use Rattle.cells.proofs.Rows.{lent-on}
+use Rattle.cells.proofs.RowWrites.{lent-on}
 use Rattle.cells.proofs.Touched.{touched, touched-more}
 use Rattle.cells.proofs.Written.{stands, then-written}
 use Rattle.cells.proofs.Parts.{part-long, through}
