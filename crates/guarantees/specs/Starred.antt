@@ -5,7 +5,8 @@ use mathlib.Core.List.{List, [], _∷_, map}
 use Prim.Native.Nat.{ℕ, _*_}
 use lib.IntN.{ℤ, pos, negsuc}
 use lib.ListN.{length}
-use lib.Ieee.{Float, nan, fin, binary64, add, sub, mul, div, ofInt, toSigned, whole, lt, eq, le, toBits, neg, round}
+use lib.Ieee.{Float, nan, fin, binary64, add, sub, mul, div, ofInt, toSigned, lt, eq, le, toBits, neg, round}
+use lib.Ieee as ieee
 use Rattle.rounding.specs.Whole.{total}
 use Rattle.rounding.specs.Leaves.{signOf, magnitudeOf, roundToWhole}
 use Rattle.calls.specs.declared.Answer.{Answer}
@@ -32,12 +33,13 @@ use Rattle.ranks.specs.Counted.{countFrom}
 use Rattle.rounding.specs.Literals.{tenToMinus}
 use Rattle.rounding_root.specs.Root.{nearestRoot, root, rootBelow, sqrtOf}
 use Rattle.rules_held.specs.Held.{hold, moved}
-use Rattle.holt_winters.specs.HoltWinters.{weights, fitLine, fitsAfter, withNext, nextFit, holtWintersLine, holtWintersAnswer}
+use Rattle.holt_winters.specs.HoltWinters.{weights, fitLine, fitsAfter, withNext, nextFit}
+use Rattle.holt_winters.specs.HoltWinters.{holtWintersLine, holtWintersAnswer}
 
 -- a cell of an output: an f64 or a whole number
 pub data Cell : Type 0 where
   number : Float → Cell
-  ticks : ℤ → Cell
+  whole : ℤ → Cell
 
 -- a function with its parameters
 pub data Function : Type 0 where
@@ -77,12 +79,12 @@ table =
     ∷ star (oneAverage 2) (1 ∷ 3 ∷ 5 ∷ []) (float 0 ∷ float 0 ∷ float 1 ∷ [])
     ∷ star (rank 2) (1 ∷ 2 ∷ 3 ∷ []) (float 0 ∷ float 0 ∷ float 1 ∷ [])
     ∷ star (rank 1) (5 ∷ []) (number nan ∷ [])
-    ∷ star (rollingRank 2) (3 ∷ 1 ∷ 2 ∷ []) (ticks (pos 0) ∷ ticks (pos 1) ∷ ticks (pos 2) ∷ [])
+    ∷ star (rollingRank 2) (3 ∷ 1 ∷ 2 ∷ []) (whole (pos 0) ∷ whole (pos 1) ∷ whole (pos 2) ∷ [])
     ∷ star (mms 1 2) (1 ∷ 3 ∷ 2 ∷ []) (float 0 ∷ float 1 ∷ number minusOne ∷ [])
-    ∷ star (bollReverse 2 oneHalf) (4 ∷ 4 ∷ 8 ∷ []) (ticks (pos 0) ∷ ticks (pos 0) ∷ ticks (negsuc 0) ∷ [])
+    ∷ star (bollReverse 2 oneHalf) (4 ∷ 4 ∷ 8 ∷ []) (whole (pos 0) ∷ whole (pos 0) ∷ whole (negsuc 0) ∷ [])
     ∷ star (ema 3) (2 ∷ 4 ∷ 6 ∷ 10 ∷ []) (number nan ∷ number nan ∷ float 4 ∷ float 7 ∷ [])
     ∷ star (holtWinters 1 oneHalf (num 0) (num 0)) (4 ∷ 6 ∷ []) (float 4 ∷ float 5 ∷ [])
-    ∷ star (tickMean 2) (2 ∷ 3 ∷ []) (ticks (pos 0) ∷ ticks (pos 3) ∷ [])
+    ∷ star (tickMean 2) (2 ∷ 3 ∷ []) (whole (pos 0) ∷ whole (pos 3) ∷ [])
     ∷ []
 
 -- what the definitions answer and write, where the slices are just long enough
@@ -101,13 +103,13 @@ answerOf (holtWinters m a b c) s = holtWintersAnswer s m (weights a b c) (length
 abbrev pub cellsOf : Function → List Float → ℕ → List Cell
 cellsOf (sma n) s k = map number (firstCells k (smaLine n (line s)))
 cellsOf (ema n) s k = map number (firstCells k (emaLine n (line s)))
-cellsOf (tickMean n) s k = map ticks (firstCells k (tickMeanLine n (line s)))
+cellsOf (tickMean n) s k = map whole (firstCells k (tickMeanLine n (line s)))
 cellsOf (oneAverage n) s k = map number (firstCells k (singleLine n (line s)))
 cellsOf (double n m) s k = map number (firstCells k (doubleLine n m (line s)))
 cellsOf (rank n) s k = map number (firstCells k (rankLine n (line s)))
-cellsOf (rollingRank w) s k = map (λ c. ticks (pos c)) (firstCells k (rollingRankLine w (line s)))
+cellsOf (rollingRank w) s k = map (λ c. whole (pos c)) (firstCells k (rollingRankLine w (line s)))
 cellsOf (mms n w) s k = map number (firstCells k (mmsLine n w (line s)))
-cellsOf (bollReverse n x) s k = map ticks (firstCells k (bollReverseLine n x (line s)))
+cellsOf (bollReverse n x) s k = map whole (firstCells k (bollReverseLine n x (line s)))
 cellsOf (holtWinters m a b c) s k = map number (firstCells k (holtWintersLine m (weights a b c) (line s)))
 
 abbrev pub found : Case → Case
@@ -119,7 +121,7 @@ found c =
 pub starred : map found table ≡ table
 unfolding smaLine carried total toTick tickMeanLine singleLine runningMean doubleLine doubleAnswer mean windowSum
     sumFrom runningSum recur fromBar slices checked windowed answered accepted tick signOf add sub mul div ofInt
-    toSigned whole lt eq le toBits rankLine wholeRank belowNow countFrom roundToWhole round rollingRankLine
+    toSigned ieee.whole lt eq le toBits rankLine wholeRank belowNow countFrom roundToWhole round rollingRankLine
     rollingRankAnswer tenToMinus magnitudeOf neg mmsLine extreme pickFrom turnedBands bandSignals bandAnswer hold moved
     deviation sqrtOf nearestRoot root rootBelow finite holtWintersLine holtWintersAnswer fitLine fitsAfter withNext
     nextFit

@@ -1,8 +1,10 @@
 -- jurik_volty at small series, with the cells that pure.rs gave, and its answers. Assumes nothing.
 use mathlib.Core.Path.{_≡_, refl}
 use mathlib.Core.List.{[], _∷_}
+use Prim.Native.Nat.{suc}
 use lib.IntN.{pos, negsuc}
 use lib.Ieee.{nan, binary64, round, neg, add, sub, mul, div, lt, eq, le, ofInt, ofBits, toBits, isNan}
+use Rattle.limits.specs.Limits.{longestWindow}
 use Rattle.rounding.specs.Leaves.{plusOne, magnitudeOf}
 use Rattle.rounding.specs.Literals.{half}
 use Rattle.values.specs.Accepted.{accepted, finite}
@@ -74,9 +76,9 @@ unfolding jurikLine jurikWith once twice lean leaned swings averaged copied firs
 jurik-zeros = (refl, refl, refl)
 
 -- one bar; a power that is not finite before a window too long; a window of 0; no bars
-jurik-answers : jurikAnswer (plusZero ∷ []) 4096 half 1 8
-    ∷ jurikAnswer (plusZero ∷ []) 4097 nan 1 8
-    ∷ jurikAnswer (plusZero ∷ []) 4097 half 1 8
+jurik-answers : jurikAnswer (plusZero ∷ []) longestWindow half 1 8
+    ∷ jurikAnswer (plusZero ∷ []) (suc longestWindow) nan 1 8
+    ∷ jurikAnswer (plusZero ∷ []) (suc longestWindow) half 1 8
     ∷ jurikAnswer (plusZero ∷ []) 0 half 1 8
     ∷ jurikAnswer [] 3 half 0 0
     ∷ []

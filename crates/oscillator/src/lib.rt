@@ -3,7 +3,7 @@ pub mod bar;
 pub mod ticks;
 
 use calls::Answer;
-use windows::Lanes;
+use windows::Eight;
 use windows::Sixteen;
 ghost use mathlib.Core.Path.{_≡_};
 ghost use Prim.Native.Nat.{_*_, _≤_, max};
@@ -47,10 +47,10 @@ fn share_at(f: &[f64], g: &[f64], n: usize, i: usize) -> f64
 }
 
 // Each lane of x over that of y.
-fn ratios(x: Lanes, y: Lanes) -> Lanes
+fn ratios(x: Eight, y: Eight) -> Eight
     ensures { λ r. ⌜ r ≡ eachRatio x y ⌝ }
 {
-    Lanes {
+    Eight {
         lane0: bar::ratio_of(x.lane0, y.lane0),
         lane1: bar::ratio_of(x.lane1, y.lane1),
         lane2: bar::ratio_of(x.lane2, y.lane2),
@@ -63,10 +63,10 @@ fn ratios(x: Lanes, y: Lanes) -> Lanes
 }
 
 // The lanes of three shares, weighed.
-fn weigh_lanes(x: Lanes, y: Lanes, z: Lanes) -> Lanes
+fn weigh_lanes(x: Eight, y: Eight, z: Eight) -> Eight
     ensures { λ r. ⌜ r ≡ eachWeighed x y z ⌝ }
 {
-    Lanes {
+    Eight {
         lane0: bar::weigh(x.lane0, y.lane0, z.lane0),
         lane1: bar::weigh(x.lane1, y.lane1, z.lane1),
         lane2: bar::weigh(x.lane2, y.lane2, z.lane2),

@@ -2,9 +2,10 @@
 use mathlib.Core.Path.{_≡_, refl}
 use mathlib.Core.Bool.{true, false}
 use mathlib.Core.List.{[], _∷_}
-use Prim.Native.Nat.{ℕ}
+use Prim.Native.Nat.{ℕ, suc}
 use lib.IntN.{pos, negsuc}
 use lib.Ieee.{Float, nan, inf, binary64, round, add, sub, mul, div, lt, eq, le, ofInt, ofBits, toBits}
+use Rattle.limits.specs.Limits.{longestWindow}
 use Rattle.rounding.specs.Leaves.{plusOne}
 use Rattle.rounding.specs.Literals.{half, tenToMinus}
 use Rattle.rounding_root.specs.Root.{sqrtOf}
@@ -79,8 +80,8 @@ reverse-edges = (refl, refl, refl, refl, refl, refl)
 
 -- one bar; a k that is not finite comes before a window too long; a window of 0 after both; no bars
 band-answers : bandAnswer (plusZero ∷ []) 1 half 1 8
-    ∷ bandAnswer (plusZero ∷ []) 4097 nan 1 8
-    ∷ bandAnswer (plusZero ∷ []) 4097 half 1 8
+    ∷ bandAnswer (plusZero ∷ []) (suc longestWindow) nan 1 8
+    ∷ bandAnswer (plusZero ∷ []) (suc longestWindow) half 1 8
     ∷ bandAnswer (plusZero ∷ []) 0 (inf true) 1 8
     ∷ bandAnswer (plusZero ∷ []) 0 half 1 8
     ∷ bandAnswer [] 1 half 0 0

@@ -7,11 +7,12 @@ ghost use mathlib.Core.Path.{_≡_};
 ghost use lib.ListN.{length};
 ghost use Rattle.cells.specs.Line.{line};
 ghost use Rattle.cells.specs.Written.{Writing};
+ghost use Rattle.cells.specs.inner.MoreWritten.{MoreWritten};
 ghost use Rattle.cells.specs.inner.Touched.{Touched};
 ghost use Rattle.windows.specs.inner.Eight.{WindowRoom};
 ghost use Rattle.checks.specs.inner.Due.{Priced};
 ghost use Rattle.rules_bands.specs.Boll.{bandAnswer};
-ghost use Rattle.rules_bands.specs.inner.Stages.{bandPositions, bandsLine, Begun, Further};
+ghost use Rattle.rules_bands.specs.inner.Stages.{bandPositions, bandsLine, PositionsBefore};
 
 // The answer of both: refusal 6 for k comes after the series' own refusals, and before those of the window.
 pub fn answer_bands(series: &[f64], n: usize, k: f64, out: usize, work: usize) -> Answer
@@ -34,9 +35,9 @@ fn write_some_positions(
     i: usize,
     out: &mut [i32],
 ) -> usize
-    requires { ⌜ Begun n (now means) i (bandPositions reverse n k (line (now means))) (now out) ⌝ }
-    ensures { λ r. ⌜ Further (now (means .entry)) i (bandPositions reverse n k (line (now (means .entry)))) r
-        (now (out .entry)) (now (out .exit)) ⌝ }
+    requires { ⌜ PositionsBefore n (now means) i (bandPositions reverse n k (line (now means))) (now out) ⌝ }
+    ensures { λ r. ⌜ MoreWritten (bandPositions reverse n k (line (now (means .entry)))) (length (now (means .entry)))
+        i r (now (out .entry)) (now (out .exit)) ⌝ }
 {
     let mut middles = [0.0; 8];
     let mut variances = [0.0; 8];

@@ -19,8 +19,8 @@ use Rattle.cells.proofs.Leads.{not-yet}
 use Rattle.cells.proofs.RowWrites.{beside-first, beside-second}
 use Rattle.cells.proofs.Touched.{touched, touched-then, touched-more}
 use Rattle.cells.proofs.Written.{read-back, writing-same}
-use Rattle.windows.specs.declared.Lanes.{Lanes}
-use Rattle.windows.specs.inner.Eight.{Eight}
+use Rattle.windows.specs.declared.Eight.{Eight}
+use Rattle.windows.specs.inner.Eight.{EightOf}
 use Rattle.windows.specs.Window.{sumFrom, windowSum, mean}
 use Rattle.windows.proofs.Zeros.{EitherZero, either-above, either-plus, sums-from-either}
 use Rattle.window_means.specs.inner.Row.{RowHolds}
@@ -179,9 +179,9 @@ full-index n j g p q h =
     let count : changesBefore n j ≡ n = omega arith in
     rw count at (index-is n j g p q (omega arith))
 
-pub eight-indexes : (n i : ℕ) (g : Line) {up down r : Lanes} → Eight (sumBefore n (gains g)) i up
-    → Eight (sumBefore n (losses g)) i down
-    → r ≡ eachIndex (ofInt binary64 (pos n)) up down → 2 * n ≤ i → Eight (rsiBefore n g) i r
+pub eight-indexes : (n i : ℕ) (g : Line) {up down r : Eight} → EightOf (sumBefore n (gains g)) i up
+    → EightOf (sumBefore n (losses g)) i down
+    → r ≡ eachIndex (ofInt binary64 (pos n)) up down → 2 * n ≤ i → EightOf (rsiBefore n g) i r
 eight-indexes n i g u d e h =
     rw e
     (record {

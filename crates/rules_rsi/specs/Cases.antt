@@ -2,9 +2,10 @@
 use mathlib.Core.Path.{_≡_, refl}
 use mathlib.Core.Bool.{true, false}
 use mathlib.Core.List.{List, [], _∷_}
-use Prim.Native.Nat.{ℕ}
+use Prim.Native.Nat.{ℕ, suc}
 use lib.IntN.{ℤ, pos}
 use lib.Ieee.{Float, nan, inf, round, neg, add, sub, mul, div, lt, eq, le, ofInt, ofBits, toBits}
+use Rattle.limits.specs.Limits.{longestWindow}
 use Rattle.rounding.specs.Leaves.{minusOne}
 use Rattle.rounding.specs.Literals.{half, hundred}
 use Rattle.calls.specs.declared.Refusal.the-variants.{ParameterNotFinite, WindowTooLong}
@@ -60,10 +61,10 @@ rsi-reverse-least = refl
 
 -- one bar; each of the three levels not finite, before a window too long; a window of 0; no bars
 rsi-reverse-answers : rsiReverseAnswer (plusZero ∷ []) 1 hundred plusZero half 1 8
-    ∷ rsiReverseAnswer (plusZero ∷ []) 4097 nan plusZero half 1 8
-    ∷ rsiReverseAnswer (plusZero ∷ []) 4097 hundred (inf false) half 1 8
-    ∷ rsiReverseAnswer (plusZero ∷ []) 4097 hundred plusZero (inf true) 1 8
-    ∷ rsiReverseAnswer (plusZero ∷ []) 4097 hundred plusZero half 1 8
+    ∷ rsiReverseAnswer (plusZero ∷ []) (suc longestWindow) nan plusZero half 1 8
+    ∷ rsiReverseAnswer (plusZero ∷ []) (suc longestWindow) hundred (inf false) half 1 8
+    ∷ rsiReverseAnswer (plusZero ∷ []) (suc longestWindow) hundred plusZero (inf true) 1 8
+    ∷ rsiReverseAnswer (plusZero ∷ []) (suc longestWindow) hundred plusZero half 1 8
     ∷ rsiReverseAnswer (plusZero ∷ []) 0 hundred plusZero half 1 8
     ∷ rsiReverseAnswer [] 1 hundred plusZero half 0 0
     ∷ []

@@ -4,7 +4,7 @@ pub mod held;
 
 use calls::Answer;
 use calls::Refusal;
-use windows::Lanes;
+use windows::Eight;
 ghost use mathlib.Core.Path.{_≡_};
 ghost use Prim.Native.Nat.{_+_, _*_, _<_, _≤_};
 ghost use lib.ListN.{length};
@@ -15,7 +15,7 @@ ghost use Rattle.cells.specs.inner.Touched.{Touched};
 ghost use Rattle.windows.specs.Window.{mean};
 ghost use Rattle.checks.specs.inner.Due.{Priced};
 ghost use Rattle.rules_rsi.specs.RsiReverse.{rsiBefore, rsiReverseLine, rsiReverseAnswer};
-ghost use Rattle.rules_rsi.specs.inner.Stages.{part, withParts, Changed, eachIndex, Begun, Further};
+ghost use Rattle.rules_rsi.specs.inner.Stages.{part, withParts, Changed, eachIndex, IndexesBefore, MoreIndexes};
 
 // The answer: refusal 6 for the levels comes after the series' own refusals, and before those of the window.
 pub fn answer_rsi_reverse(
@@ -76,10 +76,10 @@ fn write_changes(series: &[f64], n: usize, work: &mut [f64])
 }
 
 // The same for eight bars side by side.
-fn index_of_eight(up: Lanes, down: Lanes, count: f64) -> Lanes
+fn index_of_eight(up: Eight, down: Eight, count: f64) -> Eight
     ensures { λ r. ⌜ r ≡ eachIndex count up down ⌝ }
 {
-    Lanes {
+    Eight {
         lane0: bar::index_by(up.lane0, down.lane0, count),
         lane1: bar::index_by(up.lane1, down.lane1, count),
         lane2: bar::index_by(up.lane2, down.lane2, count),
@@ -93,7 +93,7 @@ fn index_of_eight(up: Lanes, down: Lanes, count: f64) -> Lanes
 
 // Writes the indexes of the sixteen bars from bar i on, which have n changes each, to the first row.
 fn write_sixteen(series: &[f64], n: usize, i: usize, work: &mut [f64])
-    requires { ⌜ Begun n (now series) i (now work) ⌝ }
+    requires { ⌜ IndexesBefore n (now series) i (now work) ⌝ }
     requires { ⌜ (2 * n ≤ i) × (i + 16 ≤ length (now series)) ⌝ }
     ensures { λ _. ⌜ Writing (i + 16) (rsiBefore n (mean n (line (now (series .entry))))) (now (work .entry))
         (now (work .exit)) ⌝ }
@@ -108,8 +108,8 @@ fn write_sixteen(series: &[f64], n: usize, i: usize, work: &mut [f64])
 
 // Writes the indexes of a few bars from bar i on to the first row, and gives how many they are.
 fn write_some(series: &[f64], n: usize, i: usize, work: &mut [f64]) -> usize
-    requires { ⌜ Begun n (now series) i (now work) ⌝ }
-    ensures { λ r. ⌜ Further n (now (series .entry)) i r (now (work .entry)) (now (work .exit)) ⌝ }
+    requires { ⌜ IndexesBefore n (now series) i (now work) ⌝ }
+    ensures { λ r. ⌜ MoreIndexes n (now (series .entry)) i r (now (work .entry)) (now (work .exit)) ⌝ }
 {
     let whole = (2 * n <= i) & (i + 16 <= series.len());
     if whole {

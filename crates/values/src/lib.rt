@@ -15,7 +15,7 @@ ghost use Rattle.values.specs.inner.Fraction.{comesBack};
 ghost use Rattle.limits.specs.Limits.{valuePower};
 
 // Whether x lies within 2^30. A NaN does not.
-pub fn is_near(x: f64) -> bool
+pub fn within_limit(x: f64) -> bool
     ensures { λ r. ⌜ r ≡ within valuePower x ⌝ }
 {
     if x >= -LARGEST_VALUE {

@@ -13,12 +13,12 @@ use Rattle.cells.specs.Line.{Line, line, plusZero, minusZero}
 use Rattle.cells.proofs.Line.{from-bar}
 use Rattle.cells.specs.Written.{Writing}
 use Rattle.cells.proofs.Written.{read-back, writing-same, then-written, stood}
-use Rattle.windows.specs.declared.Lanes.{Lanes}
+use Rattle.windows.specs.declared.Eight.{Eight}
 use Rattle.windows.specs.declared.Sixteen.{Sixteen}
-use Rattle.windows.specs.inner.Eight.{Eight, SixteenOf}
+use Rattle.windows.specs.inner.Eight.{EightOf, SixteenOf}
 use Rattle.windows.specs.Window.{over, sumFrom, windowSum, mean}
 use Rattle.windows.proofs.Window.{causal-mean}
-use Rattle.window_means.specs.inner.Row.{rowAt, meansOfRow, RowRoom, RowReached, RowHolds}
+use Rattle.window_means.specs.inner.Row.{rowAt, meansOfRow, RowRoom, RowUpTo, RowHolds}
 
 -- ---- a window of a row is one of the slice
 
@@ -83,8 +83,8 @@ module _ {from to bars n first e : ℕ} {old now : List Float} (g : RowRoom from
 
 -- ---- bars side by side
 
-pub eight-moved : (a b : ℕ) {f g : Line} {r : Lanes} → Eight g a r → ((k : ℕ) → k < 8 → g (a + k) ≡ f (b + k))
-    → Eight f b r
+pub eight-moved : (a b : ℕ) {f g : Line} {r : Eight} → EightOf g a r → ((k : ℕ) → k < 8 → g (a + k) ≡ f (b + k))
+    → EightOf f b r
 eight-moved a b {f} {g} e h =
     let first : g a ≡ f b = rw (add-zero, add-zero) at (h 0 (omega arith)) in
     record {
@@ -113,7 +113,7 @@ sixteen-moved a b {f} {g} e h = record {
 -- ---- on from a bar that was reached
 
 pub row-goes-on : {from to bars n first r e : ℕ} {old mid now : List Float} → RowRoom from to bars n first (length old)
-    → RowReached from to bars n first r old mid → Writing e (meansOfRow from to n r mid) mid now
+    → RowUpTo from to bars n first r old mid → Writing e (meansOfRow from to n r mid) mid now
     → (to + r ≤ e) × (e ≤ to + bars) → Writing e (meansOfRow from to n first old) old now
 row-goes-on {from} {to} {bars} {n} {first} {r} {e} {old} {mid} g w v (p, q) =
     writing-same (then-written (w .means) v p)
@@ -135,7 +135,7 @@ row-goes-on {from} {to} {bars} {n} {first} {r} {e} {old} {mid} g w v (p, q) =
 
 -- a row that was reached has room for the rest
 pub row-room : {from to bars n first r : ℕ} {old mid : List Float} → RowRoom from to bars n first (length old)
-    → RowReached from to bars n first r old mid → RowRoom from to bars n r (length mid)
+    → RowUpTo from to bars n first r old mid → RowRoom from to bars n r (length mid)
 row-room g w =
     let long = w .means .long in
     let on = w .on in

@@ -7,7 +7,8 @@ use lib.Ieee.{Float}
 use Rattle.limits.specs.Limits.{Window}
 use Rattle.checks.specs.inner.Three.{ValuesOfThree}
 use Rattle.cells.specs.Written.{Writing}
-use Rattle.windows.specs.declared.Lanes.{Lanes}
+use Rattle.windows.specs.declared.Eight.{Eight}
+use Rattle.windows.specs.inner.Eight.{eachLane}
 use Rattle.oscillator.specs.Oscillator.{ratio, weighed}
 use Rattle.oscillator.specs.inner.Begun.{Windows₃, afresh}
 
@@ -43,27 +44,9 @@ pub record Reached (n m k : ℕ) (f g : List Float) (from r : ℕ) (old now : Li
   pub cells : Writing r (afresh n m k f g) old now
 
 -- each lane of x over that of y
-abbrev pub eachRatio : Lanes → Lanes → Lanes
-eachRatio x y = record {
-  lane0 = ratio (x .lane0) (y .lane0);
-  lane1 = ratio (x .lane1) (y .lane1);
-  lane2 = ratio (x .lane2) (y .lane2);
-  lane3 = ratio (x .lane3) (y .lane3);
-  lane4 = ratio (x .lane4) (y .lane4);
-  lane5 = ratio (x .lane5) (y .lane5);
-  lane6 = ratio (x .lane6) (y .lane6);
-  lane7 = ratio (x .lane7) (y .lane7);
-}
+abbrev pub eachRatio : Eight → Eight → Eight
+eachRatio x y = eachLane (λ lane. ratio (lane x) (lane y))
 
 -- the lanes of three shares, weighed
-abbrev pub eachWeighed : Lanes → Lanes → Lanes → Lanes
-eachWeighed x y z = record {
-  lane0 = weighed (x .lane0) (y .lane0) (z .lane0);
-  lane1 = weighed (x .lane1) (y .lane1) (z .lane1);
-  lane2 = weighed (x .lane2) (y .lane2) (z .lane2);
-  lane3 = weighed (x .lane3) (y .lane3) (z .lane3);
-  lane4 = weighed (x .lane4) (y .lane4) (z .lane4);
-  lane5 = weighed (x .lane5) (y .lane5) (z .lane5);
-  lane6 = weighed (x .lane6) (y .lane6) (z .lane6);
-  lane7 = weighed (x .lane7) (y .lane7) (z .lane7);
-}
+abbrev pub eachWeighed : Eight → Eight → Eight → Eight
+eachWeighed x y z = eachLane (λ lane. weighed (lane x) (lane y) (lane z))
