@@ -2,7 +2,7 @@ pub mod Causal
 pub mod Stages
 pub mod Ticks
 pub mod Blending
-pub mod TwoParts
+pub mod WrittenParts
 pub mod TwoParts
 pub mod Sides
 pub mod Smoothed

@@ -14,7 +14,7 @@ use Rattle.averages.specs.inner.Blending.{blendFrom, Blending}
 use Rattle.averages.proofs.Blending.{more-blended}
 use Rattle.averages.specs.inner.Smoothing.{stored, BlendedRest, BlendedBoth}
 use Rattle.averages.proofs.Smoothed.{blended-cell}
-use Rattle.averages.proofs.TwoParts.{Parts, more-parts, joined}
+use Rattle.averages.proofs.WrittenParts.{Parts, more-parts, joined}
 
 module _ (alpha : Float) (first : ℕ) (seed : Float) (f : Line) where
   -- the first half is written up to bar `lo` and the second, from bar b on, up to bar `hi`

@@ -5,7 +5,7 @@ use native.Mathlib.Omega.{arith}
 use borrow.Author.Needs.{needs}
 use Rattle.cells.specs.Line.{line}
 use Rattle.averages.proofs.Blending.{seeded, at-bar}
-use Rattle.averages.proofs.TwoParts.{one-part}
+use Rattle.averages.proofs.WrittenParts.{one-part}
 use Rattle.averages.proofs.Sides.{Sides, sides-on, sides-end}
 use Rattle.averages.proofs.halves.blend_halves.Statement.{statement}
 use Rattle.averages.proofs.halves.blend_halves.Tie as tie
