@@ -5,11 +5,11 @@ use mathlib.Core.List.{List}
 use Prim.Native.Nat.{ℕ, _+_, _-_, _*_, _^_, _<_, _≤_, zero-le}
 use native.Mathlib.Nat.{mul-le-mul, mul-pos}
 use native.Mathlib.Omega.{arith}
-use lib.Dec.{T, lit<, le→leb}
+use lib.Dec.{T, lit<}
 use lib.IntN.{ℤ, pos, natAbs, _*ℤ_}
 use lib.ListN.{length}
 use lib.Signed.{ltZ}
-use lib.Ieee.{Float, nan, binary64, mul, lt, eq, ne, ofInt, inFloat, fits}
+use lib.Ieee.{Float, nan, binary64, mul, lt, eq, ne, ofInt, fits}
 use lib.Ieee.Compare.{differs-from-itself}
 use lib.Ieee.Exact.{HasValue}
 use Rattle.rounding.specs.Leaves.{plusOne, minusOne}
@@ -101,10 +101,6 @@ module _ {l : ℕ} {f : Line} {t : ℕ → ℤ} (w : TickLine l f t) (n : ℕ) (
       (λ q. other (sym (times-one (t i *ℤ pos (n * n))) ∙ q ∙ times-one D)) (lit< tt) in
       rw (scaled-exact, total-exact, order, times-one (t i *ℤ pos (n * n)), times-one D)
       (single-exact w n i N M p h some other)
-
-pub whole-is-float : (k : ℕ) → k ≤ 2 ^ 53 → T (inFloat binary64 (pos k))
-unfolding inFloat
-whole-is-float k h = le→leb k (2 ^ 53) h
 
 module _ {n : ℕ} {s now : List Float} (r : TickRows n s now) (floats : (i : ℕ) → T (fits binary64 (line s i))) (i : ℕ)
     (p : 2 * n ≤ i + 2) (h : i < length s) where
