@@ -16,7 +16,6 @@ use Rattle.calls.specs.declared.Refusal.the-variants.{
   OutputTooShort,
   WorkTooShort,
   ValueNotAccepted,
-  WindowTooLong,
 }
 use Rattle.calls.specs.declared.Answer.{Answer}
 use Rattle.calls.specs.declared.Answer.the-variants.{Cells, Refused}
@@ -79,11 +78,6 @@ pub checked-one : (ok : Float → Bool) (s : List Float) (outputs work : List �
     ≡ andThen (slices (length s ∷ []) outputs work) (unless (all ok s) ValueNotAccepted (Cells (length s)))
 unfolding checked
 checked-one ok s outputs work = rw (and-true (all ok s))
-
-pub windowed-one : (l n : ℕ) (next : Answer)
-    → windowed l (n ∷ []) next ≡ unless (leb n longestWindow) WindowTooLong (emptyIf (eqb l 0 || eqb n 0) next)
-unfolding windowed
-windowed-one l n next = rw (and-true (leb n longestWindow), or-false (eqb n 0))
 
 -- ---- what is known where a count was answered
 
@@ -158,7 +152,6 @@ each-window (n ∷ ns) e z =
 
 -- what is known of the parameters of a call of l bars that has cells, and what came after them
 pub record Asked (l : ℕ) (numbers : List Float) (windows periods : List ℕ) (next : Answer) (k : ℕ) : Type 0 where
-  pub finite-numbers : all finite numbers ≡ true
   pub short-periods : all (λ n. leb n longestPeriod) periods ≡ true
   pub some-periods : anyZero periods ≡ false
   pub each : EachWindow windows
@@ -176,7 +169,6 @@ asked l numbers windows periods next k e h =
     let some = or-parts (anyZero periods) _ (d .0) in
     let bars = or-parts (eqb l 0) (anyZero windows) (some .1) in
     record {
-      finite-numbers = a .0;
       short-periods = b .0;
       some-periods = some .0;
       each = each-window windows (c .0) (bars .1);

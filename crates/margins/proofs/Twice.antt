@@ -6,12 +6,12 @@ use Prim.Native.Nat.{ℕ, _+_, _*_, _^_, _<_, _≤_}
 use native.Mathlib.Nat.{le-refl, le-trans, mul-le-mul-left, mul-le-mul-right}
 use native.Mathlib.Omega.{arith}
 use lib.Dec.{T}
-use lib.IntN.{ℤ, natAbs, _-ℤ_}
+use lib.IntN.{natAbs, _-ℤ_}
 use lib.ListN.{length}
 use lib.Ieee.{Float, binary64, sub, lt, eq, fits}
 use Rattle.rounding.specs.Leaves.{signOf}
 use Rattle.rounding.specs.Nearest.{inUnits, signedUnits}
-use Rattle.rounding_laws.proofs.Integers.{abs-near}
+use Rattle.rounding_laws.proofs.Integers.{abs-same}
 use Rattle.limits.specs.Limits.{Window, longestSeries}
 use Rattle.values.specs.Accepted.{accepted, all}
 use Rattle.values.proofs.All.{and-parts}
@@ -89,10 +89,7 @@ module _ (s : List Float) (n : ℕ) (ok : all accepted s ≡ true) (floats : (j 
   pub once-near : (i : ℕ) → i < length s
       → natAbs (signedUnits binary64 (runningMeans n (line s) i) -ℤ signedUnits binary64 (mean n (line s) i)) * 2 ^ 53
       ≤ spread m 0
-  once-near = running-means-near prices prices short 0 (λ j l. same (signedUnits binary64 (line s j)))
-    where
-      same : (z : ℤ) → natAbs (z -ℤ z) * 2 ^ 53 ≤ 0
-      same z = let e = abs-near z z {e = 0} (omega arith) in omega arith
+  once-near = running-means-near prices prices short 0 (λ j l. omega (arith, abs-same (signedUnits binary64 (line s j))))
 
   -- the law: so are their averages
   twice-near : (i : ℕ) → i < length s

@@ -4,7 +4,7 @@ use mathlib.Core.List.{List}
 use Prim.Native.Nat.{ℕ, _+_, _-_, _*_, _<_, _≤_, max}
 use native.Mathlib.Nat.{le-refl}
 use native.Mathlib.Omega.{arith}
-use lib.ListN.{length, take, length-take}
+use lib.ListN.{length}
 use lib.Ieee.{Float, nan}
 use Rattle.cells.specs.Line.{Line, line, plusZero, minusZero, Same}
 use Rattle.cells.proofs.Carried.{from-same}
@@ -97,9 +97,6 @@ eight-cells z n m k i f g a b c h =
     }
 
 -- ---- from slices to lines
-
-pub taken-long : (k : ℕ) (s : List Float) → k ≤ length s → length (take k s) ≡ k
-taken-long k s h = rw length-take (omega arith)
 
 -- the rows are parts of slices that hold f and g
 pub from-parts : (n m k b : ℕ) (f g : Line) (p q : List Float) {old now : List Float}

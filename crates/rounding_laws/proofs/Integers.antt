@@ -159,6 +159,9 @@ module _ (a b : ℤ) {e : ℕ} where
       go (pos k) m = omega arith
       go (negsuc k) m = omega arith
 
+pub abs-same : (a : ℤ) → natAbs (a -ℤ a) ≡ 0
+abs-same a = let l = abs-near a a {e = 0} (omega arith) in omega arith
+
 -- how far apart two natural numbers are, and two integers
 abbrev pub gap : ℕ → ℕ → ℕ
 gap a b = (a - b) + (b - a)

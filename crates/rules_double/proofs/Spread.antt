@@ -1,15 +1,14 @@
 -- The spread of whole ticks: n · m times the short average less the long one. Each bar changes it by three products,
 -- all of it is exact, and its sign is the position. Assumes nothing.
-use mathlib.Core.Path.{_≡_, refl, sym, ap, _∙_}
-use mathlib.Core.Bool.{Bool, true, false, cond}
+use mathlib.Core.Path.{_≡_, sym, ap, _∙_}
+use mathlib.Core.Bool.{true, false, cond}
 use mathlib.Core.List.{List}
-use Prim.Native.Nat.{ℕ, zero, suc, _+_, _-_, _*_, _^_, _<_, _≤_, zero-le}
+use Prim.Native.Nat.{ℕ, suc, _+_, _-_, _*_, _^_, _<_, _≤_, zero-le}
 use native.Mathlib.Nat.{zero-add, mul-le-mul}
 use native.Mathlib.Omega.{arith}
 use lib.IntN.{ℤ, pos, negsuc, natAbs, _+ℤ_, _-ℤ_, _*ℤ_, +ℤ-assoc, +ℤ-idr}
 use lib.ListN.{length, set}
-use lib.Ieee.{Float, nan, inf, fin, binary64, add, sub, mul, ofInt, isNan}
-use lib.Ieee.Exact.{HasValue}
+use lib.Ieee.{Float, binary64, add, sub, mul, ofInt, isNan}
 use Rattle.rounding.specs.Leaves.{plusOne, minusOne, signOf}
 use Rattle.rounding.specs.Whole.{total, isNegative}
 use Rattle.rounding.proofs.Signs.{sign-round}
@@ -24,6 +23,7 @@ use Rattle.rounding_laws.proofs.Integers.{
 }
 use Rattle.rounding_laws.proofs.Products.{times, times-add, times-minus, add-times, minus-negative, total-parts}
 use Rattle.rounding_laws.proofs.About.{zero-is}
+use Rattle.rounding_laws.proofs.Value.{value-number}
 use Rattle.rounding_laws.proofs.Whole.{whole-value, add-whole, sub-whole, mul-whole}
 use Rattle.cells.specs.Line.{Line, plusZero, minusZero}
 use Rattle.cells.specs.Written.{Writing}
@@ -93,12 +93,6 @@ unfolding ofInt
 sign-whole (pos a) = sign-round false a 1
 sign-whole (negsuc a) = sign-round true (suc a) 1
 
-valued : (x : Float) (s : Bool) (a b : ℕ) → HasValue x s a b → isNan x ≡ false
-unfolding isNan
-valued nan s a b v = absurd v
-valued (inf s) s′ a b v = refl
-valued (fin s m e) s′ a b v = refl
-
 added : {x y : Float} (a b : ℤ) → x ≡ ofInt binary64 a → y ≡ ofInt binary64 b → natAbs a ≤ 2 ^ 53 → natAbs b ≤ 2 ^ 53
     → add binary64 x y ≡ ofInt binary64 (a +ℤ b)
 added a b p q h k = rw (p, q) (add-whole binary64 a b h k)
@@ -146,7 +140,7 @@ module _ {n m l : ℕ} {f : Line} {t : ℕ → ℤ} (o : BothFull n m l f t) whe
 
   pub spread-number : (i : ℕ) {x : Float} → m ≤ i → i ≤ l → x ≡ ofInt binary64 (spread n m t i)
       → isNan x ≡ false
-  spread-number i h u e = rw e (valued _ _ _ _ (whole-value binary64 (spread n m t i) (spread-small i h u)))
+  spread-number i h u e = rw e (value-number _ _ _ _ (whole-value binary64 (spread n m t i) (spread-small i h u)))
 
   pub spread-next : (i : ℕ) → m ≤ i → spread n m t (i + 1) ≡ spread n m t i +ℤ change n m t i
   unfolding spread change

@@ -6,13 +6,12 @@ use Prim.Native.Nat.{ℕ, _+_, _-_, _*_, _/_, _^_, _<_, _≤_}
 use native.Mathlib.Nat.{le-trans, mul-le-mul-left, mul-le-mul-right, le-of-mul-le-mul-right, div-add-mod', mod-lt}
 use native.Mathlib.Omega.{arith}
 use lib.Dec.{T, lit<}
-use lib.IntN.{ℤ, natAbs, _-ℤ_}
 use lib.Pow.{pow-pos}
 use lib.Ieee.{Float, nan, inf, fin, binary64, up, down, sub, lt, fits}
 use lib.Ieee.Fits.{down-pos, sub-fits, div-fits}
 use Rattle.rounding.specs.Leaves.{plusOne, negative, magnitudeOf, signOf}
 use Rattle.rounding.specs.Nearest.{inUnits, signedUnits}
-use Rattle.rounding_laws.proofs.Integers.{abs-near}
+use Rattle.rounding_laws.proofs.Integers.{abs-same}
 use Rattle.rounding_laws.proofs.Units.{worth}
 use lib.Ieee.Exact.{HasValue}
 use Rattle.rounding_order.proofs.Within.{Within, rest-share}
@@ -153,9 +152,6 @@ high = lit< tt
 eighth : (a e : ℕ) → a * 2 ^ 53 ≤ e → a * 2 ^ 56 ≤ 8 * e
 eighth a e h = omega arith
 
-same : (z : ℤ) → natAbs (z -ℤ z) * 2 ^ 53 ≤ 0
-same z = let e = abs-near z z {e = 0} (omega arith) in omega arith
-
 -- ---- the average
 
 -- all are far below the largest numbers
@@ -202,7 +198,7 @@ module _ {m n l : ℕ} {f : Line} (w : Windowed m n l f) (B : l ≤ longestSumme
         first-size = fewer m (m + more m) (average-size w r b (omega arith) (omega arith)) (one-more m);
         second-size = fewer m (m + more m) (average-size w o b (omega arith) (omega arith)) (one-more m);
         apart = eighth _ (spread m 0)
-            (average-near w w 0 (λ j k. same (signedUnits binary64 (f j))) i r b h L);
+            (average-near w w 0 (λ j k. omega (arith, abs-same (signedUnits binary64 (f j)))) i r b h L);
       })
 
   -- the mean of such means
@@ -212,7 +208,7 @@ module _ {m n l : ℕ} {f : Line} (w : Windowed m n l f) (B : l ≤ longestSumme
       let r = fresh running-means-wide i b h in
       let o = fresh means-wide i b h in
       let N = w .narrow in
-      let near = running-means-near w w B 0 (λ j k. same (signedUnits binary64 (f j))) in
+      let near = running-means-near w w B 0 (λ j k. omega (arith, abs-same (signedUnits binary64 (f j)))) in
       rw (← mean-of n i (runningMeans n f) refl b, ← mean-of n i (mean n f) refl b) (close-more (record {
         first = average-number running-means-wide r b (omega arith) (omega arith);
         second = average-number means-wide o b (omega arith) (omega arith);

@@ -5,14 +5,14 @@ use mathlib.Core.Bool.{true, false}
 use mathlib.Core.List.{List}
 use Prim.Native.Nat.{ℕ, _+_, _-_, _*_, _<_, _≤_}
 use native.Mathlib.Omega.{arith}
-use lib.ListN.{length, take, length-take}
+use lib.ListN.{length, take}
 use lib.Seq.{getD-take}
 use lib.Ieee.{Float, nan, eq}
 use Rattle.cells.specs.Line.{Line, line, plusZero}
 use Rattle.cells.proofs.Line.{before-bar}
 use Rattle.cells.specs.Written.{Writing}
 use Rattle.cells.proofs.Written.{read-back, writing-same, ends}
-use Rattle.cells.proofs.Parts.{part-long}
+use Rattle.cells.proofs.Parts.{taken-long, part-long}
 use Rattle.cells.specs.Search.{nonZero}
 use Rattle.windows.specs.Window.{over, windowSum, mean}
 use Rattle.windows.proofs.Window.{mean-of, first-running, same-bar}
@@ -23,20 +23,17 @@ use Rattle.rules_ema.specs.SingleEma.{firstUsable, singleEmaFrom, single
 use Rattle.rules_ema.proofs.Search.{usable-found}
 use Rattle.rules_ema.specs.inner.ByMargins.{HeadWritten}
 
-pub head-long : (k : ℕ) (s : List Float) → k ≤ length s → length (take k s) ≡ k
-head-long k s h = rw length-take (omega arith)
-
 -- k cells that are written for them
 pub head-part : (k : ℕ) (s : List Float) {g : Line} {old mid : List Float} → Writing (length (take k s)) g old mid
     → (k ≤ length s) × (k ≤ length old) → length (take k mid) ≡ k
-head-part k s w (h, room) = part-long (ends w (head-long k s h)) room
+head-part k s w (h, room) = part-long (ends w (taken-long k s h)) room
 
 -- the means by running sums of the first k bars
 pub head-means : (n k : ℕ) (s : List Float) {old mid : List Float}
     → Writing (length (take k s)) (runningMeans n (line (take k s))) old mid → (0 < n) × (k ≤ length s)
     → Writing k (runningMeans n (line s)) old mid
 head-means n k s w (some, h) =
-    writing-same (ends w (head-long k s h))
+    writing-same (ends w (taken-long k s h))
     (λ i l. causal-running-means n some (line (take k s)) (line s) i (λ j m. getD-take k s j nan (omega arith)))
 
 -- no mean before bar n - 1 is usable

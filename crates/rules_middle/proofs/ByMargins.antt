@@ -1,5 +1,5 @@
 -- The middle rule decided by running sums. Assumes nothing.
-use mathlib.Core.Path.{_≡_, _∙_, ap}
+use mathlib.Core.Path.{_≡_, _∙_}
 use mathlib.Core.Bool.{Bool, true}
 use mathlib.Core.List.{List}
 use Prim.Native.Nat.{ℕ, _+_, _-_, _*_, _<_, _≤_}
@@ -22,7 +22,7 @@ use Rattle.margins.proofs.Twice.{running-windowed}
 use Rattle.margins.proofs.Middle.{decided-middle}
 use Rattle.rules_middle.specs.Middle.{midLine}
 use Rattle.rules_middle.specs.inner.Positions.{positions}
-use Rattle.rules_middle.proofs.Middle.{middles-mid, Standing, positions-are}
+use Rattle.rules_middle.proofs.Middle.{Standing, positions-are}
 
 module _ (s : List Float) (n : ℕ) (ok : all accepted s ≡ true) (floats : (j : ℕ) → T (fits binary64 (line s j)))
     (w : Window n) (B : length s ≤ longestSeries) where
@@ -44,10 +44,10 @@ module _ (s : List Float) (n : ℕ) (ok : all accepted s ≡ true) (floats : (j 
       → {r : Bool} {d : Float} → r ≡ true → d ≡ marginOf (largestOf (line s) (length s))
       → AllFar r (2 * n - 2) (λ j. farFromMiddle d (line now j) (line rows j) (line rows (length s + j))) (length s)
       → (i : ℕ) → i < length s → positions n (length s) (line now) (line rows) i ≡ midLine n (line s) i
+  unfolding midLine
   by-margins v e m far i h =
       positions-are v i h
       ∙ from-same (2 * n - 2) plusZero _ _ i
       (λ b. let (sign, highs, lows) = decided-middle s n ok floats w B i (omega arith) h
       (rw (m, v .mean-is i h, v .high-is i h, v .low-is i h) at (far .each e i b h)) in
       rw (highs .0, highs .1, lows .0, lows .1, sign))
-      ∙ ap (λ g. g i) (middles-mid n (line s))

@@ -43,10 +43,6 @@ use Rattle.values.specs.Accepted.{within, tick}
 use Rattle.values.proofs.All.{and-true, and-parts}
 use Rattle.cells.specs.Line.{plusZero}
 
-beq-self : (s : Bool) → Bool·beq s s ≡ true
-beq-self true = refl
-beq-self false = refl
-
 or-true : (t : Bool) → t || true ≡ true
 or-true true = refl
 or-true false = refl
@@ -86,7 +82,7 @@ same-whole m e h = go (ofInt binary64 (pos (cut m e))) (round-whole binary64 fal
 
 -- ---- a number within 2 ^ 24
 
-at-most : (a b : ℕ) (u : Bool) → ltb a b || (eqb a b && u) ≡ true → a ≤ b
+pub at-most : (a b : ℕ) (u : Bool) → ltb a b || (eqb a b && u) ≡ true → a ≤ b
 at-most a b u = go (ltb a b) (eqb a b) refl refl
   where
     go : (t v : Bool) → ltb a b ≡ t → eqb a b ≡ v → t || (v && u) ≡ true → a ≤ b
@@ -149,7 +145,7 @@ pub any-sign : (s : Bool) → not (s && false) ≡ true
 any-sign true = refl
 any-sign false = refl
 
-in-float : (q : ℕ) → q ≤ 2 ^ 53 → T (inFloat binary64 (pos q))
+pub in-float : (q : ℕ) → q ≤ 2 ^ 53 → T (inFloat binary64 (pos q))
 unfolding inFloat
 in-float q h = le→leb q (2 ^ 53) h
 

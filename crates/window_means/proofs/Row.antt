@@ -27,7 +27,7 @@ unfolding sumFrom
 sum-of-row z f a b zero = refl
 sum-of-row z f a b (suc k) = let e : a + b + k ≡ a + (b + k) = omega arith in rw (sum-of-row z f a b k, e)
 
-pub mean-of-row : (n a i : ℕ) (f : Line) → n ≤ i + 1 → mean n f (a + i) ≡ mean n (λ j. f (a + j)) i
+mean-of-row : (n a i : ℕ) (f : Line) → n ≤ i + 1 → mean n f (a + i) ≡ mean n (λ j. f (a + j)) i
 unfolding mean windowSum
 mean-of-row n a i f h =
     let start : a + i + 1 - n ≡ a + (i + 1 - n) = omega arith in
@@ -53,6 +53,11 @@ pub none-of-row : (from to n first : ℕ) (old : List Float)
     → Writing (to + first) (meansOfRow from to n first old) old old
 none-of-row from to n first old = stood nan (row-before from to n first old)
 
+-- where the cells before bar `to` are as they were, a row that ends there still holds its own
+pub row-stands : {at lo to bars : ℕ} {f : Line} {old now : List Float} → ((j : ℕ) → j < to → line now j ≡ line old j)
+    → RowHolds at lo bars f old → at + bars ≤ to → RowHolds at lo bars f now
+row-stands {at} same h l = record { cell = λ i m. same (at + i) (omega arith) ∙ h .cell i m }
+
 module _ {from to bars n first e : ℕ} {old now : List Float} (g : RowRoom from to bars n first (length old))
     (w : Writing e (meansOfRow from to n first old) old now) (r : to ≤ e) where
   -- every cell before the second row is as it was
@@ -65,7 +70,7 @@ module _ {from to bars n first e : ℕ} {old now : List Float} (g : RowRoom from
 
   -- another row that ends before the second one
   pub row-kept : {at lo : ℕ} {f : Line} → RowHolds at lo bars f old → at + bars ≤ to → RowHolds at lo bars f now
-  row-kept {at} h l = record { cell = λ i m. cell-stays (at + i) (omega arith) ∙ h .cell i m }
+  row-kept = row-stands cell-stays
 
   -- one of them is the cell that is asked of the second row
   pub mean-for-row : (i : ℕ) → first ≤ i → i < bars

@@ -7,7 +7,8 @@ use denote.Ref.{now}
 use lib.ListN.{take, drop, length-take, length-drop}
 use lib.Seq.{getD-take, getD-drop}
 use lib.Ieee.{nan}
-use Rattle.oscillator.proofs.Oscillator.{taken-long, from-parts}
+use Rattle.cells.proofs.Parts.{taken-long}
+use Rattle.oscillator.proofs.Oscillator.{from-parts}
 use Rattle.oscillator.proofs.write_from_rows.Statement.{statement}
 use Rattle.oscillator.proofs.write_from_rows.Tie as tie
 

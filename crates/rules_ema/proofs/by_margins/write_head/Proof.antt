@@ -7,14 +7,15 @@ use denote.Ref.{now}
 use Rattle.cells.specs.Line.{line}
 use Rattle.windows.specs.inner.Means.{runningMeans}
 use Rattle.rules_ema.proofs.SingleEma.{seed-of}
-use Rattle.rules_ema.proofs.Head.{head-long, head-part, head-means}
+use Rattle.cells.proofs.Parts.{taken-long}
+use Rattle.rules_ema.proofs.Head.{head-part, head-means}
 use Rattle.rules_ema.proofs.by_margins.write_head.Statement.{statement}
 use Rattle.rules_ema.proofs.by_margins.write_head.Tie as tie
 
 write-running-means-requires : tie.Need-write-running-means-requires
 write-running-means-requires c κs =
     let start = c .before .before .before .before in
-    let long = head-long (2 * start .args .n - 1) (now (start .args .series)) (start .pre .inside) in
+    let long = taken-long (2 * start .args .n - 1) (now (start .args .series)) (start .pre .inside) in
     record { window = start .pre .window; room = omega arith }
 
 slice-aggregate-mean-at : tie.Need-slice-aggregate-mean-at
@@ -52,7 +53,7 @@ write-head-spec =
     (tie.spec
     (λ c. search needs)  -- mul-head
     (λ c. search needs)  -- sub-head
-    (λ c. sym (head-long _ _ (omega arith)))  -- slice-aggregate-write-running-means
+    (λ c. sym (taken-long _ _ (omega arith)))  -- slice-aggregate-write-running-means
     write-running-means-requires
     (λ c. search needs)  -- slice-reshare-prefix-mean-at
     slice-aggregate-mean-at
