@@ -12,7 +12,7 @@ use Rattle.rounding.specs.Leaves.{signOf, magnitudeOf, roundToWhole}
 use Rattle.calls.specs.declared.Answer.{Answer}
 use Rattle.calls.specs.declared.Answer.the-variants.{Cells}
 use Rattle.values.specs.Accepted.{accepted, tick, finite}
-use Rattle.calls.specs.Answer.{slices, checked, windowed, answered, countOf}
+use Rattle.calls.specs.Answer.{slices, checked, windowed, answered, answeredWith, countOf}
 use Rattle.cells.specs.Line.{line, fromBar}
 use Rattle.cells.specs.Recur.{recur, carried}
 use Rattle.windows.specs.Window.{sumFrom, windowSum, mean, runningSum}
@@ -22,7 +22,6 @@ use Rattle.averages_ticks.specs.TickMean.{toTick, tickMeanLine}
 use Rattle.rules_single.specs.Single.{singleLine}
 use Rattle.rules_double.specs.Double.{runningMean, doubleLine, doubleAnswer}
 use Rattle.cells.specs.Shown.{firstCells, num}
-use Rattle.rules_bands.specs.Boll.{bandAnswer}
 use Rattle.rules_bands.specs.BollReverse.{bollReverseLine, bandSignals, turnedBands}
 use Rattle.rules_mms.specs.Mms.{mmsAnswer, mmsLine}
 use Rattle.rules_rank.specs.Rank.{rankLine, belowNow, wholeRank}
@@ -97,7 +96,7 @@ answerOf (double n m) s = doubleAnswer s n m (length s)
 answerOf (rank n) s = answered accepted s (n ∷ []) (length s) (8 * length s ∷ [])
 answerOf (rollingRank w) s = rollingRankAnswer s w (length s) (8 * length s)
 answerOf (mms n w) s = mmsAnswer s n w (length s) (8 * length s)
-answerOf (bollReverse n k) s = bandAnswer s n k (length s) (8 * length s)
+answerOf (bollReverse n k) s = answeredWith accepted s (k ∷ []) (n ∷ []) (length s) (8 * length s ∷ [])
 answerOf (holtWinters m a b c) s = holtWintersAnswer s m (weights a b c) (length s) (8 * length s)
 
 abbrev pub cellsOf : Function → List Float → ℕ → List Cell
@@ -122,7 +121,7 @@ pub starred : map found table ≡ table
 unfolding smaLine carried total toTick tickMeanLine singleLine runningMean doubleLine doubleAnswer mean windowSum
     sumFrom runningSum recur fromBar slices checked windowed answered accepted tick signOf add sub mul div ofInt
     toSigned ieee.whole lt eq le toBits rankLine wholeRank belowNow countFrom roundToWhole round rollingRankLine
-    rollingRankAnswer tenToMinus magnitudeOf neg mmsLine extreme pickFrom turnedBands bandSignals bandAnswer hold moved
+    rollingRankAnswer tenToMinus magnitudeOf neg mmsLine extreme pickFrom turnedBands bandSignals answeredWith hold moved
     deviation sqrtOf nearestRoot root rootBelow finite holtWintersLine holtWintersAnswer fitLine fitsAfter withNext
     nextFit
 starred = refl

@@ -7,7 +7,8 @@ use native.Mathlib.Omega.{arith}
 use borrow.Author.Tests.{ltb-true, lt-ltb, le-ltb}
 use lib.Dec.{T, ltb}
 use lib.IntN.{ℤ, pos}
-use lib.Ieee.{Float, nan, inf, fin, Format, binary64, prec, emax, low, up, down, odd, units, round, neg, sum, sub, lt, isNan}
+use lib.Ieee.{Float, nan, inf, fin, Format, binary64, prec, emax, low}
+use lib.Ieee.{up, down, odd, units, round, neg, sum, sub, lt, isNan}
 use lib.Ieee.Fits.{round-is, down-pos}
 use lib.Ieee.Scale.{finite}
 use Rattle.rounding.specs.Leaves.{one, plusOne, minusOne, negative, magnitudeOf, signOf}

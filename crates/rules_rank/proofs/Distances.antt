@@ -28,6 +28,10 @@ use Rattle.rules_rank.specs.RollingRank.{near, wellBelow}
 
 -- ---- rounded numbers
 
+-- a rounded number without its sign
+size-of : (s : Bool) {a b : ℕ} (c : ℕ) → a ≡ b → magnitudeOf (round binary64 s a c) ≡ round binary64 false b c
+size-of s {a} c e = round-magnitude binary64 s a c ∙ ap (λ (d : ℕ). round binary64 false d c) e
+
 -- the size of a difference
 difference-size : (s t : Bool) (a b c : ℕ)
     → magnitudeOf (sum binary64 s a (not t) b c)
@@ -38,22 +42,17 @@ difference-size false false a b c = go (ltb a b) refl
     go : (p : Bool) → ltb a b ≡ p
         → magnitudeOf (cond p (round binary64 true (b - a) c) (round binary64 false (a - b) c))
         ≡ round binary64 false (gap (a + 0) (b + 0)) c
-    go true e =
-        let l = ltb-true a b e in round-magnitude binary64 true (b - a) c ∙ ap (λ (d : ℕ). round binary64 false d c) (omega arith)
-    go false e =
-        let l = ltb-false a b e in round-magnitude binary64 false (a - b) c ∙ ap (λ (d : ℕ). round binary64 false d c) (omega arith)
-difference-size false true a b c = round-magnitude binary64 false (a + b) c ∙ ap (λ (d : ℕ). round binary64 false d c) (omega arith)
-difference-size true false a b c = round-magnitude binary64 true (a + b) c ∙ ap (λ (d : ℕ). round binary64 false d c) (omega arith)
+    go true e = let l = ltb-true a b e in size-of true c (omega arith)
+    go false e = let l = ltb-false a b e in size-of false c (omega arith)
+difference-size false true a b c = size-of false c (omega arith)
+difference-size true false a b c = size-of true c (omega arith)
 difference-size true true a b c = go (ltb a b) refl
   where
     go : (p : Bool) → ltb a b ≡ p
         → magnitudeOf (cond p (round binary64 false (b - a) c) (round binary64 (ltb b a) (a - b) c))
         ≡ round binary64 false (gap (0 + b) (0 + a)) c
-    go true e =
-        let l = ltb-true a b e in round-magnitude binary64 false (b - a) c ∙ ap (λ (d : ℕ). round binary64 false d c) (omega arith)
-    go false e =
-        let l = ltb-false a b e in round-magnitude binary64 (ltb b a) (a - b) c ∙ ap (λ (d : ℕ). round binary64 false d c)
-        (omega arith)
+    go true e = let l = ltb-true a b e in size-of false c (omega arith)
+    go false e = let l = ltb-false a b e in size-of (ltb b a) c (omega arith)
 
 pub number : (x : Float) → finite x ≡ true → isNan x ≡ false
 unfolding isNan

@@ -1,9 +1,7 @@
-// The rule against the relative strength index: how its answer is found and its cells are written.
+// The rule against the relative strength index: how its cells are written.
 pub mod bar;
 pub mod held;
 
-use calls::Answer;
-use calls::Refusal;
 use windows::Eight;
 ghost use mathlib.Core.Path.{_≡_};
 ghost use Prim.Native.Nat.{_+_, _*_, _<_, _≤_};
@@ -14,28 +12,8 @@ ghost use Rattle.cells.specs.Written.{Writing};
 ghost use Rattle.cells.specs.inner.Touched.{Touched};
 ghost use Rattle.windows.specs.Window.{mean};
 ghost use Rattle.checks.specs.inner.Due.{Priced};
-ghost use Rattle.rules_rsi.specs.RsiReverse.{rsiBefore, rsiReverseLine, rsiReverseAnswer};
+ghost use Rattle.rules_rsi.specs.RsiReverse.{rsiBefore, rsiReverseLine};
 ghost use Rattle.rules_rsi.specs.inner.Stages.{part, withParts, Changed, eachIndex, IndexesBefore, MoreIndexes};
-
-// The answer: refusal 6 for the levels comes after the series' own refusals, and before those of the window.
-pub fn answer_rsi_reverse(
-    series: &[f64],
-    n: usize,
-    upper: f64,
-    lower: f64,
-    exit: f64,
-    out: usize,
-    work: usize,
-) -> Answer
-    ensures { λ r. ⌜ r ≡ rsiReverseAnswer (now (series .entry)) n upper lower exit out work ⌝ }
-{
-    let due = checks::check_with_work(series, out, work);
-    let bars = series.len();
-    let window = checks::check_window(bars, n, Answer::Cells(bars));
-    let finite = values::is_finite(upper) & (values::is_finite(lower) & values::is_finite(exit));
-    let next = checks::unless_refused(finite, Refusal::ParameterNotFinite, window);
-    checks::and_then(due, next)
-}
 
 // The loss of a change, or its gain.
 fn part_of(change: f64, losing: bool) -> f64
