@@ -7,7 +7,7 @@ use Prim.Native.Nat.{ℕ, zero, suc, _*_}
 use native.Mathlib.Omega.{arith}
 use lib.IntN.{ℤ, pos, negsuc}
 use lib.ListN.{length}
-use lib.Ieee.{Float, nan, fin, binary64, add, sub, mul, div, ofInt, toSigned, lt, eq, le, toBits, neg, round}
+use lib.Ieee.{Float, nan, fin, binary64, add, sub, mul, div, ofInt, toSigned, whole, lt, eq, le, toBits, neg, round}
 use Rattle.rounding.specs.Whole.{total}
 use Rattle.rounding.specs.Leaves.{signOf, magnitudeOf, roundToWhole}
 use Rattle.calls.specs.declared.Answer.{Answer}
@@ -41,7 +41,7 @@ use Rattle.holt_winters.specs.HoltWinters.{HoltWintersCall, weights, fitLine, f
 -- a cell of an output: an f64 or a whole number
 pub data Cell : Type 0 where
   number : Float → Cell
-  whole : ℤ → Cell
+  integer : ℤ → Cell
 
 -- a function with its parameters
 pub data Function : Type 0 where
@@ -80,12 +80,12 @@ table =
     ∷ star (oneAverage 2) (1 ∷ 3 ∷ 5 ∷ []) (float 0 ∷ float 0 ∷ float 1 ∷ [])
     ∷ star (rank 2) (1 ∷ 2 ∷ 3 ∷ []) (float 0 ∷ float 0 ∷ float 1 ∷ [])
     ∷ star (rank 1) (5 ∷ []) (number nan ∷ [])
-    ∷ star (rollingRank 2) (3 ∷ 1 ∷ 2 ∷ []) (whole (pos 0) ∷ whole (pos 1) ∷ whole (pos 2) ∷ [])
+    ∷ star (rollingRank 2) (3 ∷ 1 ∷ 2 ∷ []) (integer (pos 0) ∷ integer (pos 1) ∷ integer (pos 2) ∷ [])
     ∷ star (mms 1 2) (1 ∷ 3 ∷ 2 ∷ []) (float 0 ∷ float 1 ∷ number minusOne ∷ [])
-    ∷ star (bollReverse 2 oneHalf) (4 ∷ 4 ∷ 8 ∷ []) (whole (pos 0) ∷ whole (pos 0) ∷ whole (negsuc 0) ∷ [])
+    ∷ star (bollReverse 2 oneHalf) (4 ∷ 4 ∷ 8 ∷ []) (integer (pos 0) ∷ integer (pos 0) ∷ integer (negsuc 0) ∷ [])
     ∷ star (ema 3) (2 ∷ 4 ∷ 6 ∷ 10 ∷ []) (number nan ∷ number nan ∷ float 4 ∷ float 7 ∷ [])
     ∷ star (holtWinters 1 oneHalf (num 0) (num 0)) (4 ∷ 6 ∷ []) (float 4 ∷ float 5 ∷ [])
-    ∷ star (tickMean 2) (2 ∷ 3 ∷ []) (whole (pos 0) ∷ whole (pos 3) ∷ [])
+    ∷ star (tickMean 2) (2 ∷ 3 ∷ []) (integer (pos 0) ∷ integer (pos 3) ∷ [])
     ∷ []
 
 -- ---- what a case says of the function's own contract
@@ -94,7 +94,7 @@ module _ {A : Type 0} (cell : A → Cell) where
   -- the call is answered with a cell for each bar, and these are the whole output
   pub record Leaves (s : List Float) (cells : List Cell) (r : Answer) (out₁ : List A) : Type 0 where
     pub answer : r ≡ Cells (length s)
-    pub cells : map cell out₁ ≡ cells
+    pub output : map cell out₁ ≡ cells
 
   -- of every call of this contract whose output is just long enough
   abbrev pub Plain : (List A → Answer → List A → Type 0) → List Float → List Cell → Type 0
@@ -111,19 +111,20 @@ module _ {A : Type 0} (cell : A → Cell) where
 abbrev pub Gives : Function → List Float → List Cell → Type 0
 Gives (sma n) s = Plain number (SmaCall s n) s
 Gives (ema n) s = Plain number (EmaCall s n) s
-Gives (tickMean n) s = Plain whole (TickMeanCall s n) s
+Gives (tickMean n) s = Plain integer (TickMeanCall s n) s
 Gives (oneAverage n) s = Working number (SingleCall s n) s
 Gives (double n m) s = Plain number (DoubleCall s n m) s
 Gives (rank n) s = Working number (RankCall s n) s
-Gives (rollingRank w) s = Working (λ k. whole (pos k)) (RollingRankCall s w) s
+Gives (rollingRank w) s = Working (λ k. integer (pos k)) (RollingRankCall s w) s
 Gives (mms n w) s = Working number (MmsCall s n w) s
-Gives (bollReverse n k) s = Working whole (BollReverseCall s n k) s
+Gives (bollReverse n k) s = Working integer (BollReverseCall s n k) s
 Gives (holtWinters m a b c) s = Working number (HoltWintersCall s m a b c) s
 
--- each of several holds
-abbrev pub Every : (Case → Type 0) → List Case → Type 0
-Every P [] = Unit {0}
-Every P (c ∷ rest) = P c × Every P rest
+infixr 5 _also_
+-- each case of a table holds
+pub data Every (P : Case → Type 0) : List Case → Type 0 where
+  done : Every P []
+  _also_ : {c : Case} {rest : List Case} → P c → Every P rest → Every P (c ∷ rest)
 
 abbrev pub Holds : Case → Type 0
 Holds c = Gives (c .function) (map num (c .series)) (c .cells)
@@ -133,8 +134,8 @@ Holds c = Gives (c .function) (map num (c .series)) (c .cells)
 -- as many cells as a list has, written to it, are the list
 all-written : {A : Type 0} (k : ℕ) (f : ℕ → A) (old : List A) → length old ≡ k → written k f old ≡ firstCells k f
 all-written zero f [] e = refl
-all-written zero f (x ∷ old) e = omega arith
-all-written (suc k) f [] e = omega arith
+all-written zero f (x ∷ old) e = absurd (omega arith)
+all-written (suc k) f [] e = absurd (omega arith)
 all-written (suc k) f (x ∷ old) e =
     ap (λ (t : List _). f 0 ∷ t) (all-written k (λ i. f (suc i)) old (omega arith))
 
@@ -144,35 +145,34 @@ module _ {A : Type 0} (cell : A → Cell) (f : ℕ → A) (s : List Float) (cell
       → Call due f out₀ r out₁ → Leaves cell s cells r out₁
   leaves {out₀ = out₀} d e long c =
       let a = c .answer ∙ d in
-      record { answer = a; cells = rw (c .cells, a, all-written (length s) f out₀ long) e }
+      record { answer = a; output = rw (c .cells, a, all-written (length s) f out₀ long) e }
 
-  plain : (due : ℕ → Answer) → due (length s) ≡ Cells (length s) → map cell (firstCells (length s) f) ≡ cells
-      → Plain cell (λ out₀. Call (due (length out₀)) f out₀) s cells
+  plain : (due : List Float → ℕ → Answer) → due s (length s) ≡ Cells (length s) → map cell (firstCells (length s) f) ≡ cells
+      → Plain cell (λ out₀. Call (due s (length out₀)) f out₀) s cells
   plain due d e out₀ out₁ r long c = leaves (rw long d) e long c
 
-  working : (due : ℕ → ℕ → Answer) → due (length s) (8 * length s) ≡ Cells (length s)
+  working : (due : List Float → ℕ → ℕ → Answer) → due s (length s) (8 * length s) ≡ Cells (length s)
       → map cell (firstCells (length s) f) ≡ cells
-      → Working cell (λ out₀ work₀. WorkCall (due (length out₀) (length work₀)) f out₀ (length s) work₀) s cells
+      → Working cell (λ out₀ work₀. WorkCall (due s (length out₀) (length work₀)) f out₀ (length s) work₀) s cells
   working due d e out₀ out₁ work₀ work₁ r long wide c = leaves (rw (long, wide) d) e long (c .call)
 
 pub starred : Every Holds table
 unfolding smaLine carried total toTick tickMeanLine singleLine runningMean doubleLine doubleAnswer mean windowSum
     sumFrom runningSum recur fromBar slices checked windowed answered accepted tick signOf add sub mul div ofInt
-    toSigned lt eq le toBits rankLine wholeRank belowNow countFrom roundToWhole round rollingRankLine
+    toSigned whole lt eq le toBits rankLine wholeRank belowNow countFrom roundToWhole round rollingRankLine
     rollingRankAnswer tenToMinus magnitudeOf neg mmsLine extreme pickFrom turnedBands bandSignals bandAnswer hold moved
     deviation sqrtOf nearestRoot root rootBelow finite holtWintersLine holtWintersAnswer fitLine fitsAfter withNext
     nextFit
-starred = (
-  plain number _ _ _ (λ o. answered accepted _ (2 ∷ []) o []) refl refl,
-  plain number _ _ _ (λ o. doubleAnswer _ 1 2 o) refl refl,
-  working number _ _ _ (λ o w. answered accepted _ (2 ∷ []) o (w ∷ [])) refl refl,
-  working number _ _ _ (λ o w. answered accepted _ (2 ∷ []) o (w ∷ [])) refl refl,
-  working number _ _ _ (λ o w. answered accepted _ (1 ∷ []) o (w ∷ [])) refl refl,
-  working (λ k. whole (pos k)) _ _ _ (λ o w. rollingRankAnswer _ 2 o w) refl refl,
-  working number _ _ _ (λ o w. mmsAnswer _ 1 2 o w) refl refl,
-  working whole _ _ _ (λ o w. bandAnswer _ 2 oneHalf o w) refl refl,
-  plain number _ _ _ (λ o. answered accepted _ (3 ∷ []) o []) refl refl,
-  working number _ _ _ (λ o w. holtWintersAnswer _ 1 (weights oneHalf (num 0) (num 0)) o w) refl refl,
-  plain whole _ _ _ (λ o. answered tick _ (2 ∷ []) o []) refl refl,
-  tt,
-)
+starred =
+    plain number _ _ _ (λ s o. answered accepted s (2 ∷ []) o []) refl refl
+    also plain number _ _ _ (λ s o. doubleAnswer s 1 2 o) refl refl
+    also working number _ _ _ (λ s o w. answered accepted s (2 ∷ []) o (w ∷ [])) refl refl
+    also working number _ _ _ (λ s o w. answered accepted s (2 ∷ []) o (w ∷ [])) refl refl
+    also working number _ _ _ (λ s o w. answered accepted s (1 ∷ []) o (w ∷ [])) refl refl
+    also working (λ k. integer (pos k)) _ _ _ (λ s o w. rollingRankAnswer s 2 o w) refl refl
+    also working number _ _ _ (λ s o w. mmsAnswer s 1 2 o w) refl refl
+    also working integer _ _ _ (λ s o w. bandAnswer s 2 oneHalf o w) refl refl
+    also plain number _ _ _ (λ s o. answered accepted s (3 ∷ []) o []) refl refl
+    also working number _ _ _ (λ s o w. holtWintersAnswer s 1 (weights oneHalf (num 0) (num 0)) o w) refl refl
+    also plain integer _ _ _ (λ s o. answered tick s (2 ∷ []) o []) refl refl
+    also done
