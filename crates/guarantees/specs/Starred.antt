@@ -36,7 +36,7 @@ use Rattle.ranks.specs.Counted.{countFrom}
 use Rattle.rounding.specs.Literals.{tenToMinus}
 use Rattle.rounding_root.specs.Root.{nearestRoot, root, rootBelow, sqrtOf}
 use Rattle.rules_held.specs.Held.{hold, moved}
-use Rattle.holt_winters.specs.HoltWinters.{HoltWintersCall, weights, fitLine, fitsAfter, withNext, nextFit, holtWintersLine, holtWintersAnswer}
+use Rattle.holt_winters.specs.HoltWinters.{HoltWintersCall, weights, fitLine, fitWithin, nextFit, holtWintersLine, holtWintersAnswer}
 
 -- a cell of an output: an f64 or a whole number
 pub data Cell : Type 0 where
@@ -161,7 +161,7 @@ unfolding smaLine carried total toTick tickMeanLine singleLine runningMean doubl
     sumFrom runningSum recur fromBar slices checked windowed answered accepted tick signOf add sub mul div ofInt
     toSigned whole lt eq le toBits rankLine wholeRank belowNow countFrom roundToWhole round rollingRankLine
     rollingRankAnswer tenToMinus magnitudeOf neg mmsLine extreme pickFrom turnedBands bandSignals bandAnswer hold moved
-    deviation sqrtOf nearestRoot root rootBelow finite holtWintersLine holtWintersAnswer fitLine fitsAfter withNext
+    deviation sqrtOf nearestRoot root rootBelow finite holtWintersLine holtWintersAnswer fitLine fitWithin
     nextFit
 starred =
     plain number _ _ _ (λ s o. answered accepted s (2 ∷ []) o []) refl refl
