@@ -18,7 +18,7 @@ use Rattle.cells.specs.Shown.{num, prices, bits, cellsOf}
 use Rattle.windows.specs.Window.{sumFrom, windowSum, mean}
 use Rattle.changes.specs.Changes.{change, gains, losses}
 use Rattle.rules_held.specs.Held.{flat, long, short, moved, hold}
-use Rattle.rules_rsi.specs.RsiReverse.{sumBefore, rsiBefore, turned, rsiReverseLine}
+use Rattle.rules_rsi.specs.RsiReverse.{firstChange, changesBefore, sumBefore, rsiBefore, turned, rsiReverseLine}
 
 -- upper 70, lower 30, exit 50
 abbrev usual : ℕ → List Float → List ℤ
@@ -28,7 +28,7 @@ usual n = cellsOf (rsiReverseLine n (num 70) (num 30) (num 50))
 rsi-reverse-cases : usual 2 (prices (pos 1 ∷ pos 2 ∷ pos 3 ∷ pos 4 ∷ pos 5 ∷ pos 4 ∷ pos 3 ∷ pos 2 ∷ pos 1 ∷ pos 2
     ∷ pos 3 ∷ pos 4 ∷ pos 5 ∷ pos 6 ∷ []))
     ≡ flat ∷ flat ∷ flat ∷ short ∷ short ∷ short ∷ short ∷ flat ∷ long ∷ long ∷ long ∷ flat ∷ short ∷ short ∷ []
-unfolding rsiReverseLine turned rsiBefore sumBefore gains losses change hold moved recur mean windowSum sumFrom fromBar
+unfolding rsiReverseLine turned rsiBefore sumBefore changesBefore firstChange gains losses change hold moved recur mean windowSum sumFrom fromBar
     neg add sub mul div ofInt ofBits round lt eq
 rsi-reverse-cases = refl
 
@@ -45,7 +45,7 @@ rsi-reverse-edges : (usual 1 (prices (pos 5 ∷ pos 4 ∷ pos 3 ∷ pos 4 ∷ po
     × (cellsOf (rsiReverseLine 2 (num 20) (num 200) (num 300)) (prices (pos 1 ∷ pos 2 ∷ pos 3 ∷ pos 4 ∷ pos 5 ∷ pos 6
     ∷ []))
     ≡ (flat ∷ flat ∷ flat ∷ long ∷ long ∷ long ∷ []))
-unfolding rsiReverseLine turned rsiBefore sumBefore gains losses change hold moved recur mean windowSum sumFrom fromBar
+unfolding rsiReverseLine turned rsiBefore sumBefore changesBefore firstChange gains losses change hold moved recur mean windowSum sumFrom fromBar
     neg add sub mul div ofInt ofBits round lt eq
 rsi-reverse-edges = (refl, refl, refl, refl, refl, refl, refl)
 
@@ -55,7 +55,7 @@ rsi-reverse-edges = (refl, refl, refl, refl, refl, refl, refl)
 rsi-reverse-least : cellsOf (rsiReverseLine 2 (num 70) minusOne (num 50)) (bits (0x0000000000000002 ∷ 0 ∷ 0 ∷ 0 ∷ 0
     ∷ 0 ∷ []))
     ≡ flat ∷ flat ∷ flat ∷ flat ∷ flat ∷ short ∷ []
-unfolding rsiReverseLine turned rsiBefore sumBefore gains losses change hold moved recur mean windowSum sumFrom fromBar
+unfolding rsiReverseLine turned rsiBefore sumBefore changesBefore firstChange gains losses change hold moved recur mean windowSum sumFrom fromBar
     neg add sub mul div ofInt ofBits round lt eq
 rsi-reverse-least = refl
 
