@@ -16,6 +16,9 @@ pub fn ties(rng: &mut Rng, function: &Function, calls: &mut Vec<Call>) {
     if function.name == "single_sma_positions" {
         averaged(rng, function, calls);
     }
+    if function.name == "rank_positions" {
+        half_ranks(function, calls);
+    }
     if function.series.len() == 1 && (function.name.ends_with("_positions") || function.name == "rolling_rank") {
         at_changes(rng, function, calls);
     }
@@ -76,6 +79,19 @@ fn averaged(rng: &mut Rng, function: &Function, calls: &mut Vec<Call>) {
             let series = ticks.iter().map(|x| *x as f64 / one).collect();
             calls.push(function.call(vec![series], with_windows(function, n)));
         }
+    }
+}
+
+/// Ranks whose hundredfold lies in the middle of two whole numbers, or would but for rounding: from n 17 on, where 1 of
+/// 16 means below gives -87.5, to n 401, where 199 of 400 give a number next to -0.5. After n prices of 0 come n-2 of 1,
+/// so that the window sums rise from 0 by 1, and then a price that takes the sum to the count of those below it.
+fn half_ranks(function: &Function, calls: &mut Vec<Call>) {
+    let is_half = |n: usize, below: usize| 400 * below % (n - 1) == 0 && 400 * below / (n - 1) % 2 == 1;
+    let pairs = (2..=401).flat_map(|n| (0..n).filter(move |below| is_half(n, *below)).map(move |below| (n, below)));
+    for (n, below) in pairs {
+        let last = below as f64 - (n - 2) as f64;
+        let series = [vec![0.0; n], vec![1.0; n - 2], vec![last, 2.0, 0.5]].concat();
+        calls.push(function.call(vec![series], with_windows(function, n)));
     }
 }
 
