@@ -10,6 +10,7 @@ mod exact;
 mod flips;
 mod generate;
 mod library;
+mod limits;
 mod nearly;
 mod published;
 mod record;
