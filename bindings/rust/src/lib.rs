@@ -10,6 +10,9 @@
 //! Positions are +1 long, -1 short, 0 flat. A sign is +1 for +0.0 and above, so a tie is +1. No cell depends on a
 //! later bar, unless a function says so.
 //!
+//! The cells are those of the floating-point environment with which a Rust program starts: rounding to nearest,
+//! subnormal numbers not flushed to zero, exceptions masked.
+//!
 //! ```
 //! use tegbalowu::{Refusal, double_sma_positions, single_sma_positions, sma, work_for};
 //!
