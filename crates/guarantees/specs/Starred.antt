@@ -121,7 +121,7 @@ pub starred : map found table ≡ table
 unfolding smaLine carried total toTick tickMeanLine singleLine runningMean doubleLine doubleAnswer mean windowSum
     sumFrom runningSum recur fromBar slices checked windowed answered accepted tick signOf add sub mul div ofInt
     toSigned ieee.whole lt eq le toBits rankLine wholeRank belowNow countFrom roundToWhole round rollingRankLine
-    rollingRankAnswer tenToMinus magnitudeOf neg mmsLine extreme pickFrom turnedBands bandSignals answeredWith hold moved
-    deviation sqrtOf nearestRoot root rootBelow finite holtWintersLine holtWintersAnswer fitLine fitsAfter withNext
-    nextFit
+    rollingRankAnswer tenToMinus magnitudeOf neg mmsLine extreme pickFrom turnedBands bandSignals answeredWith hold
+    moved deviation sqrtOf nearestRoot root rootBelow finite holtWintersLine holtWintersAnswer fitLine fitsAfter
+    withNext nextFit
 starred = refl

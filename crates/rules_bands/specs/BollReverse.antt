@@ -42,5 +42,5 @@ bollReverseLine n k f = turnedBands n k (mean n f)
 -- what a call of `boll_reverse_positions` promises
 abbrev pub BollReverseCall : List Float → ℕ → Float → List ℤ → List Float → Answer → List ℤ → List Float → Type 0
 BollReverseCall s n k out₀ work₀ =
-    WorkCall (answeredWith accepted s (k ∷ []) (n ∷ []) (length out₀) (length work₀ ∷ [])) (bollReverseLine n k (line s))
-    out₀ (length s) work₀
+    WorkCall (answeredWith accepted s (k ∷ []) (n ∷ []) (length out₀) (length work₀ ∷ []))
+    (bollReverseLine n k (line s)) out₀ (length s) work₀

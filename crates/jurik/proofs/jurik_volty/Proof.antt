@@ -35,7 +35,8 @@ returns c =
 returns-2 : tie.Need-returns-2
 returns-2 c =
     let due = c .before .before .before in
-    empty-call (due .before .before .answer-numbers-and-window .ensures) (rw (c .if1 .left) at (due .cells-due .ensures))
+    empty-call (due .before .before .answer-numbers-and-window .ensures)
+    (rw (c .if1 .left) at (due .cells-due .ensures))
 
 pub jurik-volty-spec : {M : Type 1} → statement M
 jurik-volty-spec =

@@ -16,9 +16,9 @@ write-shares-requires : tie.Need-write-shares-requires
 write-shares-requires c κs =
     let pre = c .before .before .before .before .before .pre in (
       record {
-        short = pre .short;
-        medium = pre .medium;
-        long = pre .long;
+        short-window = pre .short-window;
+        medium-window = pre .medium-window;
+        long-window = pre .long-window;
         same = simp (length-take, length-drop) (omega arith);
       },
       simp length-take (omega arith),

@@ -42,8 +42,8 @@ bandsLine reverse n k f = cond reverse (bollReverseLine n k f) (bollLine n k f)
 -- what a call of either rule promises
 abbrev pub BandsCall : Bool → List Float → ℕ → Float → List ℤ → List Float → Answer → List ℤ → List Float → Type 0
 BandsCall reverse s n k out₀ work₀ =
-    WorkCall (answeredWith accepted s (k ∷ []) (n ∷ []) (length out₀) (length work₀ ∷ [])) (bandsLine reverse n k (line s))
-    out₀ (length s) work₀
+    WorkCall (answeredWith accepted s (k ∷ []) (n ∷ []) (length out₀) (length work₀ ∷ []))
+    (bandsLine reverse n k (line s)) out₀ (length s) work₀
 
 -- the bands are there from bar i on, which is inside; the cells of f before it stand in `now`, which has room for the
 -- rest
