@@ -37,10 +37,9 @@ impl Signature {
 /// A file without the lines that are comments or belong to a preprocessor.
 fn read(file: &str) -> String {
     let text = std::fs::read_to_string(file).unwrap_or_else(|error| panic!("{file}: {error}"));
-    let is_code =
-        |line: &&str| !["//", "/*", " *", "#if", "#end", "#inc", "#def"].iter().any(|no| line.starts_with(no));
-    let lines: Vec<&str> = text.lines().filter(is_code).filter(|line| !line.trim_start().starts_with("//")).collect();
-    lines.join(" ")
+    let others = ["//", "/*", "*", "#if", "#endif", "#include", "#define"];
+    let is_code = |line: &&str| !others.iter().any(|start| line.trim_start().starts_with(start));
+    text.lines().filter(is_code).collect::<Vec<_>>().join(" ")
 }
 
 /// What stands before a bracket, between it and the next one that closes, and after that.
