@@ -1,5 +1,6 @@
 //! Reads the header, the bindings and the definitions of the C functions into one form, and compares them:
-//!   signatures HEADER BINDINGS DEFINITIONS STRUCTS
+//!   signatures HEADER BINDINGS DEFINITIONS STRUCTS..
+//! STRUCTS are the files with the structs that the definitions give.
 
 use std::collections::BTreeMap;
 use std::process::ExitCode;
@@ -177,13 +178,14 @@ fn same(first: (&str, &Signatures), second: (&str, &Signatures)) -> bool {
 
 fn main() -> ExitCode {
     let files: Vec<String> = std::env::args().skip(1).collect();
-    let [header_file, bindings_file, defined_file, structs_file] = &files[..] else {
-        eprintln!("usage: signatures HEADER BINDINGS DEFINITIONS STRUCTS");
+    let [header_file, bindings_file, defined_file, structs_files @ ..] = &files[..] else {
+        eprintln!("usage: signatures HEADER BINDINGS DEFINITIONS STRUCTS..");
         return ExitCode::from(2);
     };
     let declared = header(&read(header_file));
     let bound = bindings(&read(bindings_file));
-    let defined = definitions(&read(defined_file), &read(structs_file));
+    let with_structs: String = structs_files.iter().map(|file| read(file)).collect();
+    let defined = definitions(&read(defined_file), &with_structs);
     let good = same((header_file, &declared), (bindings_file, &bound))
         & same((header_file, &unnamed(&declared)), (defined_file, &unnamed(&defined)));
     let functions = declared.keys().filter(|name| !is_struct(name)).count();
