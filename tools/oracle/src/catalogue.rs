@@ -72,6 +72,14 @@ impl Role {
     pub fn is_level(self) -> bool {
         self == Role::Level
     }
+
+    /// The value that a word says.
+    pub fn value(self, word: &str) -> Value {
+        match self {
+            Role::Window | Role::Season | Role::WholePeriod => Value::Count(word.parse().expect("a whole number")),
+            Role::Period | Role::Weight | Role::Multiple | Role::Level => Value::Real(word.parse().expect("a number")),
+        }
+    }
 }
 
 /// Which values refusal 5 lets through.
@@ -93,7 +101,9 @@ pub struct Function {
     pub rising: bool,
     /// The expected cells of a call that is answered.
     pub source: fn(&Call) -> Vec<Vec<u64>>,
-    /// What a benchmark runs: the same reckoning, or pure.rs itself, with nothing kept.
+    /// The cells of pure.rs itself where it has the function, for any call; else those of `source`.
+    pub given: fn(&Call) -> Vec<Vec<u64>>,
+    /// What a benchmark runs: the same, with nothing kept.
     pub timed: fn(&Call),
     pub library: Option<Exported>,
 }
@@ -116,6 +126,14 @@ impl Function {
 
     pub fn has_window(&self) -> bool {
         self.places(Role::is_window).next().is_some()
+    }
+
+    /// Makes a call of the library, and gives its answer and the cells that it counts of each output.
+    pub fn run(&self, call: &Call) -> (Answer, Vec<Vec<u64>>) {
+        let mut outputs: Vec<Lent> = call.outputs.iter().map(|len| Lent::filled(self.kind, *len, 1)).collect();
+        let mut work = Lent::filled(Kind::F64, call.work, 2);
+        let answer = (self.library.expect("the function is exported"))(call, &mut outputs, &mut work);
+        (answer, outputs.iter().map(|output| output.words()[..answer.count as usize].to_vec()).collect())
     }
 
     /// A call with just as much room as it asks for.
@@ -181,9 +199,9 @@ macro_rules! functions {
                 $source
             }
 
-            fn timed(call: &Call) {
+            fn given(call: &Call) -> impl Lines {
                 take!(call, [$($series),+], [$($parameter: $role),*]);
-                drop(black_box(last!($source $(, $timed)?)));
+                last!($source $(, $timed)?)
             }
 
             #[cfg(exported = $name)]
@@ -206,7 +224,8 @@ macro_rules! functions {
                 kind: <$cell as Cell>::KIND,
                 work: !WORK.is_empty(),
                 source: |call| lines(call).words(),
-                timed,
+                given: |call| given(call).words(),
+                timed: |call| drop(black_box(given(call))),
                 library: LIBRARY,
                 $($field: $value,)*
                 ..PLAIN
@@ -226,6 +245,7 @@ const PLAIN: Function = Function {
     domain: Domain::Accepted,
     rising: false,
     source: |_| Vec::new(),
+    given: |_| Vec::new(),
     timed: |_| (),
     library: None,
 };
