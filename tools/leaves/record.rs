@@ -1,6 +1,6 @@
-// Writes the list that the program `leaves` reads: for each of some thousand patterns x one line with
-// x, is_nan, abs, signum, round and sqrt of x as Rust's f64 gives them, each as a word of 16
-// hexadecimal digits (is_nan as 0 or 1). The list is the same in every run.
+// Prints tests/leaves.txt (tests/README.md): for each of some thousand patterns x one line with x, is_nan, abs, signum,
+// round and sqrt of x as Rust's f64 gives them, each as a word of 16 hexadecimal digits: is_nan as 0 or 1, and one word
+// for every NaN that is given. The first line has the number of these lines, and the names of the leaves.
 use std::hint::black_box;
 
 struct Random(u64);
@@ -85,10 +85,18 @@ fn patterns() -> Vec<u64> {
     list.0
 }
 
+// The bits of an answer, with one word for every NaN.
+fn one_nan(x: f64) -> u64 {
+    if x.is_nan() { 0x7ff8_0000_0000_0000 } else { x.to_bits() }
+}
+
 fn main() {
-    for b in patterns() {
+    let patterns = patterns();
+    println!("{} x is_nan magnitude sign round_to_whole square_root", patterns.len());
+    for b in patterns {
         let x = black_box(f64::from_bits(b));
-        let words = [b, x.is_nan() as u64, x.abs().to_bits(), x.signum().to_bits(), x.round().to_bits(), x.sqrt().to_bits()];
+        let [abs, signum, round, sqrt] = [x.abs(), x.signum(), x.round(), x.sqrt()].map(one_nan);
+        let words = [b, x.is_nan() as u64, abs, signum, round, sqrt];
         println!("{}", words.map(|w| format!("{w:016x}")).join(" "));
     }
 }

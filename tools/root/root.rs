@@ -5,7 +5,7 @@
 use std::hint::black_box;
 use std::time::Instant;
 
-#[link(name = "bench_root", kind = "static")]
+#[link(name = "capi_leaves", kind = "static")]
 extern "C" {
     fn tegbalowu_square_root(x: f64) -> f64;
 }

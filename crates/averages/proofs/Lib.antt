@@ -1,3 +1,9 @@
 pub mod Causal
 pub mod Stages
 pub mod Ticks
+pub mod Blending
+pub mod WrittenParts
+pub mod TwoParts
+pub mod Sides
+pub mod Smoothed
+pub mod CausalExponential

@@ -1,4 +1,8 @@
--- Averages: what each of them is, as a line of cells made of a line of prices.
+-- The averages: what each of them is.
 pub mod Cases
 pub mod Sma
 pub mod inner
+pub mod Blend
+pub mod ExponentialCases
+pub mod Ema
+pub mod ExponentialSmoothing

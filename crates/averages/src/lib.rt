@@ -1,7 +1,12 @@
-// The mean of a window that slides, and what the other averages share with it.
+// The averages: `sma`, whose window slides, with what the others share with it; and the exponential averages
+// (`exponential`).
+pub mod blend;
+pub mod exponential;
+pub mod halves;
+
 use calls::Answer;
 use calls::Refusal;
-use values_series::Tested;
+use values::series::Tested;
 ghost use mathlib.Core.Path.{_≡_};
 ghost use mathlib.Core.Bool.{false};
 ghost use mathlib.Core.List.{[], _∷_};
@@ -14,7 +19,7 @@ ghost use Rattle.calls.specs.inner.Fits.{windowFits};
 ghost use Rattle.calls.specs.Call.{Call};
 ghost use Rattle.cells.specs.Line.{Line, line, fromBar};
 ghost use Rattle.cells.specs.Written.{Writing};
-ghost use Rattle.sliding_means.specs.inner.Means.{Summed};
+ghost use Rattle.windows.specs.inner.Means.{Summed};
 ghost use Rattle.averages.specs.Sma.{smaLine, SmaCall};
 ghost use Rattle.averages.specs.inner.Stages.{TestedSum};
 
@@ -28,11 +33,11 @@ pub fn sum_tested(series: &[f64], n: usize) -> Tested
     let mut sum = -0.0;
     let mut i = 0;
     while n - i >= 8 {
-        accept = accept & values_series::some_accepted(series, i, 8);
+        accept = accept & values::series::range_accepted(series, i, 8);
         sum = windows::sum_more(sum, series, i, 8);
         i += 8;
     }
-    accept = accept & values_series::some_accepted(series, i, n - i);
+    accept = accept & values::series::range_accepted(series, i, n - i);
     Tested {
         accept,
         value: windows::sum_more(sum, series, i, n - i),
@@ -47,7 +52,7 @@ fn write_means(series: &[f64], n: usize, sum: f64, out: &mut [f64])
 {
     cells::fill_nan(out, n - 1, series.len());
     out[n - 1] = sum / (n as f64);
-    sliding_means::slide_means(series, n, sum, out);
+    windows::sliding::slide_means(series, n, sum, out);
 }
 
 // The answer of a call whose window does not fit: where cells are due, the bars end before the window does, and all
@@ -71,7 +76,7 @@ pub fn sma(series: &[f64], n: usize, out: &mut [f64]) -> Answer
 {
     if checks::window_fits(series.len(), n, out.len()) {
         let sum = sum_tested(series, n);
-        if sum.accept & values_series::accepted_from(series, n) {
+        if sum.accept & values::series::accepted_from(series, n) {
             write_means(series, n, sum.value, out);
             Answer::Cells(series.len())
         } else {

@@ -1,2 +1,4 @@
+pub mod Share
+pub mod Whole
 pub mod Causal
 pub mod Ticks

@@ -25,7 +25,7 @@ use Rattle.cells.proofs.Written.{writing-same}
 use Rattle.averages_ticks.specs.TickMean.{toTick, tickMeanLine}
 use Rattle.rounding.specs.Whole.{total}
 use Rattle.rounding_laws.proofs.Integers.{total-size, total-slides}
-use Rattle.averages_ticks_bar.proofs.Whole.{in-i64, held, kept}
+use Rattle.averages_ticks.proofs.Whole.{in-i64, held, kept}
 use Rattle.averages_ticks.specs.inner.Ticks.{Summed, TickRoom, TickSum, Ticks}
 
 tick-at : {s : List Float} (i : ℕ) → Ticks s → i < length s → tick (line s i) ≡ true

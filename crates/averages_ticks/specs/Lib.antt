@@ -1,4 +1,4 @@
 -- Sums of whole ticks, and their mean to a whole tick.
+pub mod inner
 pub mod Cases
 pub mod TickMean
-pub mod inner

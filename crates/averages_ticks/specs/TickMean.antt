@@ -1,7 +1,7 @@
 -- tick_mean, our own: what it answers and writes, on whole numbers. Assumes nothing.
 use mathlib.Core.List.{List, [], _∷_}
-use Prim.Native.Nat.{ℕ, _+_, _-_}
-use lib.IntN.{ℤ, pos}
+use Prim.Native.Nat.{ℕ, suc, _+_, _*_, _/_, _-_}
+use lib.IntN.{ℤ, pos, negsuc, negℤ}
 use lib.Ieee.{toSigned, Float}
 use lib.ListN.{length}
 use Rattle.rounding.specs.Whole.{total}
@@ -10,7 +10,11 @@ use Rattle.calls.specs.Answer.{answered}
 use Rattle.calls.specs.Call.{Call}
 use Rattle.calls.specs.declared.Answer.{Answer}
 use Rattle.values.specs.Accepted.{tick}
-unfoldable pub use Rattle.averages_ticks_bar.specs.ToTick.{toTick}
+
+-- z / n to a whole tick, half away from zero
+unfoldable pub toTick : ℤ → ℕ → ℤ
+toTick (pos a) n = pos ((2 * a + n) / (2 * n))
+toTick (negsuc a) n = negℤ (pos ((2 * suc a + n) / (2 * n)))
 
 -- ---- tick_mean, our own: on whole numbers
 

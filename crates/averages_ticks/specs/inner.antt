@@ -1,2 +1,3 @@
 -- What the crate's own functions ask of each other.
+pub mod Share
 pub mod Ticks

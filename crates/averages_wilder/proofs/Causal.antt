@@ -7,8 +7,7 @@ use Rattle.cells.proofs.Line.{causal-then, causal-with, causal-from}
 use Rattle.cells.proofs.Carried.{causal-carried}
 use Rattle.windows.proofs.Window.{sumFrom-same}
 use Rattle.changes.proofs.Causal.{causal-gains, causal-losses}
-use Rattle.averages_wilder_bar.specs.Step.{wilderStep}
-use Rattle.averages_wilder.specs.Wilder.{wilderSeed, wilder}
+use Rattle.averages_wilder.specs.Wilder.{wilderStep, wilderSeed, wilder}
 use Rattle.averages_wilder.specs.WilderRsi.{wilderCell, wilderRsiLine}
 
 pub causal-wilder : (n a : ℕ) → n ≤ a + 1 → Causal (wilder n a)

@@ -9,8 +9,8 @@ use lib.Ieee.{Float, nan}
 use Rattle.cells.specs.Line.{plusZero}
 use Rattle.cells.specs.inner.Leads.{Led}
 use Rattle.cells.proofs.Leads.{up-to-bar, lead-then, lead-only}
-use Rattle.work_rows.specs.inner.Scratch.{Scratch}
-use Rattle.work_rows.proofs.Scratch.{all-put, goes-on, then-put}
+use Rattle.cells.specs.inner.Scratch.{Scratch}
+use Rattle.cells.proofs.Scratch.{all-put, goes-on, then-put}
 use Rattle.averages_wilder.specs.WilderRsi.{wilderRsiLine}
 use Rattle.averages_wilder.specs.inner.Averaged.{Indexed}
 

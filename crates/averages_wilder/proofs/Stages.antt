@@ -10,8 +10,7 @@ use Rattle.windows.specs.Window.{over}
 use Rattle.windows.specs.inner.Sums.{Summing}
 use Rattle.windows.proofs.Window.{one-added}
 use Rattle.changes.specs.declared.Averages.{Averages}
-use Rattle.averages_wilder_bar.specs.Step.{wilderStep}
-use Rattle.averages_wilder.specs.Wilder.{wilderSeed, wilder}
+use Rattle.averages_wilder.specs.Wilder.{wilderStep, wilderSeed, wilder}
 use Rattle.averages_wilder.specs.WilderRsi.{wilderCell, wilderRsiLine}
 use Rattle.averages_wilder.specs.inner.Averaged.{Averaged}
 

@@ -2,14 +2,22 @@
 use calls::Answer;
 use changes::Averages;
 ghost use mathlib.Core.Path.{_≡_};
+ghost use Rattle.limits.specs.Limits.{Window};
+ghost use Rattle.averages_wilder.specs.Wilder.{wilderStep, wilder};
 ghost use Prim.Native.Nat.{_-_, _<_, _≤_};
 ghost use lib.ListN.{length};
-ghost use Rattle.limits.specs.Limits.{Window};
 ghost use Rattle.cells.specs.Line.{line};
 ghost use Rattle.cells.specs.Written.{Writing};
-ghost use Rattle.averages_wilder.specs.Wilder.{wilder};
 ghost use Rattle.averages_wilder.specs.WilderRsi.{wilderCell, WilderRsiCall};
 ghost use Rattle.averages_wilder.specs.inner.Averaged.{Averaged, Room, Indexed};
+
+// Wilder's next average: n - 1 parts of the last one and one part of x.
+pub fn step(last: f64, n: usize, x: f64) -> f64
+    requires { ⌜ Window n ⌝ }
+    ensures { λ r. ⌜ r ≡ wilderStep n last x ⌝ }
+{
+    (last * ((n - 1) as f64) + x) / (n as f64)
+}
 
 // The mean of the first n cells, summed from +0.0.
 fn first_mean(series: &[f64], n: usize) -> f64
@@ -37,7 +45,7 @@ fn write_from_mean(series: &[f64], n: usize, out: &mut [f64])
     while i + 1 < series.len() {
         out[i] = last;
         i += 1;
-        last = averages_wilder_bar::step(last, n, series[i]);
+        last = step(last, n, series[i]);
     }
     out[i] = last;
 }
@@ -93,8 +101,8 @@ fn next(series: &[f64], n: usize, i: usize, last: Averages) -> Averages
 {
     let change = changes::change_at(series, i);
     Averages {
-        gain: averages_wilder_bar::step(last.gain, n, changes::gain_of(change)),
-        loss: averages_wilder_bar::step(last.loss, n, changes::loss_of(change)),
+        gain: step(last.gain, n, changes::gain_of(change)),
+        loss: step(last.loss, n, changes::loss_of(change)),
     }
 }
 
@@ -111,12 +119,12 @@ fn write_from_seed(series: &[f64], n: usize, out: &mut [f64], work: &mut [f64])
     let mut i = n;
     while i + 1 < bars {
         out[i] = cell(averages);
-        work_rows::put(work, bars, i, 0.0);
+        cells::rows::put(work, bars, i, 0.0);
         i += 1;
         averages = next(series, n, i, averages);
     }
     out[i] = cell(averages);
-    work_rows::put(work, bars, i, 0.0);
+    cells::rows::put(work, bars, i, 0.0);
 }
 
 // Writes the index of every bar, NaN before bar n, and clears the work slice.
@@ -127,7 +135,7 @@ fn write_wilder_rsi(series: &[f64], n: usize, out: &mut [f64], work: &mut [f64])
 {
     let bars = series.len();
     let first = cells::fill_nan(out, n, bars);
-    work_rows::clear_bars(work, bars, first);
+    cells::rows::clear_bars(work, bars, first);
     if first < bars {
         write_from_seed(series, n, out, work);
     }

@@ -14,7 +14,7 @@ use Rattle.values.proofs.All.{and-parts}
 use Rattle.cells.specs.Line.{Line, line, Causal}
 use Rattle.cells.specs.Written.{Writing}
 use Rattle.cells.specs.inner.Rows.{beside}
-use Rattle.cells.proofs.Rows.{beside-first, beside-second, lent-on}
+use Rattle.cells.proofs.RowWrites.{beside-first, beside-second, lent-on}
 use Rattle.cells.proofs.Written.{ends, writing-same}
 
 -- ---- the first k bars of a series

@@ -1,3 +1,4 @@
+pub mod Deviation
 pub mod Call
 pub mod First
 pub mod Lines

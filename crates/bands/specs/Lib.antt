@@ -1,4 +1,4 @@
 -- Bands about the ultimate smoother.
+pub mod inner
 pub mod Bands
 pub mod Cases
-pub mod inner

@@ -1,3 +1,4 @@
 pub mod Call
 pub mod Cells
 pub mod Room
+pub mod InNumbers

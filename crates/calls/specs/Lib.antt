@@ -1,4 +1,5 @@
--- What a call answers: the refusals, and the contract of every call.
+-- What a call answers, and its contract; the same in numbers for C.
 pub mod Answer
 pub mod Call
 pub mod inner
+pub mod Numbers

@@ -1,4 +1,6 @@
-// What a call answers: a count of cells, or one of document 01's refusals.
+// What a call answers: a count of cells, or one of document 01's refusals; and the same in numbers for C (`numbers`).
+pub mod numbers;
+
 ghost use mathlib.Core.Path.{_≡_};
 ghost use lib.Dec.{ltb};
 ghost use Rattle.calls.specs.Answer.{number, refusalOf, countOf};

@@ -1,44 +1,44 @@
 // The library as C functions: each calls the library's own and turns its answer into numbers. include/tegbalowu.h
 // declares them.
-use capi_answer::CAnswer;
+use calls::numbers::CAnswer;
 ghost use Rattle.averages.specs.Sma.{SmaCall};
-ghost use Rattle.averages_exponential.specs.Ema.{EmaCall};
-ghost use Rattle.averages_exponential.specs.ExponentialSmoothing.{ExponentialSmoothingCall};
+ghost use Rattle.averages.specs.Ema.{EmaCall};
+ghost use Rattle.averages.specs.ExponentialSmoothing.{ExponentialSmoothingCall};
 ghost use Rattle.averages_ticks.specs.TickMean.{TickMeanCall};
 ghost use Rattle.true_range.specs.TrueRange.{TrueRangeCall};
 ghost use Rattle.smoother.specs.Smoother.{UltimateSmootherCall};
 ghost use Rattle.rules_single.specs.Single.{SingleCall};
-ghost use Rattle.rules_double_bar.specs.Double.{DoubleCall};
+ghost use Rattle.rules_double.specs.Double.{DoubleCall};
 ghost use Rattle.rules_middle.specs.Middle.{MidCall};
-ghost use Rattle.capi_answer.specs.Numbers.{InNumbers};
+ghost use Rattle.calls.specs.Numbers.{InNumbers};
 ghost use Rattle.averages_wilder.specs.WilderRsi.{WilderRsiCall};
 ghost use Rattle.rsx.specs.Rsx.{RsxCall};
 ghost use Rattle.holt_winters.specs.HoltWinters.{HoltWintersCall};
-ghost use Rattle.jurik_bar.specs.Jurik.{JurikCall};
-ghost use Rattle.channel_widths.specs.Channel.{ChannelCall};
+ghost use Rattle.jurik.specs.Jurik.{JurikCall};
+ghost use Rattle.channel.specs.Channel.{ChannelCall};
 ghost use Rattle.bands.specs.Bands.{UltimateBandsCall};
-ghost use Rattle.oscillator_bar.specs.Oscillator.{OscillatorCall};
-ghost use Rattle.rules_bands_bar.specs.Boll.{BollCall};
-ghost use Rattle.rules_bands_bar.specs.BollReverse.{BollReverseCall};
-ghost use Rattle.rules_rsi_bar.specs.RsiReverse.{RsiReverseCall};
-ghost use Rattle.rules_ema_bar.specs.SingleEma.{SingleEmaCall};
+ghost use Rattle.oscillator.specs.Oscillator.{OscillatorCall};
+ghost use Rattle.rules_bands.specs.Boll.{BollCall};
+ghost use Rattle.rules_bands.specs.BollReverse.{BollReverseCall};
+ghost use Rattle.rules_rsi.specs.RsiReverse.{RsiReverseCall};
+ghost use Rattle.rules_ema.specs.SingleEma.{SingleEmaCall};
 ghost use Rattle.rules_mms.specs.Mms.{MmsCall};
 ghost use Rattle.rules_rank.specs.Rank.{RankCall};
-ghost use Rattle.rules_rolling_rank.specs.RollingRank.{RollingRankCall};
-ghost use Rattle.rules_triple_bar.specs.Triple.{TripleCall};
+ghost use Rattle.rules_rank.specs.RollingRank.{RollingRankCall};
+ghost use Rattle.rules_triple.specs.Triple.{TripleCall};
 
 #[no_mangle]
 pub extern "C" fn tegbalowu_sma(series: &[f64], n: usize, out: &mut [f64]) -> CAnswer
     ensures { λ r. ⌜ InNumbers (λ a. SmaCall (now (series .entry)) n (now (out .entry)) a (now (out .exit))) r ⌝ }
 {
-    capi_answer::numbers(averages::sma(series, n, out))
+    calls::numbers::numbers(averages::sma(series, n, out))
 }
 
 #[no_mangle]
 pub extern "C" fn tegbalowu_ema(series: &[f64], n: usize, out: &mut [f64]) -> CAnswer
     ensures { λ r. ⌜ InNumbers (λ a. EmaCall (now (series .entry)) n (now (out .entry)) a (now (out .exit))) r ⌝ }
 {
-    capi_answer::numbers(averages_exponential::ema(series, n, out))
+    calls::numbers::numbers(averages::exponential::ema(series, n, out))
 }
 
 #[no_mangle]
@@ -50,14 +50,14 @@ pub extern "C" fn tegbalowu_exponential_smoothing(
     ensures { λ r. ⌜ InNumbers (λ a. ExponentialSmoothingCall (now (series .entry)) alpha (now (out .entry)) a
         (now (out .exit))) r ⌝ }
 {
-    capi_answer::numbers(averages_exponential::exponential_smoothing(series, alpha, out))
+    calls::numbers::numbers(averages::exponential::exponential_smoothing(series, alpha, out))
 }
 
 #[no_mangle]
 pub extern "C" fn tegbalowu_tick_mean(series: &[f64], n: usize, out: &mut [i64]) -> CAnswer
     ensures { λ r. ⌜ InNumbers (λ a. TickMeanCall (now (series .entry)) n (now (out .entry)) a (now (out .exit))) r ⌝ }
 {
-    capi_answer::numbers(averages_ticks::tick_mean(series, n, out))
+    calls::numbers::numbers(averages_ticks::tick_mean(series, n, out))
 }
 
 #[no_mangle]
@@ -69,7 +69,7 @@ pub extern "C" fn tegbalowu_ultimate_smoother(
     ensures { λ r. ⌜ InNumbers (λ a. UltimateSmootherCall (now (price .entry)) period (now (out .entry)) a
         (now (out .exit))) r ⌝ }
 {
-    capi_answer::numbers(smoother::ultimate_smoother(price, period, out))
+    calls::numbers::numbers(smoother::ultimate_smoother(price, period, out))
 }
 
 #[no_mangle]
@@ -82,7 +82,7 @@ pub extern "C" fn tegbalowu_true_range(
     ensures { λ r. ⌜ InNumbers (λ a. TrueRangeCall (now (high .entry)) (now (low .entry)) (now («close_prev» .entry))
         (now (out .entry)) a (now (out .exit))) r ⌝ }
 {
-    capi_answer::numbers(true_range::true_range(high, low, close_prev, out))
+    calls::numbers::numbers(true_range::true_range(high, low, close_prev, out))
 }
 
 #[no_mangle]
@@ -95,7 +95,7 @@ pub extern "C" fn tegbalowu_single_sma_positions(
     ensures { λ r. ⌜ InNumbers (λ a. SingleCall (now (series .entry)) n (now (out .entry)) (now (work .entry)) a
         (now (out .exit)) (now (work .exit))) r ⌝ }
 {
-    capi_answer::numbers(rules::single_sma_positions(series, n, out, work))
+    calls::numbers::numbers(rules::single_sma_positions(series, n, out, work))
 }
 
 #[no_mangle]
@@ -107,7 +107,7 @@ pub extern "C" fn tegbalowu_double_sma_positions(
 ) -> CAnswer
     ensures { λ r. ⌜ InNumbers (λ a. DoubleCall (now (series .entry)) n m (now (out .entry)) a (now (out .exit))) r ⌝ }
 {
-    capi_answer::numbers(rules::double_sma_positions(series, n, m, out))
+    calls::numbers::numbers(rules::double_sma_positions(series, n, m, out))
 }
 
 #[no_mangle]
@@ -120,7 +120,7 @@ pub extern "C" fn tegbalowu_mid_positions(
     ensures { λ r. ⌜ InNumbers (λ a. MidCall (now (series .entry)) n (now (out .entry)) (now (work .entry)) a
         (now (out .exit)) (now (work .exit))) r ⌝ }
 {
-    capi_answer::numbers(rules::mid_positions(series, n, out, work))
+    calls::numbers::numbers(rules::mid_positions(series, n, out, work))
 }
 
 #[no_mangle]
@@ -134,7 +134,7 @@ pub extern "C" fn tegbalowu_mms_positions(
     ensures { λ r. ⌜ InNumbers (λ a. MmsCall (now (series .entry)) timeperiod window (now (out .entry))
         (now (work .entry)) a (now (out .exit)) (now (work .exit))) r ⌝ }
 {
-    capi_answer::numbers(rules::mms_positions(series, timeperiod, window, out, work))
+    calls::numbers::numbers(rules::mms_positions(series, timeperiod, window, out, work))
 }
 
 #[no_mangle]
@@ -149,7 +149,7 @@ pub extern "C" fn tegbalowu_triple_sma_positions(
     ensures { λ r. ⌜ InNumbers (λ a. TripleCall (now (series .entry)) m1 m2 m3 (now (out .entry))
         (now (work .entry)) a (now (out .exit)) (now (work .exit))) r ⌝ }
 {
-    capi_answer::numbers(rules::triple_sma_positions(series, m1, m2, m3, out, work))
+    calls::numbers::numbers(rules::triple_sma_positions(series, m1, m2, m3, out, work))
 }
 
 #[no_mangle]
@@ -162,7 +162,7 @@ pub extern "C" fn tegbalowu_single_ema_positions(
     ensures { λ r. ⌜ InNumbers (λ a. SingleEmaCall (now (series .entry)) n (now (out .entry)) (now (work .entry)) a
         (now (out .exit)) (now (work .exit))) r ⌝ }
 {
-    capi_answer::numbers(rules::single_ema_positions(series, n, out, work))
+    calls::numbers::numbers(rules::single_ema_positions(series, n, out, work))
 }
 
 #[no_mangle]
@@ -175,7 +175,7 @@ pub extern "C" fn tegbalowu_wilder_rsi(
     ensures { λ r. ⌜ InNumbers (λ a. WilderRsiCall (now (series .entry)) n (now (out .entry)) (now (work .entry)) a
         (now (out .exit)) (now (work .exit))) r ⌝ }
 {
-    capi_answer::numbers(averages_wilder::wilder_rsi(series, n, out, work))
+    calls::numbers::numbers(averages_wilder::wilder_rsi(series, n, out, work))
 }
 
 #[no_mangle]
@@ -189,7 +189,7 @@ pub extern "C" fn tegbalowu_rsx_ss2(
     ensures { λ r. ⌜ InNumbers (λ a. RsxCall (now (close .entry)) period «smooth_period» (now (out .entry))
         (now (work .entry)) a (now (out .exit)) (now (work .exit))) r ⌝ }
 {
-    capi_answer::numbers(rsx::rsx_ss2(close, period, smooth_period, out, work))
+    calls::numbers::numbers(rsx::rsx_ss2(close, period, smooth_period, out, work))
 }
 
 #[no_mangle]
@@ -205,7 +205,7 @@ pub extern "C" fn tegbalowu_holt_winters(
     ensures { λ r. ⌜ InNumbers (λ a. HoltWintersCall (now (series .entry)) «season_length» alpha beta gamma
         (now (out .entry)) (now (work .entry)) a (now (out .exit)) (now (work .exit))) r ⌝ }
 {
-    capi_answer::numbers(holt_winters::holt_winters(
+    calls::numbers::numbers(holt_winters::holt_winters(
         series,
         season_length,
         alpha,
@@ -227,7 +227,7 @@ pub extern "C" fn tegbalowu_jurik_volty(
     ensures { λ r. ⌜ InNumbers (λ a. JurikCall (now (close .entry)) period power (now (out .entry))
         (now (work .entry)) a (now (out .exit)) (now (work .exit))) r ⌝ }
 {
-    capi_answer::numbers(jurik::jurik_volty(close, period, power, out, work))
+    calls::numbers::numbers(jurik::jurik_volty(close, period, power, out, work))
 }
 
 #[no_mangle]
@@ -246,7 +246,7 @@ pub extern "C" fn tegbalowu_ultimate_channel(
         multiplier (now (middle .entry)) (now (upper .entry)) (now (lower .entry)) (now (work .entry)) a
         (now (middle .exit)) (now (upper .exit)) (now (lower .exit)) (now (work .exit))) r ⌝ }
 {
-    capi_answer::numbers(channel::ultimate_channel(
+    calls::numbers::numbers(channel::ultimate_channel(
         high,
         low,
         close,
@@ -284,7 +284,7 @@ pub extern "C" fn tegbalowu_ultimate_oscillator(
         out,
         work,
     );
-    capi_answer::numbers(answer)
+    calls::numbers::numbers(answer)
 }
 
 #[no_mangle]
@@ -302,7 +302,7 @@ pub extern "C" fn tegbalowu_ultimate_bands(
         (now (middle .entry)) (now (upper .entry)) (now (lower .entry)) (now (work .entry)) a
         (now (middle .exit)) (now (upper .exit)) (now (lower .exit)) (now (work .exit))) r ⌝ }
 {
-    capi_answer::numbers(bands::ultimate_bands(
+    calls::numbers::numbers(bands::ultimate_bands(
         close,
         period,
         std_multiplier,
@@ -324,7 +324,7 @@ pub extern "C" fn tegbalowu_rank_positions(
     ensures { λ r. ⌜ InNumbers (λ a. RankCall (now (series .entry)) n (now (out .entry)) (now (work .entry)) a
         (now (out .exit)) (now (work .exit))) r ⌝ }
 {
-    capi_answer::numbers(rules::rank_positions(series, n, out, work))
+    calls::numbers::numbers(rules::rank_positions(series, n, out, work))
 }
 
 #[no_mangle]
@@ -338,7 +338,7 @@ pub extern "C" fn tegbalowu_rolling_rank(
         (now (work .entry)) a
         (now (out .exit)) (now (work .exit))) r ⌝ }
 {
-    capi_answer::numbers(rules::rolling_rank(series, window, out, work))
+    calls::numbers::numbers(rules::rolling_rank(series, window, out, work))
 }
 
 #[no_mangle]
@@ -352,7 +352,7 @@ pub extern "C" fn tegbalowu_boll_positions(
     ensures { λ r. ⌜ InNumbers (λ a. BollCall (now (series .entry)) n k (now (out .entry)) (now (work .entry)) a
         (now (out .exit)) (now (work .exit))) r ⌝ }
 {
-    capi_answer::numbers(rules::boll_positions(series, n, k, out, work))
+    calls::numbers::numbers(rules::boll_positions(series, n, k, out, work))
 }
 
 #[no_mangle]
@@ -366,7 +366,7 @@ pub extern "C" fn tegbalowu_boll_reverse_positions(
     ensures { λ r. ⌜ InNumbers (λ a. BollReverseCall (now (series .entry)) n k (now (out .entry)) (now (work .entry))
         a (now (out .exit)) (now (work .exit))) r ⌝ }
 {
-    capi_answer::numbers(rules::boll_reverse_positions(series, n, k, out, work))
+    calls::numbers::numbers(rules::boll_reverse_positions(series, n, k, out, work))
 }
 
 #[no_mangle]
@@ -382,7 +382,7 @@ pub extern "C" fn tegbalowu_rsi_reverse_positions(
     ensures { λ r. ⌜ InNumbers (λ a. RsiReverseCall (now (series .entry)) n «rsi_upper» «rsi_lower» «rsi_exit»
         (now (out .entry)) (now (work .entry)) a (now (out .exit)) (now (work .exit))) r ⌝ }
 {
-    capi_answer::numbers(rules::rsi_reverse_positions(
+    calls::numbers::numbers(rules::rsi_reverse_positions(
         series,
         n,
         rsi_upper,

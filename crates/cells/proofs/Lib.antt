@@ -4,7 +4,9 @@ pub mod Leads
 pub mod Line
 pub mod Parts
 pub mod Recur
-pub mod Rows
+pub mod RowWrites
 pub mod Search
 pub mod Touched
 pub mod Written
+pub mod Finished
+pub mod Scratch

@@ -8,7 +8,7 @@ use lib.ListN.{length, drop, set, length-set}
 use lib.Seq.{drop-set-lt}
 use Rattle.cells.specs.Written.{written, Writing}
 use Rattle.cells.specs.inner.Touched.{Touched}
-use Rattle.cells.proofs.Rows.{drop-written}
+use Rattle.cells.proofs.RowWrites.{drop-written}
 
 module _ {A : Type 0} where
   pub untouched : {k : ℕ} {s : List A} → Touched k s s

@@ -1,4 +1,4 @@
--- Lines of cells, what is written of them, and recurrences.
+-- Lines of cells, recurrences, searches, and slices that are written.
 pub mod Line
 pub mod Recur
 pub mod Search

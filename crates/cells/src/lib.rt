@@ -1,4 +1,7 @@
-// Writing cells: filling and clearing slices; and the bytes of a block that are not used yet, moved to its front.
+// Writing cells: filling and clearing slices, and work slices in rows (`rows`); and the bytes of a block that are not
+// used yet, moved to its front.
+pub mod rows;
+
 ghost use mathlib.Core.Path.{_≡_};
 ghost use Prim.Native.Nat.{_≤_, min};
 ghost use lib.ListN.{length};

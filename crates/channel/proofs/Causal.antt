@@ -8,7 +8,7 @@ use Rattle.averages_wilder.proofs.Causal.{causal-wilder}
 use Rattle.smoother_table.specs.Coefficients.{coefficients}
 use Rattle.smoother.proofs.Smoother.{causal-smooth}
 use Rattle.outer_lines.specs.OuterLines.{upperLine, lowerLine}
-use Rattle.channel_widths.specs.Channel.{averageRange, channelMiddle, channelWidth, channelUpper, channelLower}
+use Rattle.channel.specs.Channel.{averageRange, channelMiddle, channelWidth, channelUpper, channelLower}
 
 module _ (n : ℕ) where
   causal-average : Causal₃ (averageRange n)

@@ -1,2 +1,4 @@
 -- The ultimate channel.
+pub mod Channel
+pub mod inner
 pub mod Cases

@@ -28,9 +28,9 @@ use Rattle.rounding_laws.proofs.Bounds.{
 }
 use Rattle.cells.proofs.Parts.{part-long}
 use Rattle.cells.specs.Written.{Writing}
-use Rattle.extremes_ranges.proofs.Parts.{part-numbers}
-use Rattle.extremes_blocks.specs.inner.Best.{Numbers}
-use Rattle.extremes_ranges.specs.inner.Blocks.{Room}
+use Rattle.extremes.proofs.Parts.{part-numbers}
+use Rattle.extremes.specs.inner.Best.{Numbers}
+use Rattle.extremes.specs.inner.Blocks.{Room}
 use Rattle.limits.specs.Limits.{Window, longestSeries}
 
 -- ---- accepted prices

@@ -1,3 +1,4 @@
 -- The highest and the lowest of the last n cells.
 pub mod Extreme
 pub mod Whole
+pub mod inner

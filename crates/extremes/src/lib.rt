@@ -1,4 +1,8 @@
-// The larger and the smaller of two numbers, of which the highest and the lowest of several are made.
+// The highest and the lowest of the last cells: the larger and the smaller of two, blocks of neighbouring cells
+// (`blocks`), and every window (`ranges`).
+pub mod blocks;
+pub mod ranges;
+
 ghost use mathlib.Core.Path.{_≡_};
 ghost use Rattle.extremes.specs.Extreme.{larger, smaller};
 

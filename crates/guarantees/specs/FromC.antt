@@ -10,9 +10,9 @@ use Rattle.calls.specs.declared.Answer.{Answer}
 use Rattle.calls.specs.declared.Answer.the-variants.{Cells}
 use Rattle.averages.specs.Sma.{SmaCall}
 use Rattle.rules_single.specs.Single.{SingleCall}
-use Rattle.capi_answer.specs.declared.CAnswer.{CAnswer}
-use Rattle.capi_answer.specs.Numbers.{InNumbers}
-use Rattle.capi_answer.proofs.InNumbers.{accepted-call}
+use Rattle.calls.specs.declared.numbers.CAnswer.{CAnswer}
+use Rattle.calls.specs.Numbers.{InNumbers}
+use Rattle.calls.proofs.InNumbers.{accepted-call}
 use Rattle.guarantees.specs.Series.{WholeTicks}
 use Rattle.guarantees.specs.OnTicks.{windowSumOf, IsMean, sma-on-ticks}
 use Rattle.guarantees.specs.Positions.{Position, single-writes-positions}

@@ -11,8 +11,8 @@ use Rattle.calls.proofs.Cells.{cell-at}
 use Rattle.bands.specs.Bands.{UltimateBandsCall}
 use Rattle.bands.proofs.Call.{bands-bars, bands-ready}
 use Rattle.bands.proofs.Lines.{nan-bands}
-use Rattle.channel_widths.specs.Channel.{ChannelCall}
-use Rattle.channel_widths.proofs.Stages.{channel-bars, channel-ready, nan-outer}
+use Rattle.channel.specs.Channel.{ChannelCall}
+use Rattle.channel.proofs.Stages.{channel-bars, channel-ready, nan-outer}
 
 -- With period 5 or more, both outer lines of the channel are NaN at every bar.
 pub channel-outer-lines-nan : (high low close : List Float) (n : ℕ) (k : Float)

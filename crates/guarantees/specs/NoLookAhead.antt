@@ -14,7 +14,7 @@ use Rattle.values.specs.Accepted.{accepted, tick}
 use Rattle.cells.specs.Line.{Line, line, Same, Causal}
 use Rattle.calls.specs.declared.Answer.{Answer}
 use Rattle.calls.specs.declared.Answer.the-variants.{Cells}
-use Rattle.calls.specs.Answer.{andThen, checked, answered}
+use Rattle.calls.specs.Answer.{andThen, checked, answered, answeredWith}
 use Rattle.calls.specs.Call.{Call}
 use Rattle.calls.proofs.Room.{EachWindow, room, opened}
 use Rattle.calls.proofs.Cells.{cell-at, room-after, no-look-ahead}
@@ -22,9 +22,9 @@ use Rattle.checks.proofs.Passed.{three-passed}
 use Rattle.checks.proofs.Three.{checked-three-room}
 use Rattle.averages.specs.Sma.{SmaCall}
 use Rattle.averages.proofs.Causal.{causal-sma}
-use Rattle.averages_exponential.specs.Ema.{EmaCall}
-use Rattle.averages_exponential.specs.ExponentialSmoothing.{exponentialAnswer, ExponentialSmoothingCall}
-use Rattle.averages_exponential.proofs.Causal.{causal-ema, causal-exponential}
+use Rattle.averages.specs.Ema.{EmaCall}
+use Rattle.averages.specs.ExponentialSmoothing.{exponentialAnswer, ExponentialSmoothingCall}
+use Rattle.averages.proofs.CausalExponential.{causal-ema, causal-exponential}
 use Rattle.averages_ticks.specs.TickMean.{TickMeanCall}
 use Rattle.averages_ticks.proofs.Causal.{causal-tick-mean}
 use Rattle.smoother_table.specs.Coefficients.{coefficients}
@@ -33,11 +33,11 @@ use Rattle.smoother.specs.Smoother.{smootherAnswer, UltimateSmootherCall}
 use Rattle.smoother.proofs.Smoother.{causal-smooth}
 use Rattle.true_range.specs.TrueRange.{TrueRangeCall}
 use Rattle.true_range.proofs.TrueRange.{Causal₃, causal-given, causal-ranges}
-use Rattle.oscillator_bar.specs.Oscillator.{oscillatorAnswer, OscillatorCall}
+use Rattle.oscillator.specs.Oscillator.{oscillatorAnswer, OscillatorCall}
 use Rattle.oscillator.proofs.Oscillator.{causal-oscillator}
 use Rattle.rules_single.specs.Single.{SingleCall}
 use Rattle.rules_single.proofs.Single.{causal-single}
-use Rattle.rules_double_bar.specs.Double.{doubleAnswer, DoubleCall}
+use Rattle.rules_double.specs.Double.{doubleAnswer, DoubleCall}
 use Rattle.rules_double.proofs.Double.{causal-double}
 use Rattle.rules_double.proofs.Open.{double-opened}
 use Rattle.rules_middle.specs.Middle.{MidCall}
@@ -52,22 +52,21 @@ use Rattle.bands.proofs.Call.{bands-ready}
 use Rattle.bands.proofs.Lines.{causal-bands-middle, causal-bands-upper, causal-bands-lower}
 use Rattle.bands.specs.Bands.{UltimateBandsCall}
 use Rattle.channel.proofs.Causal.{causal-channel-middle, causal-channel-upper, causal-channel-lower}
-use Rattle.channel_widths.proofs.Stages.{channel-ready}
-use Rattle.channel_widths.specs.Channel.{ChannelCall}
-use Rattle.rules_bands_bar.proofs.Bands.{causal-boll, causal-boll-reverse}
-use Rattle.rules_bands_bar.specs.Answer.{bandAnswer}
-use Rattle.rules_bands_bar.specs.Boll.{BollCall}
-use Rattle.rules_bands_bar.specs.BollReverse.{BollReverseCall}
+use Rattle.channel.proofs.Stages.{channel-ready}
+use Rattle.channel.specs.Channel.{ChannelCall}
+use Rattle.rules_bands.proofs.Bands.{causal-boll, causal-boll-reverse}
+use Rattle.rules_bands.specs.Boll.{BollCall}
+use Rattle.rules_bands.specs.BollReverse.{BollReverseCall}
 use Rattle.rules_mms.proofs.Scaled.{causal-mms}
 use Rattle.rules_mms.specs.Mms.{MmsCall}
 use Rattle.rules_rank.proofs.Causal.{causal-rank}
 use Rattle.rules_rank.specs.Rank.{RankCall}
-use Rattle.rules_rolling_rank.proofs.Causal.{causal-rolling-rank}
-use Rattle.rules_rolling_rank.specs.RollingRank.{RollingRankCall, rollingRankAnswer}
-use Rattle.rules_rsi_bar.proofs.Index.{causal-rsi-reverse}
-use Rattle.rules_rsi_bar.specs.RsiReverse.{RsiReverseCall, rsiReverseAnswer}
+use Rattle.rules_rank.proofs.CausalRolling.{causal-rolling-rank}
+use Rattle.rules_rank.specs.RollingRank.{RollingRankCall, rollingRankAnswer}
+use Rattle.rules_rsi.proofs.Index.{causal-rsi-reverse}
+use Rattle.rules_rsi.specs.RsiReverse.{RsiReverseCall}
 use Rattle.rules_triple.proofs.Crossover.{causal-triple}
-use Rattle.rules_triple_bar.specs.Triple.{TripleCall, tripleAnswer}
+use Rattle.rules_triple.specs.Triple.{TripleCall, tripleAnswer}
 
 -- both series have more than b bars, and the same values at bars 0 to b
 pub record EqualBars (s t : List Float) (b : ℕ) : Type 0 where
@@ -218,22 +217,26 @@ module _ {s t : List Float} {out₀ out₁ out₀′ out₁′ : List ℤ} {work
 
   pub boll-no-look-ahead : (n : ℕ) (k : Float) → BollCall s n k out₀ work₀ (Cells (length s)) out₁ work₁
       → BollCall t n k out₀′ work₀′ (Cells (length t)) out₁′ work₁′ → EqualCells (pos 0) out₁ out₁′ b
-  unfolding bandAnswer
-  boll-no-look-ahead n k c c′ = table-agrees (pos 0) accepted equal _ _ _ _ (causal-boll n k) (c .call) (c′ .call)
+  unfolding answeredWith
+  boll-no-look-ahead n k c c′ =
+      table-agrees (pos 0) accepted equal (length work₀ ∷ []) (length work₀′ ∷ []) _ _
+      (causal-boll n k) (c .call) (c′ .call)
 
   pub boll-reverse-no-look-ahead : (n : ℕ) (k : Float) → BollReverseCall s n k out₀ work₀ (Cells (length s)) out₁ work₁
       → BollReverseCall t n k out₀′ work₀′ (Cells (length t)) out₁′ work₁′ → EqualCells (pos 0) out₁ out₁′ b
-  unfolding bandAnswer
+  unfolding answeredWith
   boll-reverse-no-look-ahead n k c c′ =
-      table-agrees (pos 0) accepted equal _ _ _ _ (causal-boll-reverse n k) (c .call) (c′ .call)
+      table-agrees (pos 0) accepted equal (length work₀ ∷ []) (length work₀′ ∷ []) _ _
+      (causal-boll-reverse n k) (c .call) (c′ .call)
 
   pub rsi-reverse-no-look-ahead : (n : ℕ) (upper lower exit : Float)
       → RsiReverseCall s n upper lower exit out₀ work₀ (Cells (length s)) out₁ work₁
       → RsiReverseCall t n upper lower exit out₀′ work₀′ (Cells (length t)) out₁′ work₁′
       → EqualCells (pos 0) out₁ out₁′ b
-  unfolding rsiReverseAnswer
+  unfolding answeredWith
   rsi-reverse-no-look-ahead n upper lower exit c c′ =
-      table-agrees (pos 0) accepted equal _ _ _ _ (causal-rsi-reverse n upper lower exit) (c .call) (c′ .call)
+      table-agrees (pos 0) accepted equal (length work₀ ∷ []) (length work₀′ ∷ []) _ _
+      (causal-rsi-reverse n upper lower exit) (c .call) (c′ .call)
 
 pub rolling-rank-no-look-ahead : {s t : List Float} {out₀ out₁ out₀′ out₁′ : List ℕ}
     {work₀ work₁ work₀′ work₁′ : List Float} {b : ℕ}

@@ -18,12 +18,12 @@ use Rattle.rounding_laws.proofs.Quotient.{quotient, Whole, quotient-is, quotien
 use Rattle.calls.specs.declared.Answer.the-variants.{Cells}
 use Rattle.cells.specs.Line.{plusZero, line}
 use Rattle.rules_double.proofs.Open.{double-opened, double-room, double-whole}
-use Rattle.rules_double_bar.specs.Double.{DoubleCall}
+use Rattle.rules_double.specs.Double.{DoubleCall}
 use Rattle.exact_ticks.proofs.Exact.{window-whole, TickLine}
 use Rattle.averages.proofs.Ticks.{sma-exact}
 use Rattle.windows.specs.Window.{windowTotal}
 use Rattle.guarantees.specs.Series.{WholeTicks, price}
-use Rattle.rules_double_bar.proofs.Ticks.{double-exact}
+use Rattle.rules_double.proofs.Ticks.{double-exact}
 use Rattle.rules_single.proofs.Ticks.{single-exact}
 use Rattle.extremes.specs.Whole.{highest, lowest}
 use Rattle.rules_middle.proofs.Ticks.{middle-exact}

@@ -17,7 +17,7 @@ use Rattle.windows.specs.Window.{mean}
 use Rattle.extremes.specs.Extreme.{larger, smaller, extreme}
 use Rattle.rules_double.proofs.Open.{double-opened, double-room, double-whole}
 use Rattle.rules_single.specs.Single.{singleLine, SingleCall}
-use Rattle.rules_double_bar.specs.Double.{runningMean, doubleLine, DoubleCall}
+use Rattle.rules_double.specs.Double.{runningMean, doubleLine, DoubleCall}
 use Rattle.rules_middle.specs.Middle.{midLine, MidCall}
 use Rattle.rounding_laws.proofs.Bounds.{AtMost, add-at-most, div-at-most, sub-at-most}
 use Rattle.exact_ticks.proofs.Bounds.{
@@ -31,8 +31,8 @@ use Rattle.exact_ticks.proofs.Bounds.{
 use Rattle.rules_double.proofs.Bounds.{running-mean-bounded}
 use Rattle.rules_middle.proofs.Ticks.{two-is}
 use Rattle.calls.proofs.Cells.{bar, cell-at}
-use Rattle.rules_ema_bar.specs.SingleEma.{firstUsable, singleEmaFrom, singleEmaLine, SingleEmaCall}
-use Rattle.rules_ema_runs.proofs.Bounds.{gap-bounded}
+use Rattle.rules_ema.specs.SingleEma.{firstUsable, singleEmaFrom, singleEmaLine, SingleEmaCall}
+use Rattle.rules_ema.proofs.Bounds.{gap-bounded}
 use Rattle.rules_mms.specs.Mms.{MmsCall}
 use Rattle.rules_mms.proofs.Within.{mms-within}
 use Rattle.rules_rank.specs.Rank.{RankCall}

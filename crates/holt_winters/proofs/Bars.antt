@@ -8,8 +8,8 @@ use borrow.Author.Tests.{lt-ltb, le-ltb, eq-eqb, ne-eqb}
 use Rattle.cells.specs.Line.{Line}
 use Rattle.cells.specs.Recur.{recur}
 use Rattle.windows.specs.Window.{mean}
-use Rattle.holt_winters_bar.specs.declared.Fit.{Fit}
-use Rattle.holt_winters_bar.specs.declared.Weights.{Weights}
+use Rattle.holt_winters.specs.declared.Fit.{Fit}
+use Rattle.holt_winters.specs.declared.Weights.{Weights}
 use Rattle.holt_winters.specs.HoltWinters.{firstFit, nextFit, withNext, fitsAfter, fitLine}
 use Rattle.holt_winters.specs.HoltWinters.{total, holtWintersLine}
 

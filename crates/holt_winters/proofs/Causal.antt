@@ -9,8 +9,8 @@ use lib.Dec.{ltb}
 use Rattle.cells.specs.Line.{Line, Same, Causal}
 use Rattle.cells.specs.Recur.{recur}
 use Rattle.windows.proofs.Window.{causal-mean}
-use Rattle.holt_winters_bar.specs.declared.Fit.{Fit}
-use Rattle.holt_winters_bar.specs.declared.Weights.{Weights}
+use Rattle.holt_winters.specs.declared.Fit.{Fit}
+use Rattle.holt_winters.specs.declared.Weights.{Weights}
 use Rattle.holt_winters.specs.HoltWinters.{total, withNext, fitsAfter, fitLine, holtWintersLine}
 
 module _ (m : ℕ) (w : Weights) (f g : Line) (b : ℕ) (s : Same f g b) where

@@ -3,9 +3,12 @@
 use mathlib.Core.Bool.{cond}
 use mathlib.Core.List.{List, [], _∷_}
 use Prim.Native.Nat.{ℕ, _+_, _-_}
+use lib.Ieee.{Float, binary64, add, sub}
 use lib.Dec.{ltb, eqb}
 use lib.ListN.{length}
-use lib.Ieee.{Float, binary64, add, sub}
+use Rattle.averages.specs.Blend.{blend}
+use Rattle.holt_winters.specs.declared.Fit.{Fit}
+use Rattle.holt_winters.specs.declared.Weights.{Weights}
 use Rattle.cells.specs.Line.{Line, line, plusZero}
 use Rattle.cells.specs.Recur.{recur}
 use Rattle.windows.specs.Window.{mean}
@@ -14,9 +17,14 @@ use Rattle.calls.specs.declared.Answer.{Answer}
 use Rattle.calls.specs.declared.Answer.the-variants.{Cells}
 use Rattle.calls.specs.Answer.{andThen, checked, limited, unlessEmpty, emptyIf}
 use Rattle.calls.specs.Call.{WorkCall}
-use Rattle.holt_winters_bar.specs.declared.Fit.{Fit}
-use Rattle.holt_winters_bar.specs.declared.Weights.{Weights}
-unfoldable pub use Rattle.holt_winters_bar.specs.Later.{nextFit}
+
+-- A later bar, of price x: `last` is the bar before it, and `old` the seasonal part one season before it. Each part
+-- blends what the price says with what was known.
+unfoldable pub nextFit : Weights → Fit → Float → Float → Fit
+nextFit w last old x =
+    let level = blend (w .alpha) (add binary64 (last .level) (last .trend)) (sub binary64 x old) in
+    let trend = blend (w .beta) (last .trend) (sub binary64 level (last .level)) in
+    record { level = level; trend = trend; season = blend (w .gamma) old (sub binary64 x level) }
 
 -- how much a new price weighs in the level, in the trend and in the seasonal part
 abbrev pub weights : Float → Float → Float → Weights

@@ -1,3 +1,5 @@
+pub mod TwoPasses
+pub mod Copied
 pub mod Causal
 pub mod Fused
 pub mod Stages

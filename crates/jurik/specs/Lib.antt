@@ -1,2 +1,4 @@
 -- The volatility smoothed three times.
+pub mod Jurik
+pub mod inner
 pub mod Cases

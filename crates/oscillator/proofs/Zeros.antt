@@ -29,9 +29,9 @@ use Rattle.values.proofs.All.{all-at, and-parts}
 use Rattle.cells.specs.Line.{Line, line}
 use Rattle.extremes.specs.Extreme.{larger, smaller}
 use Rattle.exact_ticks.proofs.Bounds.{prices-bounded}
-use Rattle.window_laws.proofs.Zeros.{EitherZero, either-nan, either-inf, either-fin, either-plus, either-rounded}
+use Rattle.windows.proofs.Zeros.{EitherZero, either-nan, either-inf, either-fin, either-plus, either-rounded}
 use Rattle.true_range.specs.TrueRange.{trueRange, trueRanges, givenBefore, closeBefore}
-use Rattle.oscillator_bar.specs.Oscillator.{pressure, pressures}
+use Rattle.oscillator.specs.Oscillator.{pressure, pressures}
 
 -- ---- a whole number of units, rounded, is not 0 unless it was
 

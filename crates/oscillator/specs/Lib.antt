@@ -1,3 +1,4 @@
 -- The ultimate oscillator.
-pub mod Cases
+pub mod Oscillator
 pub mod inner
+pub mod Cases

@@ -1,3 +1,7 @@
+pub mod Above
+pub mod Halves
+pub mod Search
+pub mod WholeSquares
 pub mod Meaning
 pub mod Nearest
 pub mod Neighbours

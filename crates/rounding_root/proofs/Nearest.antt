@@ -36,8 +36,8 @@ use Rattle.rounding_root.proofs.Neighbours.{
   no-tie-at,
 }
 use Rattle.rounding_root.proofs.Squares.{square-lt-back, root-is, closest-unique}
-use Rattle.rounding_root_whole.specs.inner.Squares.{Closest}
-use Rattle.rounding_root_whole.proofs.Squares.{square-next}
+use Rattle.rounding_root.specs.inner.Squares.{Closest}
+use Rattle.rounding_root.proofs.WholeSquares.{square-next}
 
 -- how many digits a number has, by the powers that it lies between
 pub size-is : (n j : ℕ) → 2 ^ j ≤ n → n < 2 ^ suc j → size n ≡ suc j

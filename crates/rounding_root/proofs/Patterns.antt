@@ -47,8 +47,8 @@ use lib.Ieee.Fits.{and-l, up-pos}
 use lib.Ieee.Positive.{first-pos}
 use lib.Ieee.Scale.{overflow}
 use Rattle.rounding_root.specs.Root.{nearestRoot, sqrtOf}
-use Rattle.rounding_root_whole.specs.inner.Steps.{Digits}
-use Rattle.rounding_root_whole.proofs.Above.{Above}
+use Rattle.rounding_root.specs.inner.Steps.{Digits}
+use Rattle.rounding_root.proofs.Above.{Above}
 use Rattle.rounding_laws.proofs.Multiples.{value-units, units-fits}
 use Rattle.rounding_root.proofs.Nearest.{size-is}
 use lib.Pow as Pow

@@ -5,7 +5,7 @@ use native.Mathlib.Nat.{le-trans, le-of-eq, lt-of-not-le, not-le-of-lt, mul-asso
 use native.Mathlib.Omega.{arith}
 use lib.Count.{leadingZeros, leading-top}
 use lib.Pow.{pow-add, pow-mono, shl-lt, shl-exact}
-use Rattle.rounding_root_whole.specs.inner.Steps.{Digits, Square}
+use Rattle.rounding_root.specs.inner.Steps.{Digits, Square}
 
 -- ---- an even power
 

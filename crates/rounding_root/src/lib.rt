@@ -1,5 +1,7 @@
 // The square root, correctly rounded: a guess with floats at its digits, and the whole number closest to the root.
-use rounding_root_whole::FIRST;
+pub mod whole;
+
+use whole::FIRST;
 ghost use mathlib.Core.Path.{_≡_};
 ghost use mathlib.Core.Bool.{true, false};
 ghost use Prim.Native.Nat.{_+_, _*_, _^_, _≤_, _<_};
@@ -7,7 +9,7 @@ ghost use lib.IntN.{pos};
 ghost use lib.ListN.{length};
 ghost use lib.Ieee.{binary64, fin, lt};
 ghost use Rattle.cells.specs.inner.Touched.{Touched};
-ghost use Rattle.rounding_root_whole.specs.inner.Steps.{Digits};
+ghost use Rattle.rounding_root.specs.inner.Steps.{Digits};
 ghost use Rattle.rounding_root.specs.Root.{nearestRoot, sqrtOf};
 
 // The bits of x, moved by an even power of two so that it lies from 1/2 up to 2. What is not above zero counts as 1.
@@ -48,7 +50,7 @@ fn root_of(p: u64, e: u64, guess: f64) -> f64
     ensures { λ r. ⌜ r ≡ nearestRoot binary64 (p * 2 ^ (e + 53)) ⌝ }
 {
     let twice = 1 - e % 2;
-    let q = rounding_root_whole::closest(p << twice, guess);
+    let q = whole::closest(p << twice, guess);
     f64::from_bits((e + 1) / 2 * FIRST + q)
 }
 

@@ -5,7 +5,7 @@ use Rattle.rounding.specs.Leaves.{plusOne}
 use Rattle.cells.specs.Line.{Causal}
 use Rattle.cells.proofs.Line.{causal-then, causal-with, causal-from}
 use Rattle.windows.specs.Window.{over}
-use Rattle.averages_exponential.proofs.Causal.{causal-exponential}
+use Rattle.averages.proofs.CausalExponential.{causal-exponential}
 use Rattle.smoother_table.specs.Coefficients.{coefficients}
 use Rattle.smoother.proofs.Smoother.{causal-smooth}
 use Rattle.changes.specs.Changes.{rsi}

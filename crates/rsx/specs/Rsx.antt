@@ -12,7 +12,7 @@ use Rattle.calls.specs.Answer.{andThen, checked, limited, unlessEmpty}
 use Rattle.calls.specs.Call.{WorkCall}
 use Rattle.cells.specs.Line.{Line, line, fromBar}
 use Rattle.windows.specs.Window.{over}
-use Rattle.averages_exponential.specs.ExponentialSmoothing.{exponentialLine}
+use Rattle.averages.specs.ExponentialSmoothing.{exponentialLine}
 use Rattle.smoother_table.specs.Coefficients.{coefficients}
 use Rattle.smoother.specs.Smoother.{smooth}
 use Rattle.changes.specs.Changes.{gains, losses, rsi}

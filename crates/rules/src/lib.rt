@@ -3,16 +3,16 @@ use calls::Answer;
 ghost use Prim.Native.Nat.{_*_};
 ghost use Rattle.rules_single.specs.Single.{SingleCall};
 ghost use Rattle.rules_middle.specs.Middle.{MidCall};
-ghost use Rattle.rules_double_bar.specs.Double.{DoubleCall};
-ghost use Rattle.rules_bands_bar.specs.Boll.{BollCall};
-ghost use Rattle.rules_bands_bar.specs.BollReverse.{BollReverseCall};
-ghost use Rattle.rules_bands_bar.specs.inner.Stages.{BandsCall};
-ghost use Rattle.rules_rsi_bar.specs.RsiReverse.{RsiReverseCall};
-ghost use Rattle.rules_ema_bar.specs.SingleEma.{SingleEmaCall};
+ghost use Rattle.rules_double.specs.Double.{DoubleCall};
+ghost use Rattle.rules_bands.specs.Boll.{BollCall};
+ghost use Rattle.rules_bands.specs.BollReverse.{BollReverseCall};
+ghost use Rattle.rules_bands.specs.inner.Stages.{BandsCall};
+ghost use Rattle.rules_rsi.specs.RsiReverse.{RsiReverseCall};
+ghost use Rattle.rules_ema.specs.SingleEma.{SingleEmaCall};
 ghost use Rattle.rules_mms.specs.Mms.{MmsCall};
 ghost use Rattle.rules_rank.specs.Rank.{RankCall};
-ghost use Rattle.rules_rolling_rank.specs.RollingRank.{RollingRankCall};
-ghost use Rattle.rules_triple_bar.specs.Triple.{TripleCall};
+ghost use Rattle.rules_rank.specs.RollingRank.{RollingRankCall};
+ghost use Rattle.rules_triple.specs.Triple.{TripleCall};
 
 // One average: the sign of price less the doubly averaged price, from bar 2n - 2 on.
 pub fn single_sma_positions(series: &[f64], n: usize, out: &mut [f64], work: &mut [f64]) -> Answer
@@ -88,7 +88,7 @@ pub fn triple_sma_positions(
     ensures { λ r. ⌜ TripleCall (now (series .entry)) m1 m2 m3 (now (out .entry)) (now (work .entry)) r
         (now (out .exit)) (now (work .exit)) ⌝ }
 {
-    let due = rules_triple_bar::answer_triple(series, m1, m2, m3, out.len(), work.len());
+    let due = rules_triple::answer_triple(series, m1, m2, m3, out.len(), work.len());
     if checks::cells_due(due, series.len(), work) {
         rules_triple::write_triple(series, m1, m2, m3, out, work);
         cells::clear(work, 8 * series.len());
@@ -129,9 +129,9 @@ pub fn rolling_rank(series: &[f64], window: usize, out: &mut [u64], work: &mut [
     ensures { λ r. ⌜ RollingRankCall (now (series .entry)) window (now (out .entry)) (now (work .entry)) r
         (now (out .exit)) (now (work .exit)) ⌝ }
 {
-    let due = rules_rolling_rank::answer_rolling_rank(series, window, out.len(), work.len());
+    let due = rules_rank::rolling::answer_rolling_rank(series, window, out.len(), work.len());
     if checks::cells_due(due, series.len(), work) {
-        rules_rolling_rank::write_rolling_rank(series, window, out);
+        rules_rank::rolling::write_rolling_rank(series, window, out);
         cells::clear(work, 8 * series.len());
     }
     due
@@ -149,7 +149,7 @@ fn band_positions(
     ensures { λ r. ⌜ BandsCall reverse (now (series .entry)) n k (now (out .entry)) (now (work .entry)) r
         (now (out .exit)) (now (work .exit)) ⌝ }
 {
-    let due = rules_bands::answer_bands(series, n, k, out.len(), work.len());
+    let due = checks::answer_numbers_and_window(series, &[k], n, out.len(), work.len());
     if checks::cells_due(due, series.len(), work) {
         rules_bands::write_bands(series, reverse, n, k, out, work);
         cells::clear(work, 8 * series.len());
@@ -192,15 +192,8 @@ pub fn rsi_reverse_positions(
     ensures { λ r. ⌜ RsiReverseCall (now (series .entry)) n «rsi_upper» «rsi_lower» «rsi_exit» (now (out .entry))
         (now (work .entry)) r (now (out .exit)) (now (work .exit)) ⌝ }
 {
-    let due = rules_rsi::answer_rsi_reverse(
-        series,
-        n,
-        rsi_upper,
-        rsi_lower,
-        rsi_exit,
-        out.len(),
-        work.len(),
-    );
+    let levels = [rsi_upper, rsi_lower, rsi_exit];
+    let due = checks::answer_numbers_and_window(series, &levels, n, out.len(), work.len());
     if checks::cells_due(due, series.len(), work) {
         rules_rsi::write_rsi_reverse(series, n, rsi_upper, rsi_lower, rsi_exit, out, work);
         cells::clear(work, 8 * series.len());

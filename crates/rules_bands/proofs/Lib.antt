@@ -1,1 +1,4 @@
-pub mod Open
+pub mod Bands
+pub mod Guess
+pub mod Narrow
+pub mod Stages

@@ -1,2 +1,5 @@
 -- Both Bollinger rules.
+pub mod Boll
+pub mod BollReverse
+pub mod inner
 pub mod Cases

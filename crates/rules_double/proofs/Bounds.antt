@@ -2,7 +2,7 @@
 use Prim.Native.Nat.{ℕ, _+_, _-_, _^_, _<_, _≤_}
 use native.Mathlib.Omega.{arith}
 use Rattle.cells.specs.Line.{Line}
-use Rattle.rules_double_bar.specs.Double.{runningMean}
+use Rattle.rules_double.specs.Double.{runningMean}
 use Rattle.rounding_laws.proofs.Bounds.{AtMost, div-at-most}
 use Rattle.exact_ticks.proofs.Bounds.{Bounded, running-bounded}
 

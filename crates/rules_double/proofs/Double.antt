@@ -8,8 +8,8 @@ use Rattle.cells.proofs.Line.{causal-from, from-bar}
 use Rattle.windows.specs.Window.{addThenSubtract}
 use Rattle.windows.proofs.Window.{runningSum-same}
 use Rattle.windows.specs.inner.Sums.{Running}
-use Rattle.rules_double_bar.specs.Double.{runningMean, doubleLine}
-use Rattle.rules_double_bar.specs.inner.Stages.{crossing}
+use Rattle.rules_double.specs.Double.{runningMean, doubleLine}
+use Rattle.rules_double.specs.inner.Stages.{crossing}
 
 pub causal-double : (n m : ℕ) → 0 < n → n < m → Causal (doubleLine n m)
 unfolding doubleLine runningMean

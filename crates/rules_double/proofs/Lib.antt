@@ -1,3 +1,5 @@
+pub mod Spread
+pub mod Ticks
 pub mod Bounds
 pub mod Double
 pub mod Open

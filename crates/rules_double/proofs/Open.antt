@@ -26,8 +26,8 @@ use Rattle.calls.proofs.Room.{
   fits-checked,
 }
 use Rattle.calls.specs.inner.Fits.{windowFits}
-use Rattle.rules_double_bar.specs.Double.{doubleAnswer}
-use Rattle.rules_double_bar.specs.inner.Ticks.{tickCells, TickRoom}
+use Rattle.rules_double.specs.Double.{doubleAnswer}
+use Rattle.rules_double.specs.inner.Ticks.{tickCells, TickRoom}
 use Rattle.values.proofs.TicksAccepted.{ticks-accepted}
 
 -- two windows in order

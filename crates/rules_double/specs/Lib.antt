@@ -1,2 +1,4 @@
 -- The double rule: what it answers and writes.
+pub mod Double
+pub mod inner
 pub mod Cases

@@ -1,15 +1,66 @@
-// The double rule: how its answer is found and its cells are written.
+// The double rule: one bar of it, its answer, and how its cells are written.
 use calls::Answer;
 use calls::Refusal;
 ghost use mathlib.Core.Path.{_≡_};
-ghost use Prim.Native.Nat.{_<_, _≤_};
+ghost use Prim.Native.Nat.{_<_, _≤_, _-_};
 ghost use lib.ListN.{length};
-ghost use Rattle.cells.specs.Line.{line};
-ghost use Rattle.cells.specs.Written.{Writing};
-ghost use Rattle.rules_double_bar.specs.Double.{doubleLine, doubleAnswer};
-ghost use Rattle.rules_double_bar.specs.inner.Stages.{Started};
-ghost use Rattle.rules_double_bar.specs.inner.Ticks.{tickCells, TickRoom, OverTicks, Spread};
+ghost use lib.Ieee.{binary64, ofInt};
+ghost use Rattle.rules_double.specs.inner.Stages.{crossing, Started};
+ghost use Rattle.rules_double.specs.inner.Ticks.{ticksOf, spread, change, OverTicks, tickCells, TickRoom, Spread};
 ghost use Rattle.limits.specs.Limits.{Window};
+ghost use Rattle.cells.specs.Line.{line};
+ghost use Rattle.windows.specs.Window.{addThenSubtract};
+ghost use Rattle.windows.specs.inner.Sums.{Running};
+ghost use Rattle.cells.specs.Written.{Writing};
+ghost use Rattle.rules_double.specs.Double.{doubleLine, doubleAnswer};
+
+// The sign of the short average less the long one, from the sums of n and of m prices.
+pub fn cross(short: f64, n: usize, long: f64, m: usize) -> f64
+    requires { ⌜ Window n × Window m ⌝ }
+    ensures { λ r. ⌜ r ≡ crossing n m short long ⌝ }
+{
+    rounding::sign(short / (n as f64) - long / (m as f64))
+}
+
+// What bar i adds to the spread of whole ticks.
+pub fn change_at(series: &[f64], n: usize, m: usize, i: usize) -> f64
+    requires { ⌜ OverTicks n m (now series) × (m ≤ i) × (i < length (now series)) ⌝ }
+    ensures { λ r. ⌜ r ≡ ofInt binary64 (change n m (ticksOf (now (series .entry))) i) ⌝ }
+{
+    series[i] * ((m - n) as f64) - series[i - n] * (m as f64) + series[i - m] * (n as f64)
+}
+
+// The spread of the first m bars.
+pub fn first_spread(series: &[f64], n: usize, m: usize) -> f64
+    requires { ⌜ OverTicks n m (now series) ⌝ }
+    ensures { λ r. ⌜ r ≡ ofInt binary64 (spread n m (ticksOf (now (series .entry))) m) ⌝ }
+{
+    let short = windows::sum_at(series, n, m - 1);
+    let rest = windows::sum_at(series, m - n, m - n - 1);
+    short * ((m - n) as f64) - rest * (n as f64)
+}
+
+// The sum of n prices after bar i: its price is added, and then that of bar i - n subtracted.
+pub fn slide_sum(series: &[f64], n: usize, i: usize, sum: f64) -> f64
+    requires { ⌜ (n ≤ i) × (i < length (now series)) ⌝ }
+    ensures { λ r. ⌜ r ≡ addThenSubtract sum (line (now (series .entry)) i) (line (now (series .entry)) (i - n)) ⌝ }
+{
+    sum + series[i] - series[i - n]
+}
+
+// The running sum of the n bars before bar i.
+pub fn running_sum(series: &[f64], n: usize, i: usize) -> f64
+    requires { ⌜ Window n × (n ≤ i) × (i ≤ length (now series)) ⌝ }
+    ensures { λ r. ⌜ Running addThenSubtract n (line (now (series .entry))) i r ⌝ }
+{
+    let mut sum = windows::sum_at(series, n, n - 1);
+    let mut j = n;
+    while j < i {
+        sum = slide_sum(series, n, j, sum);
+        j += 1;
+    }
+    sum
+}
 
 // Writes the positions from bar m - 1 on, where both averages are there, by running sums.
 fn write_crossings(series: &[f64], n: usize, m: usize, out: &mut [f64])
@@ -17,16 +68,16 @@ fn write_crossings(series: &[f64], n: usize, m: usize, out: &mut [f64])
     ensures { λ _. ⌜ Writing (length (now (series .entry))) (doubleLine n m (line (now (series .entry))))
         (now (out .entry)) (now (out .exit)) ⌝ }
 {
-    let mut short = rules_double_sums::running_sum(series, n, m);
-    let mut long = rules_double_sums::running_sum(series, m, m);
+    let mut short = running_sum(series, n, m);
+    let mut long = running_sum(series, m, m);
     let mut i = m - 1;
     while i + 1 < series.len() {
-        out[i] = rules_double_bar::cross(short, n, long, m);
+        out[i] = cross(short, n, long, m);
         i += 1;
-        short = rules_double_sums::slide_sum(series, n, i, short);
-        long = rules_double_sums::slide_sum(series, m, i, long);
+        short = slide_sum(series, n, i, short);
+        long = slide_sum(series, m, i, long);
     }
-    out[i] = rules_double_bar::cross(short, n, long, m);
+    out[i] = cross(short, n, long, m);
 }
 
 // Writes each bar's position.
@@ -54,17 +105,17 @@ fn slide_spreads(series: &[f64], n: usize, m: usize, first: f64, out: &mut [f64]
     let mut last = 0.0;
     let mut i = m;
     while i + 2 <= series.len() {
-        let one = rules_double_bar::change_at(series, n, m, i);
-        let two = rules_double_bar::change_at(series, n, m, i + 1);
+        let one = change_at(series, n, m, i);
+        let two = change_at(series, n, m, i + 1);
         even = even + (last + one);
         odd = odd + (one + two);
         last = two;
-        out[i] = rules_double_bar::side(even);
-        out[i + 1] = rules_double_bar::side(odd);
+        out[i] = rounding::sign_of_number(even);
+        out[i + 1] = rounding::sign_of_number(odd);
         i += 2;
     }
     if i < series.len() {
-        out[i] = rules_double_bar::side(odd + rules_double_bar::change_at(series, n, m, i));
+        out[i] = rounding::sign_of_number(odd + change_at(series, n, m, i));
     }
 }
 
@@ -76,8 +127,8 @@ pub fn write_double_of_ticks(series: &[f64], n: usize, m: usize, out: &mut [f64]
         (now (out .entry)) (now (out .exit)) ⌝ }
 {
     cells::fill_lead(out, m - 1, series.len(), 0.0);
-    let first = rules_double_bar::first_spread(series, n, m);
-    out[m - 1] = rules_double_bar::side(first);
+    let first = first_spread(series, n, m);
+    out[m - 1] = rounding::sign_of_number(first);
     slide_spreads(series, n, m, first, out);
 }
 
@@ -88,8 +139,8 @@ pub fn has_tick_cells(series: &[f64], n: usize, m: usize, out: usize) -> bool
 {
     if (n > 0) & (n < m) & checks::window_fits(series.len(), m, out) {
         let some = cells::smaller(series.len(), 16);
-        if values_series::all_ticks(&series[..some]) {
-            return values_series::all_ticks(&series[some..]);
+        if values::series::all_ticks(&series[..some]) {
+            return values::series::all_ticks(&series[some..]);
         }
     }
     false

@@ -10,7 +10,7 @@ use Rattle.cells.specs.Search.{firstBar}
 use Rattle.cells.specs.Shown.{prices, cellsOf}
 use Rattle.rounding.specs.Leaves.{plusOne, minusOne, signOf}
 use Rattle.windows.specs.Window.{sumFrom, windowSum, mean}
-use Rattle.rules_ema_bar.specs.SingleEma.{firstUsable, emaOfMeans, singleEmaFrom, singleEmaLine}
+use Rattle.rules_ema.specs.SingleEma.{firstUsable, emaOfMeans, singleEmaFrom, singleEmaLine}
 
 -- n 2 of five bars; n 1, where the price is its own mean; n as long as the series, and longer; one bar
 single-ema-cases : (cellsOf (singleEmaLine 5 2) (prices (pos 1 ∷ pos 3 ∷ pos 5 ∷ pos 2 ∷ pos 4 ∷ []))

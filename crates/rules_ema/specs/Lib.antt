@@ -1,3 +1,4 @@
 -- The exponential rule: what it answers and writes, and small cases.
-pub mod Cases
 pub mod inner
+pub mod SingleEma
+pub mod Cases

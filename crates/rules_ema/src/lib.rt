@@ -1,11 +1,16 @@
 // The exponential rule: how its cells are written.
+pub mod bar;
+pub mod by_margins;
+pub mod far;
+pub mod start;
+
 ghost use mathlib.Core.Path.{_≡_};
 ghost use lib.ListN.{length};
 ghost use Rattle.cells.specs.Line.{line};
-ghost use Rattle.work_rows.specs.inner.Finished.{Finished};
+ghost use Rattle.cells.specs.inner.Finished.{Finished};
 ghost use Rattle.checks.specs.inner.Due.{Priced};
 ghost use Rattle.window_means.specs.inner.Ticks.{longTicks};
-ghost use Rattle.rules_ema_bar.specs.SingleEma.{singleEmaFrom, singleEmaLine};
+ghost use Rattle.rules_ema.specs.SingleEma.{singleEmaFrom, singleEmaLine};
 ghost use Rattle.rules_ema.specs.inner.Stages.{Started};
 
 // Writes each bar's position over the mean that stands in its cell, from the average's first bar and cell on. Clears
@@ -15,17 +20,17 @@ fn write_from(series: &[f64], n: usize, start: usize, seed: f64, out: &mut [f64]
     ensures { λ _. ⌜ Finished (singleEmaFrom start n (line (now (series .entry)))) (length (now (series .entry)))
         (length (now (series .entry))) (now (out .entry)) (now (out .exit)) (now (work .entry)) (now (work .exit)) ⌝ }
 {
-    let alpha = rules_ema_bar::weight(n);
+    let alpha = bar::weight(n);
     let mut average = seed;
     let mut i = start;
-    rules_ema_bar::clear_lead(series.len(), start, out, work);
+    bar::clear_lead(series.len(), start, out, work);
     loop {
-        rules_ema_bar::put_position(series, i, average, out, work);
+        bar::put_position(series, i, average, out, work);
         i += 1;
         if i == series.len() {
             break;
         }
-        average = averages_blend::blended(alpha, average, out[i]);
+        average = averages::blend::blended(alpha, average, out[i]);
     }
 }
 
@@ -39,12 +44,12 @@ fn write_over_means(series: &[f64], n: usize, ticks: bool, out: &mut [f64], work
 {
     let bars = series.len();
     window_means::write_means_by(series, n, ticks, out);
-    let start = rules_ema_start::first_bar(&out[..bars], n);
+    let start = start::first_bar(&out[..bars], n);
     if start < bars {
         let seed = windows::mean_at(&out[..bars], n, start);
         write_from(series, n, start, seed, out, work);
     } else {
-        rules_ema_bar::clear_lead(bars, bars, out, work);
+        bar::clear_lead(bars, bars, out, work);
     }
 }
 
@@ -56,7 +61,7 @@ pub fn write_ema(series: &[f64], n: usize, out: &mut [f64], work: &mut [f64])
         (now (work .entry)) (now (work .exit)) ⌝ }
 {
     let ticks = window_means::are_long_ticks(series, n);
-    if rules_ema_runs::write_by_runs(series, n, ticks, out, work) {
+    if by_margins::write_by_margins(series, n, ticks, out, work) {
         return;
     }
     write_over_means(series, n, ticks, out, work);

@@ -25,9 +25,9 @@ use Rattle.cells.proofs.Line.{from-bar}
 use Rattle.windows.specs.Window.{mean, windowTotal}
 use Rattle.exact_ticks.proofs.Exact.{TickLine, window-whole, mean-exact}
 use Rattle.exact_ticks.proofs.Errors.{products, window-total-size}
-use Rattle.exact_ticks.proofs.Runs.{some-abs}
+use Rattle.exact_ticks.proofs.RunningSums.{some-abs}
 use Rattle.extremes.specs.Extreme.{larger, smaller, pickFrom, extreme}
-pub use Rattle.running_sums.proofs.Middle.{two-is}
+pub use Rattle.margins.proofs.Middle.{two-is}
 use Rattle.rules_middle.specs.Middle.{midLine}
 use Rattle.extremes.specs.Whole.{higher, highest, lower, lowest, pickℤ}
 

@@ -1,3 +1,4 @@
 -- The middle rule: what it answers and writes.
+pub mod inner
 pub mod Cases
 pub mod Middle

@@ -9,7 +9,7 @@ ghost use Rattle.cells.specs.Written.{Writing};
 ghost use Rattle.cells.specs.inner.Touched.{Touched};
 ghost use Rattle.windows.specs.Window.{mean};
 ghost use Rattle.window_means.specs.inner.Averaged.{Averaged};
-ghost use Rattle.mean_ranges.specs.inner.Ranges.{Ranges};
+ghost use Rattle.window_means.specs.inner.Ranges.{Ranges};
 ghost use Rattle.checks.specs.inner.Due.{Priced};
 ghost use Rattle.rules_mms.specs.Mms.{scaledBetween, mmsLine, mmsAnswer};
 
@@ -48,7 +48,7 @@ pub fn write_mms(series: &[f64], n: usize, w: usize, out: &mut [f64], work: &mut
         (now (out .entry)) (now (out .exit))
         × Touched (2 * length (now (series .entry))) (now (work .entry)) (now (work .exit)) ⌝ }
 {
-    mean_ranges::write_mean_ranges(series, n, w, out, work);
+    window_means::ranges::write_mean_ranges(series, n, w, out, work);
     write_scaled(series, n, w, out, work);
 }
 

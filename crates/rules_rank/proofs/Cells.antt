@@ -9,7 +9,7 @@ use Rattle.cells.specs.Line.{Line, line, plusZero}
 use Rattle.cells.proofs.Line.{from-bar, before-bar}
 use Rattle.cells.specs.Written.{Writing}
 use Rattle.cells.proofs.Written.{read-back, writing-same}
-use Rattle.cells.proofs.Rows.{beside-first, beside-second}
+use Rattle.cells.proofs.RowWrites.{beside-first, beside-second}
 use Rattle.windows.specs.Window.{mean}
 use Rattle.ranks.specs.Counted.{below}
 use Rattle.ranks.specs.inner.Counting.{Counting}

@@ -1,2 +1,4 @@
 -- The rule against the relative strength index.
+pub mod RsiReverse
+pub mod inner
 pub mod Cases

@@ -1,3 +1,4 @@
-pub mod Runs
+pub mod Positions
+pub mod ByMargins
 pub mod Single
 pub mod Ticks

@@ -6,8 +6,8 @@ use Rattle.cells.specs.Line.{Line, plusZero, Causal}
 use Rattle.cells.proofs.Line.{causal-self, causal-then, causal-with, causal-from}
 use Rattle.windows.specs.Window.{mean}
 use Rattle.windows.proofs.Window.{causal-mean}
-use Rattle.rules_single_bar.specs.inner.Positions.{positions}
-use Rattle.rules_single_bar.proofs.Positions.{position-at}
+use Rattle.rules_single.specs.inner.Positions.{positions}
+use Rattle.rules_single.proofs.Positions.{position-at}
 use Rattle.rules_single.specs.Single.{againstMean, singleLine}
 
 -- ---- no look-ahead

@@ -1,15 +1,20 @@
 -- single_sma_positions, one average: what it answers and writes. Assumes nothing.
+use mathlib.Core.Bool.{cond}
 use mathlib.Core.List.{List, [], _∷_}
 use Prim.Native.Nat.{ℕ, _-_, _*_}
-use lib.Ieee.{Float}
+use lib.Ieee.{Float, binary64, sub, eq}
 use lib.ListN.{length}
-use Rattle.cells.specs.Line.{Line, plusZero, fromBar, line}
+use Rattle.cells.specs.Line.{plusZero, Line, fromBar, line}
+use Rattle.rounding.specs.Leaves.{signOf}
 use Rattle.windows.specs.Window.{mean}
 use Rattle.calls.specs.Answer.{answered}
 use Rattle.calls.specs.Call.{WorkCall}
 use Rattle.calls.specs.declared.Answer.{Answer}
 use Rattle.values.specs.Accepted.{accepted}
-pub use Rattle.rules_single_bar.specs.AgainstMean.{againstMean}
+
+-- the sign of price less its average, 0 where that average is 0.0
+abbrev pub againstMean : Float → Float → Float
+againstMean price average = cond (eq average plusZero) plusZero (signOf (sub binary64 price average))
 
 -- ---- single_sma_positions: one average
 

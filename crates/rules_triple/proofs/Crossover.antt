@@ -6,7 +6,7 @@ use Rattle.cells.specs.Line.{Line, Causal}
 use Rattle.cells.proofs.Line.{causal-then, causal-from, from-bar}
 use Rattle.windows.specs.Window.{mean}
 use Rattle.windows.proofs.Window.{causal-mean}
-use Rattle.rules_triple_bar.specs.Triple.{trendOf, tripleLine}
+use Rattle.rules_triple.specs.Triple.{trendOf, tripleLine}
 use Rattle.rules_held.specs.Held.{flat}
 
 pub causal-triple : (m1 m2 m3 : ℕ) → Causal (tripleLine m1 m2 m3)

@@ -17,7 +17,7 @@ use Rattle.calls.proofs.Call.{AllBars}
 use Rattle.calls.proofs.Room.{Room, checked-room, andThen-cells, unless-cells, same-count, asked}
 use Rattle.checks.specs.inner.Due.{CellsDue, Priced}
 use Rattle.checks.proofs.Due.{some-due}
-use Rattle.rules_triple_bar.specs.Triple.{tripleAnswer}
+use Rattle.rules_triple.specs.Triple.{tripleAnswer}
 use Rattle.rules_triple.specs.inner.Stages.{Rising}
 
 module _ (s : List Float) (m1 m2 m3 output work k : ℕ) (e : tripleAnswer s m1 m2 m3 output work ≡ Cells k) where

@@ -1,3 +1,4 @@
 -- The triple rule: what it answers and writes.
+pub mod Triple
 pub mod Cases
 pub mod inner

@@ -7,9 +7,9 @@ use native.Mathlib.Omega.{arith}
 use borrow.Author.Tests.{leb-true}
 use lib.Dec.{leb}
 use lib.Seq.{slice}
-use Rattle.sheet_columns.specs.declared.Field.{Field}
-use Rattle.sheet_columns.specs.declared.Field.the-variants.{Value, Broken}
-use Rattle.sheet_columns.specs.Read.{readField}
+use Rattle.sheet_lines.specs.declared.columns.Field.{Field}
+use Rattle.sheet_lines.specs.declared.columns.Field.the-variants.{Value, Broken}
+use Rattle.sheet_lines.specs.Read.{readField}
 use Rattle.sheet_lines.specs.declared.Request.{Request}
 use Rattle.sheet_lines.specs.declared.Header.{Header}
 use Rattle.sheet_lines.specs.declared.Header.the-variants.{Asked, Malformed}

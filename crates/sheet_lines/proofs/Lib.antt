@@ -1,2 +1,6 @@
+pub mod Printing
+pub mod Reading
+pub mod Signs
 pub mod Bars
 pub mod Places
+pub mod Positions

@@ -5,11 +5,11 @@ use Prim.Native.Nat.{ℕ, _+_}
 use lib.Dec.{leb, eqb}
 use lib.ListN.{length, getD}
 use lib.Seq.{slice}
-use Rattle.sheet_columns.specs.declared.Field.{Field}
-use Rattle.sheet_columns.specs.declared.Field.the-variants.{Value, Broken}
-use Rattle.sheet_columns.specs.declared.Price.{Price}
-use Rattle.sheet_columns.specs.declared.Price.the-variants.{Unpriced}
-use Rattle.sheet_columns.specs.Read.{readField, readPrice}
+use Rattle.sheet_lines.specs.declared.columns.Field.{Field}
+use Rattle.sheet_lines.specs.declared.columns.Field.the-variants.{Value, Broken}
+use Rattle.sheet_lines.specs.declared.columns.Price.{Price}
+use Rattle.sheet_lines.specs.declared.columns.Price.the-variants.{Unpriced}
+use Rattle.sheet_lines.specs.Read.{readField, readPrice}
 use Rattle.sheet_lines.specs.declared.Header.{Header}
 use Rattle.sheet_lines.specs.declared.Header.the-variants.{Asked, Malformed}
 

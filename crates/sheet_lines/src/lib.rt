@@ -1,6 +1,9 @@
 // A request's lines read, on byte slices.
-use sheet_columns::Field;
-use sheet_columns::Price;
+pub mod columns;
+pub mod text;
+
+use columns::Field;
+use columns::Price;
 ghost use mathlib.Core.Path.{_≡_};
 ghost use Prim.Native.Nat.{_+_, _≤_};
 ghost use lib.ListN.{length};
@@ -67,11 +70,11 @@ pub fn read_header(block: &[u8], at: usize) -> Header
     requires { ⌜ at + 27 ≤ length (now block) ⌝ }
     ensures { λ r. ⌜ r ≡ readHeader (slice at (at + 27) (now (block .entry))) ⌝ }
 {
-    let desk = sheet_columns::read_field(block, at, at + 4);
-    let rule = sheet_columns::read_field(block, at + 4, at + 8);
-    let n = sheet_columns::read_field(block, at + 8, at + 14);
-    let m = sheet_columns::read_field(block, at + 14, at + 20);
-    let bars = sheet_columns::read_field(block, at + 20, at + 26);
+    let desk = columns::read_field(block, at, at + 4);
+    let rule = columns::read_field(block, at + 4, at + 8);
+    let n = columns::read_field(block, at + 8, at + 14);
+    let m = columns::read_field(block, at + 14, at + 20);
+    let bars = columns::read_field(block, at + 20, at + 26);
     if block[at + 26] == b'\n' {
         request_of(desk, rule, n, m, bars)
     } else {
@@ -85,7 +88,7 @@ pub fn read_price_line(block: &[u8], at: usize) -> Price
     ensures { λ r. ⌜ r ≡ readPriceLine (slice at (at + 13) (now (block .entry))) ⌝ }
 {
     if block[at + 12] == b'\n' {
-        sheet_columns::read_price(block, at, at + 12)
+        columns::read_price(block, at, at + 12)
     } else {
         Price::Unpriced
     }

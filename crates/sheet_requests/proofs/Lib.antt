@@ -1,1 +1,6 @@
-pub mod Answers
+pub mod Answered
+pub mod Lines
+pub mod Prices
+pub mod Steps
+pub mod Strict
+pub mod Ends

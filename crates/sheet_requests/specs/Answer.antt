@@ -12,7 +12,7 @@ use Rattle.calls.specs.Call.{Call}
 use Rattle.cells.specs.Line.{Line, line, plusZero}
 use Rattle.cells.specs.Written.{written}
 use Rattle.rules_single.specs.Single.{singleLine}
-use Rattle.rules_double_bar.specs.Double.{doubleLine, doubleAnswer}
+use Rattle.rules_double.specs.Double.{doubleLine, doubleAnswer}
 use Rattle.rules_middle.specs.Middle.{midLine}
 use Rattle.sheet_lines.specs.declared.Request.{Request}
 use Rattle.sheet_lines.specs.Header.{mostBars}

@@ -10,13 +10,13 @@ use Rattle.cells.specs.Recur.{recur}
 use Rattle.windows.specs.Window.{sumFrom, windowSum, mean, runningSum}
 use Rattle.extremes.specs.Extreme.{pickFrom, extreme}
 use Rattle.rules_single.specs.Single.{singleLine}
-use Rattle.rules_double_bar.specs.Double.{runningMean, doubleLine, doubleAnswer}
+use Rattle.rules_double.specs.Double.{runningMean, doubleLine, doubleAnswer}
 use Rattle.rules_middle.specs.Middle.{midLine}
-use Rattle.sheet_columns.specs.inner.Text.{bytes}
-use Rattle.sheet_columns.specs.Read.{number, readField, signed, readPrice}
-use Rattle.sheet_columns.specs.Print.{printField}
+use Rattle.sheet_lines.specs.inner.Text.{bytes}
+use Rattle.sheet_lines.specs.Read.{number, readField, signed, readPrice}
+use Rattle.sheet_lines.specs.Print.{printField}
 use Rattle.sheet_lines.specs.Header.{requestOf, readHeader, readPriceLine}
-use Rattle.sheet_text.specs.Printed.{headLine, positionLines, answerText, lastLine}
+use Rattle.sheet_lines.specs.Printed.{headLine, positionLines, answerText, lastLine}
 use Rattle.sheet_requests.specs.Answer.{ruleAnswer, ruleLine}
 use Rattle.sheet_requests.specs.Counts.{closing}
 use Rattle.sheet_requests.specs.Sheet.{lines, gathered, ending, outcome, sheet}

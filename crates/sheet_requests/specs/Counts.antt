@@ -6,7 +6,7 @@ use lib.Dec.{ltb}
 use Rattle.calls.specs.declared.Answer.{Answer}
 use Rattle.calls.specs.declared.Answer.the-variants.{Cells, Refused}
 use Rattle.sheet_lines.specs.declared.Request.{Request}
-use Rattle.sheet_text.specs.Printed.{lastBytes, lastLine}
+use Rattle.sheet_lines.specs.Printed.{lastBytes, lastLine}
 use Rattle.sheet_requests.specs.declared.Counts.{Counts}
 
 -- before the first request

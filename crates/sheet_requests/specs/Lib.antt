@@ -1,5 +1,7 @@
--- The sheet's requests: how one is answered, how refusals are counted, and what the program writes for a whole input.
+-- How a request is answered, and what a whole sheet is.
 pub mod Answer
 pub mod Cases
 pub mod Counts
 pub mod Sheet
+pub mod Whole
+pub mod inner

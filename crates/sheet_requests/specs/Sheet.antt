@@ -5,13 +5,13 @@ use Prim.Native.Nat.{ℕ}
 use lib.Dec.{eqb}
 use lib.ListN.{length}
 use lib.Ieee.{Float}
-use Rattle.sheet_columns.specs.declared.Price.{Price}
-use Rattle.sheet_columns.specs.declared.Price.the-variants.{Ticks, Unpriced}
+use Rattle.sheet_lines.specs.declared.columns.Price.{Price}
+use Rattle.sheet_lines.specs.declared.columns.Price.the-variants.{Ticks, Unpriced}
 use Rattle.sheet_lines.specs.declared.Request.{Request}
 use Rattle.sheet_lines.specs.declared.Header.{Header}
 use Rattle.sheet_lines.specs.declared.Header.the-variants.{Asked, Malformed}
 use Rattle.sheet_lines.specs.Header.{readHeader, readPriceLine}
-use Rattle.sheet_text.specs.Printed.{headLine, answerText}
+use Rattle.sheet_lines.specs.Printed.{headLine, answerText}
 use Rattle.sheet_requests.specs.declared.Counts.{Counts}
 use Rattle.sheet_requests.specs.Answer.{ruleAnswer, ruleLine}
 use Rattle.sheet_requests.specs.Counts.{noneRefused, after, afterBroken, closing}

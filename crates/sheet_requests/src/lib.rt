@@ -1,17 +1,22 @@
-// The count of refused requests, and what is printed last.
+// A request answered: refused requests counted here; lines read (`blocks`), answers printed (`answers`, `closing`).
+pub mod answers;
+pub mod blocks;
+pub mod closing;
+pub mod status;
+
 use calls::Answer;
 use sheet_lines::Request;
 ghost use mathlib.Core.Path.{_≡_};
 ghost use Prim.Native.Nat.{_≤_, _+_};
 ghost use lib.ListN.{length};
-ghost use Rattle.sheet_columns.specs.inner.Adds.{Adds};
+ghost use Rattle.sheet_lines.specs.inner.Adds.{Adds};
 ghost use Rattle.sheet_requests.specs.Counts.{noneRefused, oneMore, after, afterBroken, closing, closingBytes};
 
 // Eight work cells for each of the most bars.
 pub const WORK_CELLS: usize = 8 * sheet_lines::MOST_BARS;
 
 // The bytes of what is printed last.
-pub const CLOSING_BYTES: usize = sheet_text::LAST_BYTES;
+pub const CLOSING_BYTES: usize = sheet_lines::text::LAST_BYTES;
 
 // The refused requests so far.
 pub struct Counts {
@@ -61,6 +66,6 @@ impl Counts {
         requires { ⌜ at + closingBytes ≤ length (now text) ⌝ }
         ensures { λ _. ⌜ Adds at (closing self) (at + closingBytes) (now (text .entry)) (now (text .exit)) ⌝ }
     {
-        sheet_text::print_last(text, at, self.refused);
+        sheet_lines::text::print_last(text, at, self.refused);
     }
 }

@@ -5,12 +5,12 @@ use Prim.Native.Nat.{ℕ, _+_, _<_, _≤_}
 use native.Mathlib.Omega.{arith}
 use lib.ListN.{length}
 use lib.Ieee.{Float}
-use Rattle.sheet_blocks.specs.declared.Place.{Place}
-use Rattle.sheet_blocks.specs.declared.Stage.{Stage}
-use Rattle.sheet_blocks.specs.declared.Stage.the-variants.{Waiting, Collecting, Stopped}
-use Rattle.sheet_blocks.specs.inner.Place.{owed, pending, Sound, Gathered}
-use Rattle.sheet_blocks.specs.inner.Taken.{textRoom, Well, total, Taken}
-use Rattle.sheet_answers.specs.inner.Lent.{Lent}
+use Rattle.sheet_requests.specs.declared.blocks.Place.{Place}
+use Rattle.sheet_requests.specs.declared.blocks.Stage.{Stage}
+use Rattle.sheet_requests.specs.declared.blocks.Stage.the-variants.{Waiting, Collecting, Stopped}
+use Rattle.sheet_requests.specs.inner.Place.{owed, pending, Sound, Gathered}
+use Rattle.sheet_requests.specs.inner.Taken.{textRoom, Well, total, Taken}
+use Rattle.sheet_requests.specs.inner.Lent.{Lent}
 
 -- What the loop that reads a block keeps.
 pub record Feeding (block : List ℕ) (p : Place) (series work : List Float) (text : List ℕ)

@@ -6,15 +6,15 @@ use native.Mathlib.Omega.{arith}
 use lib.ListN.{take, take-append-drop}
 use lib.Seq.{slice, take-take}
 use lib.Ieee.{Float}
-use Rattle.sheet_status.specs.declared.Status.{Status}
-use Rattle.sheet_status.specs.declared.Status.the-variants.{Reading, Done, ReadFailed, WriteFailed}
+use Rattle.sheet_requests.specs.declared.status.Status.{Status}
+use Rattle.sheet_requests.specs.declared.status.Status.the-variants.{Reading, Done, ReadFailed, WriteFailed}
 use Rattle.sheet_requests.specs.Sheet.{State}
-use Rattle.sheet_blocks.specs.Whole.{Reached, last}
-use Rattle.sheet_blocks.specs.inner.Place.{stateOf}
+use Rattle.sheet_requests.specs.Whole.{Reached, last}
+use Rattle.sheet_requests.specs.inner.Place.{stateOf}
 use Rattle.sheet_run.specs.inner.Block.{Fed}
 use Rattle.sheet_run.proofs.Whole.{reached-none, reached-block, reached-end}
-use Rattle.sheet_carried.specs.declared.Carried.{Carried}
-use Rattle.sheet_carried.specs.inner.Start.{start}
+use Rattle.sheet_run.specs.declared.carried.Carried.{Carried}
+use Rattle.sheet_run.specs.inner.Start.{start}
 use Rattle.sheet_run.specs.Run.{Ran}
 use Rattle.sheet_run.specs.inner.Turn.{Carrying, Turned}
 

@@ -8,10 +8,10 @@ use lib.Ieee.{Float}
 use Rattle.sheet_requests.specs.Counts.{noneRefused}
 use Rattle.sheet_requests.specs.Sheet.{State, waiting, lines, outcome}
 use Rattle.sheet_requests.specs.Sheet as requests
-use Rattle.sheet_blocks.specs.declared.Place.{Place}
-use Rattle.sheet_blocks.specs.declared.Sheet.{Sheet}
-use Rattle.sheet_blocks.specs.Whole.{Reached}
-use Rattle.sheet_blocks.specs.inner.Place.{stateOf}
+use Rattle.sheet_requests.specs.declared.blocks.Place.{Place}
+use Rattle.sheet_requests.specs.declared.blocks.Sheet.{Sheet}
+use Rattle.sheet_requests.specs.Whole.{Reached}
+use Rattle.sheet_requests.specs.inner.Place.{stateOf}
 use Rattle.sheet_run.specs.inner.Block.{Fed}
 
 -- before the first byte

@@ -1,23 +1,25 @@
-// A run of the sheet: requests on standard input, answers on standard output. All
-// that it reads and prints is the work of the crates below; here are the buffers,
-// the loop that feeds a block, and the loop that reads blocks, feeds them and writes.
-use sheet_blocks::Place;
-use sheet_blocks::Sheet;
-use sheet_blocks::TEXT_ROOM;
-use sheet_carried::Carried;
-use sheet_input::Output;
+// A run of the sheet: its buffers, the loop that feeds a block, the loop that reads blocks and writes answers, and the
+// run as a C function that answers an exit status; tools/sheet/main.c calls that.
+pub mod carried;
+pub mod input;
+
+use carried::Carried;
+use input::Output;
 use sheet_lines::MOST_BARS;
 use sheet_requests::WORK_CELLS;
-use sheet_status::Status;
+use sheet_requests::blocks::Place;
+use sheet_requests::blocks::Sheet;
+use sheet_requests::blocks::TEXT_ROOM;
+use sheet_requests::status::Status;
 ghost use mathlib.Core.Path.{_≡_};
 ghost use Prim.Native.Nat.{_≤_, _+_, _-_};
 ghost use lib.ListN.{length};
-ghost use Rattle.sheet_blocks.specs.inner.Place.{Sound};
-ghost use Rattle.sheet_answers.specs.inner.Lent.{Lent};
-ghost use Rattle.sheet_blocks.specs.inner.Taken.{textRoom};
-ghost use Rattle.sheet_closing.specs.inner.Finished.{cutBytes, Finished};
-ghost use Rattle.sheet_carried.specs.Stands.{statusOf};
-ghost use Rattle.sheet_run.specs.Run.{Ran};
+ghost use Rattle.sheet_requests.specs.inner.Place.{Sound};
+ghost use Rattle.sheet_requests.specs.inner.Lent.{Lent};
+ghost use Rattle.sheet_requests.specs.inner.Taken.{textRoom};
+ghost use Rattle.sheet_requests.specs.inner.Finished.{cutBytes, Finished};
+ghost use Rattle.sheet_run.specs.inner.Stands.{statusOf};
+ghost use Rattle.sheet_run.specs.Run.{Ran, Exits};
 ghost use Rattle.sheet_run.specs.inner.Block.{Fed};
 ghost use Rattle.sheet_run.specs.inner.Buffers.{Buffers};
 ghost use Rattle.sheet_run.specs.inner.Turn.{Carrying, Turned};
@@ -46,9 +48,9 @@ fn feed(
         at: 0,
         filled: 0,
     };
-    while sheet_blocks::wanted(place) <= block.len() - place.at {
-        let read = sheet_blocks::take_lines(place, block, series, text);
-        place = sheet_answers::gather(read, series, out, work, text);
+    while sheet_requests::blocks::wanted(place) <= block.len() - place.at {
+        let read = sheet_requests::blocks::take_lines(place, block, series, text);
+        place = sheet_requests::answers::gather(read, series, out, work, text);
     }
     place
 }
@@ -69,11 +71,11 @@ fn turn(
         × (now (work .exit) ≡ now (work .entry)) ⌝ }
 {
     let place = carried.place;
-    let read = sheet_input::refill(block, place.at, carried.end);
+    let read = input::refill(block, place.at, carried.end);
     let end = read.end;
     let input = read.input;
     let next = feed(place.sheet, &block[..end], series, out, work, text);
-    let output = sheet_input::write_text(text, next.filled);
+    let output = input::write_text(text, next.filled);
     Carried {
         place: next,
         end: end,
@@ -89,13 +91,13 @@ fn close(carried: Carried, text: &mut [u8]) -> Output
         (carried .place .sheet) (carried .end - carried .place .at) (r .bytes) (now (text .exit)) ⌝ }
 {
     let place = carried.place;
-    let count = sheet_closing::finish(
-        sheet_carried::status(carried),
+    let count = sheet_requests::closing::finish(
+        carried::status(carried),
         place.sheet,
         carried.end - place.at,
         text,
     );
-    sheet_input::write_text(text, count)
+    input::write_text(text, count)
 }
 
 // Reads to the end of the input, or to where a line breaks its columns, and gives what became of input and output.
@@ -110,15 +112,15 @@ fn run(
     requires { ⌜ Buffers (now block) (now series) (now out) (now work) (now text) ⌝ }
     ensures { λ r. ⌜ Ran r ⌝ }
 {
-    let mut carried = sheet_carried::first();
+    let mut carried = carried::first();
     let mut turns = u64::MAX;
-    while turns > 0 && sheet_status::goes_on(sheet_carried::status(carried)) {
+    while turns > 0 && sheet_requests::status::goes_on(carried::status(carried)) {
         carried = turn(carried, block, series, out, work, text);
         turns -= 1;
     }
     let last = close(carried, text);
     if last.taken {
-        sheet_carried::status(carried)
+        carried::status(carried)
     } else {
         Status::WriteFailed
     }
@@ -134,4 +136,11 @@ pub fn run_sheet() -> Status
     let mut work = [0.0; WORK_CELLS];
     let mut text = [0u8; TEXT_BYTES];
     run(&mut block, &mut series, &mut out, &mut work, &mut text)
+}
+
+#[no_mangle]
+pub extern "C" fn tegbalowu_sheet() -> u32
+    ensures { λ r. ⌜ Exits r ⌝ }
+{
+    sheet_requests::status::exit_status(run_sheet())
 }

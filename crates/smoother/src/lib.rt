@@ -2,14 +2,22 @@
 use calls::Answer;
 use calls::Refusal;
 use smoother_table::Coefficients;
+ghost use mathlib.Core.Path.{_≡_};
+ghost use Rattle.smoother.specs.Smoother.{formula, UltimateSmootherCall};
 ghost use Prim.Native.Nat.{_≤_};
 ghost use lib.ListN.{length};
 ghost use Rattle.cells.specs.Line.{line};
 ghost use Rattle.cells.specs.Written.{Writing};
 ghost use Rattle.smoother_table.specs.Coefficients.{coefficients};
-ghost use Rattle.smoother.specs.Smoother.{UltimateSmootherCall};
-ghost use Rattle.smoother.specs.inner.Stages.{Begun, Smoothed};
+ghost use Rattle.smoother.specs.inner.Stages.{FirstFour, Smoothed};
 ghost use Rattle.limits.specs.Limits.{longestPeriod};
+
+// One cell, from the last three prices, the newest first, and the last two cells.
+pub fn step(c: Coefficients, p0: f64, p1: f64, p2: f64, us1: f64, us2: f64) -> f64
+    ensures { λ r. ⌜ r ≡ formula c p0 p1 p2 us1 us2 ⌝ }
+{
+    (1.0 - c.c1) * p0 + (2.0 * c.c1 - c.c2) * p1 - (c.c1 + c.c3) * p2 + c.c2 * us1 + c.c3 * us2
+}
 
 // Copies the first n cells.
 fn copy(from: &[f64], n: usize, to: &mut [f64])
@@ -25,12 +33,12 @@ fn copy(from: &[f64], n: usize, to: &mut [f64])
 
 // Writes the cells from bar 4 on, where the first four stand.
 fn write_steps(price: &[f64], c: Coefficients, out: &mut [f64])
-    requires { ⌜ Begun c (now price) (now out) ⌝ }
+    requires { ⌜ FirstFour c (now price) (now out) ⌝ }
     ensures { λ _. ⌜ Smoothed c (now (price .entry)) (now (out .entry)) (now (out .exit)) ⌝ }
 {
     let mut i = 4;
     while i < price.len() {
-        out[i] = smoother_bar::step(
+        out[i] = step(
             c,
             price[i],
             price[i - 1],

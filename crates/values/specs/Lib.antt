@@ -1,4 +1,4 @@
--- Which numbers a series may hold, and why the tests of them are right.
+-- Which numbers a series may hold.
 pub mod Accepted
 pub mod Cases
 pub mod inner

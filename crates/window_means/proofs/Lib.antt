@@ -1,3 +1,4 @@
 pub mod Row
 pub mod Storing
 pub mod Ticks
+pub mod Through

@@ -1,2 +1,2 @@
--- Writing the mean of each bar's window.
+-- The means of a series, and their ranges.
 pub mod inner

@@ -3,3 +3,4 @@ pub mod Averaged
 pub mod Row
 pub mod Storing
 pub mod Ticks
+pub mod Ranges

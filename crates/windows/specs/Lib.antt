@@ -1,3 +1,3 @@
--- Sums and means of windows, of one bar and of eight bars side by side.
+-- Sums and means of the last n cells.
 pub mod Window
 pub mod inner

@@ -1,4 +1,5 @@
--- What the crate's own functions ask of each other.
+-- What the functions that write running means ask and promise.
 pub mod Eight
-pub mod Runs
+pub mod RunningSums
 pub mod Sums
+pub mod Means

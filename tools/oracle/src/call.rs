@@ -9,16 +9,6 @@ pub enum Value {
     Real(f64),
 }
 
-impl Value {
-    /// The parameter as one word of a record.
-    pub fn word(self) -> u64 {
-        match self {
-            Value::Count(n) => n as u64,
-            Value::Real(x) => x.to_bits(),
-        }
-    }
-}
-
 impl From<Value> for usize {
     fn from(value: Value) -> usize {
         match value {
@@ -157,6 +147,16 @@ impl Lines for Vec<Vec<u64>> {
 }
 
 impl Kind {
+    /// The type's name in a record.
+    pub fn name(self) -> &'static str {
+        match self {
+            Kind::F64 => "f64",
+            Kind::I64 => "i64",
+            Kind::I32 => "i32",
+            Kind::U64 => "u64",
+        }
+    }
+
     /// Whether two cells are the same, NaNs being one value.
     pub fn same(self, a: u64, b: u64) -> bool {
         a == b || self == Kind::F64 && f64::from_bits(a).is_nan() && f64::from_bits(b).is_nan()

@@ -90,7 +90,7 @@ pub fn exported() -> impl Iterator<Item = &'static Function> {
     FUNCTIONS.iter().filter(|f| f.library.is_some())
 }
 
-/// A function's number in a record: its place here, from 1.
+/// A function's place here, from 1. A new one goes to the end, so that `compare` makes the same calls of the others.
 pub fn number(function: &Function) -> u64 {
     1 + FUNCTIONS.iter().position(|f| f.name == function.name).unwrap() as u64
 }

@@ -1,4 +1,5 @@
-//! A fixed sample of calls with their expected answers, as words that a program without pure.rs can run (RECORD.md).
+//! A fixed sample of calls with their expected answers, as a text that a program without pure.rs can run.
+//! tests/README.md has its form.
 
 use crate::call::{Call, Kind, Value};
 use crate::catalogue::{self, Function, Role};
@@ -9,51 +10,41 @@ use crate::rng::Rng;
 use crate::series::{DAMAGED, SERIES_LIMIT};
 use crate::source;
 
-/// The longest series of a record that is written out, so that 8 times its length and a few more fit 512 work cells.
+/// The longest series that is written out.
 const LONGEST: usize = 60;
-const WORK_LIMIT: usize = 512;
 /// How many calls of a function are chosen for no edge.
 const RANDOM: usize = 8;
-const SERIES: usize = 3;
-const PARAMETERS: usize = 6;
-const OUTPUTS: usize = 3;
-/// What every output and work cell holds before the call: -987654321.125, and -987654321 in whole-number cells.
-const FILL: f64 = -987_654_321.125;
 
-/// How a record gives its series and the cells that the call leaves.
-#[derive(Clone, Copy, PartialEq)]
+/// How a record gives its series and the cells that the call writes.
+#[derive(Clone, Copy)]
 enum Form {
-    WrittenOut = 0,
-    ByRule = 1,
+    WrittenOut,
+    ByRule,
 }
 
-/// Prints the number of records, then each record, a line for each of its parts.
+/// Prints the number of calls, then each call, a line for each of its parts.
 pub fn print() {
-    let records: Vec<Vec<Vec<u64>>> = catalogue::all().flat_map(records).collect();
-    print_words(&[records.len() as u64]);
-    records.iter().flatten().for_each(|part| print_words(part));
-}
-
-/// One line of words; no line for no word.
-fn print_words(words: &[u64]) {
-    let words: Vec<String> = words.iter().map(|word| format!("{word:016x}")).collect();
-    if !words.is_empty() {
-        println!("{}", words.join(" "));
-    }
+    let calls: Vec<Vec<String>> = catalogue::all().flat_map(records).collect();
+    println!("calls {}", calls.len());
+    calls.iter().flatten().for_each(|line| println!("{line}"));
 }
 
 /// The starred cases, a published table and each edge, a few calls of any kind, and calls of long series by rule.
-fn records(function: &'static Function) -> Vec<Vec<Vec<u64>>> {
-    let mut rng = Rng::new(catalogue::number(function));
+fn records(function: &'static Function) -> Vec<Vec<String>> {
+    let mut rng = Rng::new(seed(function.name));
     let mut calls = starred(function);
     calls.extend(published::call(function));
     calls.extend(short_edges(&mut rng, function));
     let random = std::iter::repeat_with(|| generate::random(&mut rng, function));
     calls.extend(random.filter(|call| call.series.iter().all(|s| s.len() <= LONGEST)).take(RANDOM));
-    calls.retain(|call| call.work <= WORK_LIMIT);
     let short = calls.iter().map(|call| record(function, call, Form::WrittenOut));
     let long = long(function);
     short.chain(long.iter().map(|call| record(function, call, Form::ByRule))).collect()
+}
+
+/// A seed of the name's own (FNV-1a): a new function changes no call of another.
+fn seed(name: &str) -> u64 {
+    name.bytes().fold(0xcbf2_9ce4_8422_2325, |hash, byte| (hash ^ u64::from(byte)).wrapping_mul(0x0100_0000_01b3))
 }
 
 /// The starred cases of document 01 that a function has; the source gives the cells that document 01 prints.
@@ -150,28 +141,49 @@ fn by_rule(place: usize, bars: usize) -> Vec<f64> {
     (place..place + bars).map(|i| (i * 7_919 % 10_007 + 1) as f64).collect()
 }
 
-/// A call and what it must leave: the numbers, then each series and each output's cells, or the digest of all cells, in
-/// the order that RECORD.md gives.
-fn record(function: &Function, call: &Call, form: Form) -> Vec<Vec<u64>> {
-    let expected = source::expected(function, call);
-    let series_length = |place: usize| call.series.get(place).map_or(0, |s| s.len() as u64);
-    let parameter = |place: usize| call.parameters.get(place).map_or(0, |value| value.word());
-    let output_length = |place: usize| call.outputs.get(place).map_or(0, |length| *length as u64);
-    let mut numbers = vec![catalogue::number(function), form as u64];
-    numbers.extend((0..SERIES).map(series_length));
-    numbers.extend((0..PARAMETERS).map(parameter));
-    numbers.extend((0..OUTPUTS).map(output_length));
-    numbers.extend([call.work as u64, expected.answer.refusal, expected.answer.count, expected.cleared as u64]);
-    let series = call.series.iter().map(|s| s.iter().map(|x| one_nan(Kind::F64, x.to_bits())).collect());
-    let outputs = expected.cells.iter().zip(&call.outputs).map(|(cells, length)| {
-        let mut cells: Vec<u64> = cells.iter().map(|word| one_nan(function.kind, *word)).collect();
-        cells.resize(*length, function.kind.word(FILL));
-        cells
+/// A call and what it must leave, in the lines that tests/README.md gives.
+fn record(function: &Function, call: &Call, form: Form) -> Vec<String> {
+    let mut lines = vec![format!("call {}", function.name)];
+    lines.extend(given(function, call, form));
+    lines.extend(left(function, call, form));
+    lines
+}
+
+/// What a call is given: series, parameters, and the lengths of its outputs and its work slice.
+fn given(function: &Function, call: &Call, form: Form) -> Vec<String> {
+    let series = call.series.iter().enumerate().map(|(place, series)| match form {
+        Form::WrittenOut => {
+            format!("in f64 {}{}", series.len(), text(series.iter().map(|x| one_nan(Kind::F64, x.to_bits()))))
+        }
+        Form::ByRule => format!("rule {} {place}", series.len()),
     });
-    match form {
-        Form::WrittenOut => [numbers].into_iter().chain(series).chain(outputs).collect(),
-        Form::ByRule => vec![numbers, vec![digest(outputs.flatten())]],
-    }
+    let parameters = call.parameters.iter().map(|value| match value {
+        Value::Count(n) => format!("whole {n}"),
+        Value::Real(x) => format!("real {:x}", x.to_bits()),
+    });
+    let outputs = call.outputs.iter().map(|length| format!("out {} {length}", function.kind.name()));
+    let work = function.work.then(|| format!("work {}", call.work));
+    series.chain(parameters).chain(outputs).chain(work).collect()
+}
+
+/// What a call must leave: its answer, the cells that it writes, and how many work cells hold +0.0.
+fn left(function: &Function, call: &Call, form: Form) -> Vec<String> {
+    let expected = source::expected(function, call);
+    let answer = format!("answer {} {}", expected.answer.refusal, expected.answer.count);
+    let outputs = expected.cells.iter().map(|cells| {
+        let words = cells.iter().map(|word| one_nan(function.kind, *word));
+        match form {
+            Form::WrittenOut => format!("cells{}", text(words)),
+            Form::ByRule => format!("digest {:x}", digest(words)),
+        }
+    });
+    let cleared = function.work.then(|| format!("cleared {}", expected.cleared));
+    std::iter::once(answer).chain(outputs).chain(cleared).collect()
+}
+
+/// Words as text, a blank before each.
+fn text(words: impl Iterator<Item = u64>) -> String {
+    words.map(|word| format!(" {word:x}")).collect()
 }
 
 /// One word of many. The modulus is prime: were it a power of two, cells whose signs are wrong would cancel in pairs.

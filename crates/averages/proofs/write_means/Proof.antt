@@ -4,7 +4,7 @@ use native.Mathlib.Omega.{arith}
 use borrow.Author.Needs.{needs}
 use lib.ListN.{length-set}
 use Rattle.windows.proofs.Window.{count-is-float}
-use Rattle.sliding_means.proofs.Means.{led-means}
+use Rattle.windows.proofs.Means.{led-means}
 use Rattle.averages.specs.Sma.{smaLine}
 use Rattle.averages.proofs.write_means.Statement.{statement}
 use Rattle.averages.proofs.write_means.Tie as tie

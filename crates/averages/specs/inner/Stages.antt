@@ -7,7 +7,7 @@ use Rattle.cells.specs.Line.{line}
 use Rattle.windows.specs.Window.{windowSum}
 use Rattle.values.specs.Accepted.{accepted}
 use Rattle.values.specs.inner.Part.{Passing}
-use Rattle.values_series.specs.declared.Tested.{Tested}
+use Rattle.values.specs.declared.series.Tested.{Tested}
 
 -- the sum of the first n prices, and whether they are accepted
 pub record TestedSum (s : List Float) (n : ℕ) (r : Tested) : Type 0 where

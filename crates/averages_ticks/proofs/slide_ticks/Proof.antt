@@ -14,7 +14,7 @@ use Rattle.cells.specs.Line.{line}
 use Rattle.cells.specs.Written.{Writing}
 use Rattle.cells.proofs.Written.{one-more, ends}
 use Rattle.averages_ticks.specs.TickMean.{tickMeanLine}
-use Rattle.averages_ticks_bar.proofs.Whole.{held}
+use Rattle.averages_ticks.proofs.Whole.{held}
 use Rattle.averages_ticks.specs.inner.Ticks.{TickSum}
 use Rattle.averages_ticks.proofs.Ticks.{
   HeldSum,

@@ -11,7 +11,7 @@ use mir.Val.{toZ}
 use Rattle.cells.specs.Line.{line}
 use Rattle.cells.specs.Written.{Writing}
 use Rattle.cells.proofs.Written.{none-written, one-more, ends}
-use Rattle.averages_ticks_bar.proofs.Whole.{held}
+use Rattle.averages_ticks.proofs.Whole.{held}
 use Rattle.averages_ticks.specs.inner.Ticks.{TickSum}
 use Rattle.averages_ticks.proofs.Ticks.{HeldSum, castable-at, no-ticks, hold-in, ticks-same}
 use Rattle.averages_ticks.proofs.sum_lead.Statement.{statement}

@@ -9,7 +9,7 @@ use lib.Ieee.{ofBits}
 use Rattle.cells.specs.Line.{line}
 use Rattle.averages_wilder.specs.inner.Averaged.{Averaged, Indexed}
 use Rattle.averages_wilder.proofs.Stages.{rsi-at, same-bar}
-use Rattle.work_rows.proofs.Finished.{one-finished, all-finished}
+use Rattle.cells.proofs.Finished.{one-finished, all-finished}
 use Rattle.averages_wilder.proofs.write_from_seed.Statement.{statement}
 use Rattle.averages_wilder.proofs.write_from_seed.Tie as tie
 

@@ -6,7 +6,7 @@ use lib.ListN.{length}
 use lib.Ieee.{Float}
 use Rattle.limits.specs.Limits.{Window}
 use Rattle.cells.specs.Line.{Line, line}
-use Rattle.work_rows.specs.inner.Finished.{Finished}
+use Rattle.cells.specs.inner.Finished.{Finished}
 use Rattle.changes.specs.Changes.{gains, losses}
 use Rattle.changes.specs.declared.Averages.{Averages}
 use Rattle.averages_wilder.specs.Wilder.{wilder}

@@ -1,6 +1,6 @@
 -- `tegbalowu_boll_positions` meets its contract: it is the library's `boll_positions`, in numbers. Assumes nothing.
 use borrow.Author.Needs.{needs}
-use Rattle.capi_answer.proofs.InNumbers.{told}
+use Rattle.calls.proofs.InNumbers.{told}
 use Rattle.capi.proofs.tegbalowu_boll_positions.Statement.{statement}
 use Rattle.capi.proofs.tegbalowu_boll_positions.Tie as tie
 

@@ -1,6 +1,6 @@
 -- `tegbalowu_ema` meets its contract: it is the library's `ema`, in numbers. Assumes nothing.
 use borrow.Author.Needs.{needs}
-use Rattle.capi_answer.proofs.InNumbers.{told}
+use Rattle.calls.proofs.InNumbers.{told}
 use Rattle.capi.proofs.tegbalowu_ema.Statement.{statement}
 use Rattle.capi.proofs.tegbalowu_ema.Tie as tie
 

@@ -1,7 +1,7 @@
 -- `tegbalowu_exponential_smoothing` meets its contract: it is the library's `exponential_smoothing`, in numbers.
 -- Assumes nothing.
 use borrow.Author.Needs.{needs}
-use Rattle.capi_answer.proofs.InNumbers.{told}
+use Rattle.calls.proofs.InNumbers.{told}
 use Rattle.capi.proofs.tegbalowu_exponential_smoothing.Statement.{statement}
 use Rattle.capi.proofs.tegbalowu_exponential_smoothing.Tie as tie
 

@@ -1,6 +1,6 @@
 -- `tegbalowu_holt_winters` meets its contract: it is the library's `holt_winters`, in numbers. Assumes nothing.
 use borrow.Author.Needs.{needs}
-use Rattle.capi_answer.proofs.InNumbers.{told}
+use Rattle.calls.proofs.InNumbers.{told}
 use Rattle.capi.proofs.tegbalowu_holt_winters.Statement.{statement}
 use Rattle.capi.proofs.tegbalowu_holt_winters.Tie as tie
 

@@ -1,6 +1,6 @@
 -- `tegbalowu_jurik_volty` meets its contract: it is the library's `jurik_volty`, in numbers. Assumes nothing.
 use borrow.Author.Needs.{needs}
-use Rattle.capi_answer.proofs.InNumbers.{told}
+use Rattle.calls.proofs.InNumbers.{told}
 use Rattle.capi.proofs.tegbalowu_jurik_volty.Statement.{statement}
 use Rattle.capi.proofs.tegbalowu_jurik_volty.Tie as tie
 

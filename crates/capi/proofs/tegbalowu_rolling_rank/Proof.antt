@@ -1,6 +1,6 @@
 -- `tegbalowu_rolling_rank` meets its contract: it is the library's `rolling_rank`, in numbers. Assumes nothing.
 use borrow.Author.Needs.{needs}
-use Rattle.capi_answer.proofs.InNumbers.{told}
+use Rattle.calls.proofs.InNumbers.{told}
 use Rattle.capi.proofs.tegbalowu_rolling_rank.Statement.{statement}
 use Rattle.capi.proofs.tegbalowu_rolling_rank.Tie as tie
 

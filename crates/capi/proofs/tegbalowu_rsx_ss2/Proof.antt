@@ -1,6 +1,6 @@
 -- `tegbalowu_rsx_ss2` meets its contract: it is the library's `rsx_ss2`, in numbers. Assumes nothing.
 use borrow.Author.Needs.{needs}
-use Rattle.capi_answer.proofs.InNumbers.{told}
+use Rattle.calls.proofs.InNumbers.{told}
 use Rattle.capi.proofs.tegbalowu_rsx_ss2.Statement.{statement}
 use Rattle.capi.proofs.tegbalowu_rsx_ss2.Tie as tie
 

@@ -1,6 +1,6 @@
 -- `tegbalowu_sma` meets its contract: it is the library's `sma`, in numbers. Assumes nothing.
 use borrow.Author.Needs.{needs}
-use Rattle.capi_answer.proofs.InNumbers.{told}
+use Rattle.calls.proofs.InNumbers.{told}
 use Rattle.capi.proofs.tegbalowu_sma.Statement.{statement}
 use Rattle.capi.proofs.tegbalowu_sma.Tie as tie
 

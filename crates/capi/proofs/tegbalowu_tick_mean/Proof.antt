@@ -1,6 +1,6 @@
 -- `tegbalowu_tick_mean` meets its contract: it is the library's `tick_mean`, in numbers. Assumes nothing.
 use borrow.Author.Needs.{needs}
-use Rattle.capi_answer.proofs.InNumbers.{told}
+use Rattle.calls.proofs.InNumbers.{told}
 use Rattle.capi.proofs.tegbalowu_tick_mean.Statement.{statement}
 use Rattle.capi.proofs.tegbalowu_tick_mean.Tie as tie
 

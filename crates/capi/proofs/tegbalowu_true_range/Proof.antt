@@ -1,6 +1,6 @@
 -- `tegbalowu_true_range` meets its contract: it is the library's `true_range`, in numbers. Assumes nothing.
 use borrow.Author.Needs.{needs}
-use Rattle.capi_answer.proofs.InNumbers.{told}
+use Rattle.calls.proofs.InNumbers.{told}
 use Rattle.capi.proofs.tegbalowu_true_range.Statement.{statement}
 use Rattle.capi.proofs.tegbalowu_true_range.Tie as tie
 

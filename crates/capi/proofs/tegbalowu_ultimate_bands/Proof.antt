@@ -1,6 +1,6 @@
 -- `tegbalowu_ultimate_bands` meets its contract: it is the library's `ultimate_bands`, in numbers. Assumes nothing.
 use borrow.Author.Needs.{needs}
-use Rattle.capi_answer.proofs.InNumbers.{told}
+use Rattle.calls.proofs.InNumbers.{told}
 use Rattle.capi.proofs.tegbalowu_ultimate_bands.Statement.{statement}
 use Rattle.capi.proofs.tegbalowu_ultimate_bands.Tie as tie
 

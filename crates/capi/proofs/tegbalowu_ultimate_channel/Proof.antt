@@ -1,6 +1,6 @@
 -- `tegbalowu_ultimate_channel` meets its contract: it is the library's `ultimate_channel`, in numbers. Assumes nothing.
 use borrow.Author.Needs.{needs}
-use Rattle.capi_answer.proofs.InNumbers.{told}
+use Rattle.calls.proofs.InNumbers.{told}
 use Rattle.capi.proofs.tegbalowu_ultimate_channel.Statement.{statement}
 use Rattle.capi.proofs.tegbalowu_ultimate_channel.Tie as tie
 

@@ -1,6 +1,6 @@
 -- `tegbalowu_ultimate_oscillator` meets its contract: it is the library's own function, in numbers. Assumes nothing.
 use borrow.Author.Needs.{needs}
-use Rattle.capi_answer.proofs.InNumbers.{told}
+use Rattle.calls.proofs.InNumbers.{told}
 use Rattle.capi.proofs.tegbalowu_ultimate_oscillator.Statement.{statement}
 use Rattle.capi.proofs.tegbalowu_ultimate_oscillator.Tie as tie
 

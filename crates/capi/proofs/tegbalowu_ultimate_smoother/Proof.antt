@@ -1,7 +1,7 @@
 -- `tegbalowu_ultimate_smoother` meets its contract: it is the library's `ultimate_smoother`, in numbers. Assumes
 -- nothing.
 use borrow.Author.Needs.{needs}
-use Rattle.capi_answer.proofs.InNumbers.{told}
+use Rattle.calls.proofs.InNumbers.{told}
 use Rattle.capi.proofs.tegbalowu_ultimate_smoother.Statement.{statement}
 use Rattle.capi.proofs.tegbalowu_ultimate_smoother.Tie as tie
 

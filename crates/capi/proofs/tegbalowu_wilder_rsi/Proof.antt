@@ -1,6 +1,6 @@
 -- `tegbalowu_wilder_rsi` meets its contract: it is the library's `wilder_rsi`, in numbers. Assumes nothing.
 use borrow.Author.Needs.{needs}
-use Rattle.capi_answer.proofs.InNumbers.{told}
+use Rattle.calls.proofs.InNumbers.{told}
 use Rattle.capi.proofs.tegbalowu_wilder_rsi.Statement.{statement}
 use Rattle.capi.proofs.tegbalowu_wilder_rsi.Tie as tie
 

@@ -7,7 +7,7 @@ use denote.Ref.{now}
 use Rattle.cells.proofs.Touched.{written-over-all}
 use Rattle.cells.proofs.Written.{ends}
 use Rattle.outer_lines.proofs.Lines.{upper-of, lower-of, filled-upper, filled-lower}
-use Rattle.channel_widths.proofs.Stages.{no-width}
+use Rattle.channel.proofs.Stages.{no-width}
 use Rattle.channel.proofs.write_channel.Statement.{statement}
 use Rattle.channel.proofs.write_channel.Tie as tie
 

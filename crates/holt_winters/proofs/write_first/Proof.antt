@@ -4,7 +4,7 @@ use native.Mathlib.Omega.{arith}
 use lib.ListN.{length}
 use Rattle.cells.specs.Line.{line}
 use Rattle.cells.proofs.Written.{none-written, ends}
-use Rattle.work_rows.proofs.Scratch.{unused, all-put}
+use Rattle.cells.proofs.Scratch.{unused, all-put}
 use Rattle.holt_winters.specs.inner.Stages.{First}
 use Rattle.holt_winters.proofs.Stages.{one-first}
 use borrow.Author.Needs.{needs}

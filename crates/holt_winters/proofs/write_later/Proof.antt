@@ -7,7 +7,7 @@ use lib.ListN.{length}
 use lib.Ieee.{ofBits}
 use Rattle.cells.specs.Line.{line}
 use Rattle.cells.proofs.Written.{ends}
-use Rattle.work_rows.proofs.Scratch.{all-put}
+use Rattle.cells.proofs.Scratch.{all-put}
 use Rattle.holt_winters.specs.HoltWinters.{fitLine}
 use Rattle.holt_winters.specs.inner.Stages.{Smoothed}
 use Rattle.holt_winters.proofs.Stages.{next-is, first-is, first-smoothed, one-smoothed}

@@ -1,6 +1,6 @@
 -- `answer_oscillator` meets its contract: the tests together are the table's. Assumes nothing.
 use borrow.Author.Needs.{needs}
-use Rattle.oscillator_bar.specs.Oscillator.{oscillatorAnswer}
+use Rattle.oscillator.specs.Oscillator.{oscillatorAnswer}
 use Rattle.oscillator.proofs.answer_oscillator.Statement.{statement}
 use Rattle.oscillator.proofs.answer_oscillator.Tie as tie
 

@@ -3,7 +3,7 @@ use mathlib.Core.Path.{_∙_}
 use native.Mathlib.Omega.{arith}
 use borrow.Author.Needs.{needs}
 use Rattle.cells.specs.Line.{minusZero}
-use Rattle.oscillator_ticks.proofs.Cells.{cell-is}
+use Rattle.oscillator.proofs.Cells.{cell-is}
 use Rattle.oscillator.proofs.cell_at.Statement.{statement}
 use Rattle.oscillator.proofs.cell_at.Tie as tie
 

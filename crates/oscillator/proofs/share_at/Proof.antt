@@ -1,7 +1,7 @@
 -- `share_at` meets its contract: a sum over another. Assumes nothing.
 use borrow.Author.Needs.{needs}
 use Rattle.windows.specs.Window.{windowSum}
-use Rattle.oscillator_bar.specs.Oscillator.{share}
+use Rattle.oscillator.specs.Oscillator.{share}
 use Rattle.oscillator.proofs.share_at.Statement.{statement}
 use Rattle.oscillator.proofs.share_at.Tie as tie
 

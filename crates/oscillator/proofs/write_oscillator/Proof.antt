@@ -2,7 +2,7 @@
 -- nothing.
 use native.Mathlib.Omega.{arith}
 use borrow.Author.Needs.{needs}
-use Rattle.cells.proofs.Rows.{lent-on}
+use Rattle.cells.proofs.RowWrites.{lent-on}
 use Rattle.cells.proofs.Touched.{touched, touched-more}
 use Rattle.cells.proofs.Written.{ends}
 use Rattle.oscillator.proofs.Calls.{oscillator-cells}

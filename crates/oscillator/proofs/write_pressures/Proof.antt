@@ -6,7 +6,7 @@ use borrow.Author.Needs.{needs}
 use Rattle.cells.specs.Line.{line}
 use Rattle.cells.specs.Written.{Writing}
 use Rattle.cells.proofs.Written.{none-written, one-more, ends}
-use Rattle.oscillator_bar.specs.Oscillator.{pressures}
+use Rattle.oscillator.specs.Oscillator.{pressures}
 use Rattle.oscillator.proofs.Oscillator.{pressure-at}
 use Rattle.oscillator.proofs.write_pressures.Statement.{statement}
 use Rattle.oscillator.proofs.write_pressures.Tie as tie

@@ -2,7 +2,7 @@
 use native.Mathlib.Omega.{arith}
 use borrow.Author.Needs.{needs}
 use Rattle.cells.proofs.Leads.{lead-stands, lead-then}
-use Rattle.oscillator_bar.specs.Oscillator.{weighedShares}
+use Rattle.oscillator.specs.Oscillator.{weighedShares}
 use Rattle.oscillator.proofs.write_shares.Statement.{statement}
 use Rattle.oscillator.proofs.write_shares.Tie as tie
 

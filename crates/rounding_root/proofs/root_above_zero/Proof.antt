@@ -5,7 +5,7 @@ use native.Mathlib.Omega.{arith}
 use borrow.Author.Needs.{needs}
 use lib.Dec.{T}
 use lib.Ieee.{binary64, fits}
-use Rattle.rounding_root_whole.proofs.Above.{above-is-number}
+use Rattle.rounding_root.proofs.Above.{above-is-number}
 use Rattle.rounding_root.proofs.Patterns.{infinite, subnormal, normal}
 use Rattle.rounding_root.proofs.root_above_zero.Statement.{statement}
 use Rattle.rounding_root.proofs.root_above_zero.Tie as tie

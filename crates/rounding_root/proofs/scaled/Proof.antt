@@ -4,7 +4,7 @@ use mathlib.Core.Logic.{⊎-elim}
 use native.Mathlib.Omega.{arith}
 use borrow.Author.Needs.{needs}
 use lib.Ieee.{ofBits, isNan}
-use Rattle.rounding_root_whole.proofs.Above.{above-is-number}
+use Rattle.rounding_root.proofs.Above.{above-is-number}
 use Rattle.rounding_root.proofs.scaled.Statement.{statement}
 use Rattle.rounding_root.proofs.scaled.Tie as tie
 

@@ -6,7 +6,7 @@ use lib.ListN.{length}
 use lib.Ieee.{Float}
 use Rattle.limits.specs.Limits.{Window, longestPeriod}
 use Rattle.cells.specs.Line.{Line}
-use Rattle.averages_exponential.specs.ExponentialSmoothing.{exponentialLine}
+use Rattle.averages.specs.ExponentialSmoothing.{exponentialLine}
 use Rattle.changes.specs.declared.Averages.{Averages}
 use Rattle.changes.specs.Changes.{gains, losses}
 
@@ -16,7 +16,7 @@ pub record Averaged (alpha : Float) (f : Line) (i : ℕ) (r : Averages) : Type 0
   pub loss : r .loss ≡ exponentialLine alpha (losses f) i
 
 -- what the stages ask: a bar at least, a window, a smoother period, a cell for each bar, and eight rows of work cells
-pub record Ready (n m : ℕ) (s : List Float) (out work : ℕ) : Type 0 where
+pub record RsxRoom (n m : ℕ) (s : List Float) (out work : ℕ) : Type 0 where
   pub window : Window n
   pub period : m ≤ longestPeriod
   pub bars : 0 < length s

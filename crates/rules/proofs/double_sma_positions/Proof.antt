@@ -8,7 +8,7 @@ use denote.Ref.{now}
 use lib.ListN.{length}
 use Rattle.calls.specs.Answer.{countOf}
 use Rattle.calls.proofs.Call.{some-cells, no-cells, all-called, none-called, counted}
-use Rattle.rules_double_bar.specs.inner.Ticks.{tickCells}
+use Rattle.rules_double.specs.inner.Ticks.{tickCells}
 use Rattle.rules_double.proofs.Open.{double-ready, double-bars, tick-room, tick-answer}
 use Rattle.rules.proofs.double_sma_positions.Statement.{statement}
 use Rattle.rules.proofs.double_sma_positions.Tie as tie

@@ -6,8 +6,8 @@ use denote.Ref.{now}
 use lib.ListN.{length}
 use Rattle.checks.proofs.Due.{written-call, empty-call}
 use Rattle.cells.proofs.Touched.{untouched}
-use Rattle.rules_rolling_rank.specs.inner.Room.{RankRoom}
-use Rattle.rules_rolling_rank.proofs.RollingCells.{rolling-bars, rolling-clearable, rolling-room}
+use Rattle.rules_rank.specs.inner.Room.{RankRoom}
+use Rattle.rules_rank.proofs.RollingCells.{rolling-bars, rolling-clearable, rolling-room}
 use Rattle.rules.proofs.rolling_rank.Statement.{statement}
 use Rattle.rules.proofs.rolling_rank.Tie as tie
 

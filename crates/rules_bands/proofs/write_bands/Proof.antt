@@ -4,8 +4,8 @@ use native.Mathlib.Omega.{arith}
 use borrow.Author.Needs.{needs}
 use Rattle.cells.proofs.Parts.{part-long, through}
 use Rattle.cells.proofs.Touched.{touched}
-use Rattle.rules_bands_bar.specs.inner.Stages.{bandPositions}
-use Rattle.rules_bands_bar.proofs.Stages.{causal-positions}
+use Rattle.rules_bands.specs.inner.Stages.{bandPositions}
+use Rattle.rules_bands.proofs.Stages.{causal-positions}
 use Rattle.rules_bands.proofs.write_bands.Statement.{statement}
 use Rattle.rules_bands.proofs.write_bands.Tie as tie
 

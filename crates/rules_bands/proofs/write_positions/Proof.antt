@@ -7,8 +7,8 @@ use Rattle.cells.specs.Line.{line}
 use Rattle.cells.specs.Written.{Writing}
 use Rattle.cells.proofs.Leads.{lead-then}
 use Rattle.cells.proofs.Written.{stands, then-written}
-use Rattle.rules_bands_bar.specs.inner.Stages.{bandPositions}
-use Rattle.rules_bands_bar.proofs.Stages.{flat-lead}
+use Rattle.rules_bands.specs.inner.Stages.{bandPositions}
+use Rattle.rules_bands.proofs.Stages.{flat-lead}
 use Rattle.rules_bands.proofs.write_positions.Statement.{statement}
 use Rattle.rules_bands.proofs.write_positions.Tie as tie
 

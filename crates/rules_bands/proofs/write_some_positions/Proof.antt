@@ -14,8 +14,8 @@ use Rattle.cells.specs.Written.{Writing}
 use Rattle.cells.specs.inner.Recurring.{Recurring}
 use Rattle.cells.proofs.Written.{step, ends, read-back}
 use Rattle.rules_held.specs.Held.{flat}
-use Rattle.rules_bands_bar.specs.inner.Stages.{positionStep, bandPositions}
-use Rattle.rules_bands_bar.proofs.Stages.{divisor-most, step-at, recurring-before, recurring-on}
+use Rattle.rules_bands.specs.inner.Stages.{positionStep, bandPositions}
+use Rattle.rules_bands.proofs.Stages.{divisor-most, step-at, recurring-before, recurring-on}
 use Rattle.rules_bands.proofs.write_some_positions.Statement.{statement}
 use Rattle.rules_bands.proofs.write_some_positions.Tie as tie
 

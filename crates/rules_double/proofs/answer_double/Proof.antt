@@ -1,6 +1,6 @@
 -- `answer_double` meets its contract: the table is read from the top. Assumes nothing.
 use borrow.Author.Needs.{needs}
-use Rattle.rules_double_bar.specs.Double.{doubleAnswer}
+use Rattle.rules_double.specs.Double.{doubleAnswer}
 use Rattle.rules_double.proofs.answer_double.Statement.{statement}
 use Rattle.rules_double.proofs.answer_double.Tie as tie
 

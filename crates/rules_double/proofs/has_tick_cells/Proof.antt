@@ -12,7 +12,7 @@ use lib.Seq.{take-all, length-take-le}
 use lib.Ieee.{Float}
 use Rattle.values.specs.Accepted.{tick, all}
 use Rattle.values.proofs.All.{and-assoc}
-use Rattle.rules_double_bar.specs.inner.Ticks.{tickCells}
+use Rattle.rules_double.specs.inner.Ticks.{tickCells}
 use Rattle.rules_double.proofs.has_tick_cells.Statement.{statement}
 use Rattle.rules_double.proofs.has_tick_cells.Tie as tie
 

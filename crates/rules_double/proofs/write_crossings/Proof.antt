@@ -7,7 +7,7 @@ use lib.ListN.{length}
 use Rattle.cells.specs.Line.{line}
 use Rattle.cells.specs.Written.{Writing}
 use Rattle.cells.proofs.Written.{one-more, ends}
-use Rattle.rules_double_bar.specs.Double.{doubleLine}
+use Rattle.rules_double.specs.Double.{doubleLine}
 use Rattle.windows.proofs.Window.{next-running}
 use Rattle.rules_double.proofs.Double.{Sum, double-at}
 use Rattle.rules_double.proofs.write_crossings.Statement.{statement}

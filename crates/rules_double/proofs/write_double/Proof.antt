@@ -2,7 +2,7 @@
 use borrow.Author.Needs.{needs}
 use lib.Ieee.{ofBits}
 use Rattle.cells.proofs.Leads.{up-to-bar, lead-then, lead-only}
-use Rattle.rules_double_bar.specs.Double.{doubleLine}
+use Rattle.rules_double.specs.Double.{doubleLine}
 use Rattle.rules_double.proofs.write_double.Statement.{statement}
 use Rattle.rules_double.proofs.write_double.Tie as tie
 

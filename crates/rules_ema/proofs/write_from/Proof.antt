@@ -7,9 +7,9 @@ use lib.ListN.{length}
 use borrow.Author.Needs.{needs}
 use Rattle.cells.specs.Line.{line}
 use Rattle.cells.proofs.Leads.{still}
-use Rattle.work_rows.specs.inner.Finished.{Finished}
-use Rattle.rules_ema_bar.specs.SingleEma.{emaOfMeans, singleEmaFrom}
-use Rattle.rules_ema_bar.proofs.SingleEma.{
+use Rattle.cells.specs.inner.Finished.{Finished}
+use Rattle.rules_ema.specs.SingleEma.{emaOfMeans, singleEmaFrom}
+use Rattle.rules_ema.proofs.SingleEma.{
   first-average,
   next-average,
   position-at,

@@ -8,7 +8,7 @@ use Rattle.cells.specs.Line.{line}
 use Rattle.cells.proofs.Parts.{part-long}
 use Rattle.cells.proofs.Written.{stands}
 use Rattle.windows.specs.Window.{mean}
-use Rattle.rules_ema_bar.proofs.SingleEma.{seed-of, found-finished, none-finished}
+use Rattle.rules_ema.proofs.SingleEma.{seed-of, found-finished, none-finished}
 use Rattle.rules_ema.proofs.write_over_means.Statement.{statement}
 use Rattle.rules_ema.proofs.write_over_means.Tie as tie
 

@@ -8,7 +8,7 @@ use lib.Ieee.{nan, ofBits}
 use lib.ListN.{length}
 use Rattle.cells.specs.Line.{line}
 use Rattle.cells.proofs.Leads.{lead-stands, lead-then, still}
-use Rattle.cells.proofs.Rows.{beside-first, beside-second}
+use Rattle.cells.proofs.RowWrites.{beside-first, beside-second}
 use Rattle.cells.specs.Written.{Writing}
 use Rattle.cells.proofs.Written.{one-more, read-back}
 use Rattle.rules_mms.specs.Mms.{mmsLine}

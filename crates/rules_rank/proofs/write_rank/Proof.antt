@@ -3,7 +3,7 @@
 use native.Mathlib.Omega.{arith}
 use borrow.Author.Needs.{needs}
 use lib.Ieee.{ofBits}
-use Rattle.cells.proofs.Rows.{lent-on}
+use Rattle.cells.proofs.RowWrites.{lent-on}
 use Rattle.cells.proofs.Touched.{touched, touched-more, untouched}
 use Rattle.cells.proofs.Written.{stands}
 use Rattle.rules_rank.proofs.Cells.{none-ranked}

@@ -2,7 +2,7 @@
 use native.Mathlib.Omega.{arith}
 use borrow.Author.Needs.{needs}
 use denote.Ref.{now}
-use Rattle.rules_rsi_bar.proofs.Rows.{three-rows}
+use Rattle.rules_rsi.proofs.Rows.{three-rows}
 use Rattle.rules_rsi.proofs.write_changes.Statement.{statement}
 use Rattle.rules_rsi.proofs.write_changes.Tie as tie
 

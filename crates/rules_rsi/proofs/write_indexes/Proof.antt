@@ -7,8 +7,8 @@ use Rattle.cells.specs.Line.{line}
 use Rattle.cells.specs.Written.{Writing}
 use Rattle.cells.proofs.Written.{none-written, stands, then-written, ends}
 use Rattle.windows.specs.Window.{mean}
-use Rattle.rules_rsi_bar.specs.RsiReverse.{rsiBefore}
-use Rattle.rules_rsi_bar.proofs.Rows.{still-changed}
+use Rattle.rules_rsi.specs.RsiReverse.{rsiBefore}
+use Rattle.rules_rsi.proofs.Rows.{still-changed}
 use Rattle.rules_rsi.proofs.write_indexes.Statement.{statement}
 use Rattle.rules_rsi.proofs.write_indexes.Tie as tie
 
@@ -36,7 +36,7 @@ loop-again c =
     let some = c .before .before in
     let at = some .before .before .before in
     let more = some .write-some .ensures in
-    (omega arith, then-written (at .loop .inv .1) (more .indexes) (omega arith))
+    (omega arith, then-written (at .loop .inv .1) (more .cells) (omega arith))
 
 pub write-indexes-spec : {M : Type 1} → statement M
 write-indexes-spec =

@@ -5,8 +5,8 @@ use native.Mathlib.Omega.{arith}
 use borrow.Author.Needs.{needs}
 use Rattle.cells.specs.Written.{Writing}
 use Rattle.cells.proofs.Written.{one-more, ends}
-use Rattle.rules_rsi_bar.specs.inner.Stages.{part, withParts}
-use Rattle.rules_rsi_bar.proofs.Rows.{none-of-parts, next-part}
+use Rattle.rules_rsi.specs.inner.Stages.{part, withParts}
+use Rattle.rules_rsi.proofs.Rows.{none-of-parts, next-part}
 use Rattle.rules_rsi.proofs.write_parts.Statement.{statement}
 use Rattle.rules_rsi.proofs.write_parts.Tie as tie
 

@@ -4,8 +4,8 @@ use native.Mathlib.Omega.{arith}
 use borrow.Author.Needs.{needs}
 use Rattle.cells.proofs.Parts.{part-long, through}
 use Rattle.cells.proofs.Touched.{touched, touched-then, touched-more}
-use Rattle.rules_rsi_bar.specs.RsiReverse.{turned, rsiReverseLine}
-use Rattle.rules_rsi_bar.proofs.Index.{causal-turned}
+use Rattle.rules_rsi.specs.RsiReverse.{turned, rsiReverseLine}
+use Rattle.rules_rsi.proofs.Index.{causal-turned}
 use Rattle.rules_rsi.proofs.write_rsi_reverse.Statement.{statement}
 use Rattle.rules_rsi.proofs.write_rsi_reverse.Tie as tie
 

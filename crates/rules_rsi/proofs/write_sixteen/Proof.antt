@@ -9,7 +9,7 @@ use Rattle.windows.specs.Window.{mean}
 use Rattle.windows.proofs.Window.{count-is-float}
 use Rattle.window_means.proofs.Row.{sixteen-moved}
 use Rattle.window_means.proofs.Storing.{eight-stored}
-use Rattle.rules_rsi_bar.proofs.Rows.{either-gains, either-losses, full-sum, eight-indexes}
+use Rattle.rules_rsi.proofs.Rows.{either-gains, either-losses, full-sum, eight-indexes}
 use Rattle.rules_rsi.proofs.write_sixteen.Statement.{statement}
 use Rattle.rules_rsi.proofs.write_sixteen.Tie as tie
 

@@ -11,7 +11,7 @@ use Rattle.cells.specs.Line.{line}
 use Rattle.cells.proofs.Leads.{lead-stands, lead-then}
 use Rattle.cells.specs.Written.{Writing}
 use Rattle.cells.proofs.Written.{one-more}
-use Rattle.rules_triple_bar.specs.Triple.{tripleLine}
+use Rattle.rules_triple.specs.Triple.{tripleLine}
 use Rattle.rules_triple.proofs.Crossover.{triple-at}
 use Rattle.rules_triple.proofs.write_trends.Statement.{statement}
 use Rattle.rules_triple.proofs.write_trends.Tie as tie

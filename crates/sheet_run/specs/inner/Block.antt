@@ -4,11 +4,11 @@ use mathlib.Core.List.{List, _++_}
 use Prim.Native.Nat.{ℕ, _-_, _<_}
 use lib.ListN.{length}
 use lib.Ieee.{Float}
-use Rattle.sheet_blocks.specs.declared.Sheet.{Sheet}
-use Rattle.sheet_blocks.specs.declared.Place.{Place}
+use Rattle.sheet_requests.specs.declared.blocks.Sheet.{Sheet}
+use Rattle.sheet_requests.specs.declared.blocks.Place.{Place}
 use Rattle.sheet_requests.specs.Sheet.{lines, outcome}
-use Rattle.sheet_blocks.specs.inner.Place.{stateOf, due, Sound}
-use Rattle.sheet_blocks.specs.inner.Taken.{Well, total}
+use Rattle.sheet_requests.specs.inner.Place.{stateOf, due, Sound}
+use Rattle.sheet_requests.specs.inner.Taken.{Well, total}
 
 -- A block was read up to where too few bytes for a line are left.
 pub record Fed (sheet : Sheet) (block : List ℕ) (series : List Float) (q : Place) (series′ : List Float)

@@ -6,8 +6,8 @@ use lib.ListN.{take}
 use lib.Seq.{slice}
 use lib.Ieee.{Float}
 use Rattle.sheet_run.specs.inner.Block.{Fed, Between}
-use Rattle.sheet_carried.specs.declared.Carried.{Carried}
-use Rattle.sheet_input.specs.Input.{came}
+use Rattle.sheet_run.specs.declared.carried.Carried.{Carried}
+use Rattle.sheet_run.specs.Run.{came}
 use Rattle.sheet_run.specs.inner.Buffers.{blockBytes}
 
 -- what holds between two turns: the bytes that are left lie in the block, and are too few for a line

@@ -1,8 +1,0 @@
--- `blended` meets its contract. Assumes nothing.
-use mathlib.Core.Path.{refl}
-use lib.Ieee.{ofBits}
-use Rattle.averages_blend.proofs.blended.Statement.{statement}
-use Rattle.averages_blend.proofs.blended.Tie as tie
-
-pub blended-spec : {M : Type 1} → statement M
-blended-spec = tie.close (tie.spec (λ c. unfold ofBits in refl))

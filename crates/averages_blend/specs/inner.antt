@@ -1,3 +1,0 @@
--- What the functions under the exponential averages ask of each other.
-pub mod Blending
-pub mod Tested

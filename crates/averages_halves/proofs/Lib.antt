@@ -1,3 +1,0 @@
-pub mod Halves
-pub mod Sides
-pub mod Smoothed

@@ -1,2 +1,0 @@
--- A step of Wilder's average.
-pub mod Step

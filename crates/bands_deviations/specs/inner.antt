@@ -1,2 +1,0 @@
--- What the functions of the bands' deviations ask of each other.
-pub mod Stages

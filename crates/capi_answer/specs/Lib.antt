@@ -1,2 +1,0 @@
--- What the C functions promise, in numbers.
-pub mod Numbers

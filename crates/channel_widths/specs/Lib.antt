@@ -1,3 +1,0 @@
--- What the ultimate channel is.
-pub mod Channel
-pub mod inner

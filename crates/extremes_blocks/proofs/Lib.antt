@@ -1,3 +1,0 @@
-pub mod Best
-pub mod Part
-pub mod Range

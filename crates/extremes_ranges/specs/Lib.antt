@@ -1,2 +1,0 @@
--- What the stages ask of each other.
-pub mod inner

@@ -1,2 +1,0 @@
--- A later bar of Holt-Winters smoothing.
-pub mod Later

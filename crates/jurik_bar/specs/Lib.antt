@@ -1,3 +1,0 @@
--- What the volatility smoothed three times is.
-pub mod Jurik
-pub mod inner

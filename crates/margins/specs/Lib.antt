@@ -1,0 +1,2 @@
+-- How near running sums are, and the margin beyond which they decide.
+pub mod inner

@@ -1,2 +1,0 @@
--- The means of a series, and their ranges.
-pub mod inner

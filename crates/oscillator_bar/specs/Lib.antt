@@ -1,3 +1,0 @@
--- What the ultimate oscillator is.
-pub mod Oscillator
-pub mod inner

@@ -1,2 +1,0 @@
--- What the functions of the oscillator ask of each other.
-pub mod Sliding

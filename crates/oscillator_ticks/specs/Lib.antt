@@ -1,2 +1,0 @@
--- What the functions that write the oscillator's cells ask.
-pub mod inner

@@ -1,4 +1,0 @@
-pub mod ByKind
-pub mod Parts
-pub mod Running
-pub mod Work

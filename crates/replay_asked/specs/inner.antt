@@ -1,2 +1,0 @@
--- What the functions that read a record ask of each other.
-pub mod Given

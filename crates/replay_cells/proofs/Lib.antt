@@ -1,2 +1,0 @@
-pub mod CellByCell
-pub mod Complement

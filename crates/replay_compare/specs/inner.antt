@@ -1,2 +1,0 @@
--- What is kept while cells are compared.
-pub mod Seen

@@ -1,2 +1,0 @@
--- How calls are counted.
-pub mod Tallied

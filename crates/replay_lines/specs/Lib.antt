@@ -1,3 +1,0 @@
--- The lines that are printed.
-pub mod Lines
-pub mod inner

@@ -1,2 +1,0 @@
--- What a recorded call with three outputs calls.
-pub mod Three

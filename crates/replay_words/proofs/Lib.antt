@@ -1,5 +1,0 @@
-pub mod Blocks
-pub mod Deciding
-pub mod FloatWords
-pub mod Texts
-pub mod Words

@@ -1,4 +1,0 @@
--- What the crate's own functions ask of each other.
-pub mod Blocks
-pub mod Texts
-pub mod Words

@@ -1,4 +1,0 @@
-pub mod Above
-pub mod Halves
-pub mod Search
-pub mod Squares

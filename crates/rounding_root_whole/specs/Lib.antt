@@ -1,2 +1,0 @@
--- What the functions of a whole root ask of each other.
-pub mod inner

@@ -1,4 +1,0 @@
-pub mod Bands
-pub mod Guess
-pub mod Narrow
-pub mod Stages

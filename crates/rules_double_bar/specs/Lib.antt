@@ -1,3 +1,0 @@
--- What the two-average rule is.
-pub mod Double
-pub mod inner

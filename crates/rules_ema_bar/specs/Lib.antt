@@ -1,3 +1,0 @@
--- What the exponential rule is.
-pub mod SingleEma
-pub mod inner

@@ -1,5 +1,0 @@
-pub mod Bounds
-pub mod Decides
-pub mod Head
-pub mod Runs
-pub mod Tried

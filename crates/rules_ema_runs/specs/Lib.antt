@@ -1,2 +1,0 @@
--- The exponential rule by running sums.
-pub mod inner

@@ -1,2 +1,0 @@
--- Where the exponential rule starts.
-pub mod FirstUsable

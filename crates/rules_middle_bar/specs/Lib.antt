@@ -1,3 +1,0 @@
--- One bar of the middle rule.
-pub mod AgainstMiddle
-pub mod inner

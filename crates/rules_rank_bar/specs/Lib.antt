@@ -1,3 +1,0 @@
--- One bar of the ranks.
-pub mod RankOf
-pub mod inner

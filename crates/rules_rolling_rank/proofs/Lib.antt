@@ -1,4 +1,0 @@
-pub mod Causal
-pub mod Distances
-pub mod Place
-pub mod RollingCells

@@ -1,2 +1,0 @@
--- The positions that a line of indexes holds.
-pub mod Turned

@@ -1,2 +1,0 @@
--- What the rule of three averages is.
-pub mod Triple

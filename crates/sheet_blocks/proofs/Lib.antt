@@ -1,4 +1,0 @@
-pub mod Lines
-pub mod Prices
-pub mod Steps
-pub mod Strict

@@ -1,3 +1,0 @@
--- How the program stands after a turn.
-pub mod Stands
-pub mod inner

@@ -1,3 +1,0 @@
-pub mod Printing
-pub mod Reading
-pub mod Signs

@@ -1,2 +1,0 @@
--- What the exit status of a run says.
-pub mod Exit

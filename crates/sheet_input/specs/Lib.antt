@@ -1,3 +1,0 @@
--- What the answer of a read says.
-pub mod Input
-pub mod inner

@@ -1,2 +1,0 @@
--- What filling a block again promises.
-pub mod Refills

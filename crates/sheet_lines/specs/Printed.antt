@@ -1,0 +1,46 @@
+-- What an answer prints, and the last line. Assumes nothing.
+use mathlib.Core.Bool.{cond}
+use mathlib.Core.List.{List, [], _∷_, _++_}
+use Prim.Native.Nat.{ℕ, zero, suc}
+use lib.Ieee.{Float, lt}
+use Rattle.calls.specs.declared.Answer.{Answer}
+use Rattle.calls.specs.Answer.{refusalOf, countOf}
+use Rattle.cells.specs.Line.{Line, plusZero}
+use Rattle.sheet_lines.specs.Print.{printField}
+use Rattle.sheet_lines.specs.declared.Request.{Request}
+
+-- the bytes of an answer's first line, of a position's line and of the last
+-- line, each with its line feed; src/lib.rt has constants of the same numbers
+abbrev pub headBytes : ℕ
+headBytes = 19
+
+abbrev pub positionBytes : ℕ
+positionBytes = 5
+
+abbrev pub lastBytes : ℕ
+lastBytes = 13
+
+-- desk in 4 columns, rule in 4, refusal in 4, count in 6
+unfoldable pub headLine : ℕ → ℕ → ℕ → ℕ → List ℕ
+headLine desk rule refusal count =
+    printField 4 desk ++ (printField 4 rule ++ (printField 4 refusal ++ (printField 6 count ++ (10 ∷ []))))
+
+-- a position in 4 columns: '   1' above 0, '  -1' below 0, else '   0'
+abbrev pub positionLine : Float → List ℕ
+positionLine x =
+    cond (lt plusZero x) (32 ∷ 32 ∷ 32 ∷ 49 ∷ 10 ∷ [])
+    (cond (lt x plusZero) (32 ∷ 32 ∷ 45 ∷ 49 ∷ 10 ∷ []) (32 ∷ 32 ∷ 32 ∷ 48 ∷ 10 ∷ []))
+
+-- the positions at bars 0 to k - 1
+unfoldable pub positionLines : ℕ → Line → List ℕ
+positionLines zero f = []
+positionLines (suc k) f = positionLines k f ++ positionLine (f k)
+
+-- all that a request prints
+unfoldable pub answerText : Request → Answer → Line → List ℕ
+answerText r answer f =
+    headLine (r .desk) (r .rule) (refusalOf answer) (countOf answer) ++ positionLines (countOf answer) f
+
+-- the number of refused requests in 12 columns
+unfoldable pub lastLine : ℕ → List ℕ
+lastLine refused = printField 12 refused ++ (10 ∷ [])

@@ -1,0 +1,5 @@
+-- What answering a request asks of the program's buffers.
+pub mod Place
+pub mod Taken
+pub mod Finished
+pub mod Lent

@@ -1,0 +1,193 @@
+// The sheet's state and its lines: where a request stands in a block of bytes, and a line or a run of prices read.
+use crate::Counts;
+use sheet_lines::Header;
+use sheet_lines::Request;
+use sheet_lines::columns::Price;
+ghost use mathlib.Core.Path.{_≡_};
+ghost use mathlib.Core.List.{List};
+ghost use Prim.Native.Nat.{_<_, _≤_, _+_, _-_};
+ghost use lib.ListN.{length};
+ghost use lib.Ieee.{Float};
+ghost use Rattle.sheet_lines.specs.Header.{mostBars};
+ghost use Rattle.sheet_lines.specs.Printed.{headBytes};
+ghost use Rattle.sheet_requests.specs.Sheet.{broken};
+ghost use Rattle.sheet_requests.specs.inner.Place.{beginning, due, Stepped, Ran};
+ghost use Rattle.sheet_requests.specs.inner.Taken.{textRoom, Well, Taken};
+
+// The room for text beyond a byte for each byte read: the longest answer.
+pub const TEXT_ROOM: usize = sheet_lines::text::HEAD_BYTES
+    + sheet_lines::text::POSITION_BYTES * sheet_lines::MOST_BARS;
+
+// Where a request stands: before its first line; with so many of its prices; or where a line broke its columns.
+pub enum Stage {
+    Waiting,
+    Collecting(Request, usize),
+    Stopped,
+}
+
+// What is carried from block to block.
+pub struct Sheet {
+    pub stage: Stage,
+    pub counts: Counts,
+}
+
+// A sheet, the next byte of the block, and the bytes printed so far.
+pub struct Place {
+    pub sheet: Sheet,
+    pub at: usize,
+    pub filled: usize,
+}
+
+// Prices that were read: the byte after them, how many there are, and whether no line was broken.
+pub struct Run {
+    pub at: usize,
+    pub got: usize,
+    pub whole: bool,
+}
+
+// Reads prices from `at` on until the request has all or too few bytes are left.
+fn read_prices(block: &[u8], at: usize, request: Request, got: usize, series: &mut [f64]) -> Run
+    requires { ⌜ (at + 13 ≤ length (now block)) × (got < request .bars) × (request .bars ≤ length (now series)) ⌝ }
+    ensures { λ r. ⌜ Ran (now (block .entry)) at request got (now (series .entry)) r (now (series .exit)) ⌝ }
+{
+    let end = got + cells::smaller(request.bars - got, (block.len() - at) / 13);
+    let mut place = at;
+    let mut i = got;
+    while i < end {
+        let Price::Ticks(price) = sheet_lines::read_price_line(block, place) else {
+            return Run {
+                at: place,
+                got: i,
+                whole: false,
+            };
+        };
+        series[i] = price;
+        i += 1;
+        place += 13;
+    }
+    Run {
+        at: place,
+        got: i,
+        whole: true,
+    }
+}
+
+// A broken line is answered, and nothing more is read.
+fn stop(counts: Counts, at: usize, text: &mut [u8], filled: usize) -> Place
+    requires { ⌜ filled + headBytes ≤ length (now text) ⌝ }
+    ensures { λ r. ⌜ ((series : List Float)
+        → Stepped (broken counts) series at filled r (now (text .entry)) (now (text .exit)))
+        × (r .sheet .stage ≡ Stage.Stopped) × (r .filled ≡ filled + headBytes) ⌝ }
+{
+    sheet_lines::text::print_head(text, filled, 0, 0, 10, 0);
+    Place {
+        sheet: Sheet {
+            stage: Stage::Stopped,
+            counts: counts.broken(),
+        },
+        at: at,
+        filled: filled + sheet_lines::text::HEAD_BYTES,
+    }
+}
+
+// Reads the first line of a request.
+fn take_header(place: Place, block: &[u8], text: &mut [u8]) -> Place
+    requires { ⌜ (place .sheet .stage ≡ Stage.Waiting) × (place .at + 27 ≤ length (now block))
+        × Well (now block) place × (length (now block) + textRoom ≤ length (now text)) ⌝ }
+    ensures { λ r. ⌜ ((series : List Float)
+        → Taken (now (block .entry)) place series (now (text .entry)) r series (now (text .exit))) ⌝ }
+{
+    let sheet = place.sheet;
+    let counts = sheet.counts;
+    let at = place.at;
+    let filled = place.filled;
+    let Header::Asked(request) = sheet_lines::read_header(block, at) else {
+        return stop(counts, block.len(), text, filled);
+    };
+    Place {
+        sheet: Sheet {
+            stage: Stage::Collecting(request, 0),
+            counts: counts,
+        },
+        at: at + 27,
+        filled: filled,
+    }
+}
+
+// Reads prices of the request.
+fn take_prices(
+    place: Place,
+    request: Request,
+    got: usize,
+    block: &[u8],
+    series: &mut [f64],
+    text: &mut [u8],
+) -> Place
+    requires { ⌜ (place .sheet .stage ≡ Stage.Collecting request got) × (place .at + 13 ≤ length (now block))
+        × Well (now block) place × (length (now series) ≡ mostBars)
+        × (length (now block) + textRoom ≤ length (now text)) ⌝ }
+    ensures { λ r. ⌜ Taken (now (block .entry)) place (now (series .entry)) (now (text .entry))
+        r (now (series .exit)) (now (text .exit)) ⌝ }
+{
+    let sheet = place.sheet;
+    let counts = sheet.counts;
+    let at = place.at;
+    let filled = place.filled;
+    let run = read_prices(block, at, request, got, series);
+    if run.whole {
+        Place {
+            sheet: Sheet {
+                stage: Stage::Collecting(request, run.got),
+                counts: counts,
+            },
+            at: run.at,
+            filled: filled,
+        }
+    } else {
+        stop(counts, block.len(), text, filled)
+    }
+}
+
+// Reads on: the first line of a request, or prices. A request that has all its prices is still to be answered.
+pub fn take_lines(place: Place, block: &[u8], series: &mut [f64], text: &mut [u8]) -> Place
+    requires { ⌜ (due (place .sheet .stage) ≤ length (now block) - place .at)
+        × Well (now block) place × (length (now series) ≡ mostBars)
+        × (length (now block) + textRoom ≤ length (now text)) ⌝ }
+    ensures { λ r. ⌜ Taken (now (block .entry)) place (now (series .entry)) (now (text .entry))
+        r (now (series .exit)) (now (text .exit)) ⌝ }
+{
+    let sheet = place.sheet;
+    let stage = sheet.stage;
+    match stage {
+        Stage::Waiting => take_header(place, block, text),
+        Stage::Collecting(request, got) => take_prices(place, request, got, block, series, text),
+        Stage::Stopped => Place {
+            sheet: sheet,
+            at: block.len(),
+            filled: place.filled,
+        },
+    }
+}
+
+// How many bytes the next line has.
+pub fn wanted(place: Place) -> usize
+    ensures { λ r. ⌜ r ≡ due (place .sheet .stage) ⌝ }
+{
+    let sheet = place.sheet;
+    let stage = sheet.stage;
+    match stage {
+        Stage::Waiting => 27,
+        Stage::Collecting(_, _) => 13,
+        Stage::Stopped => 1,
+    }
+}
+
+// Before the first request.
+pub fn begin() -> Sheet
+    ensures { λ r. ⌜ r ≡ beginning ⌝ }
+{
+    Sheet {
+        stage: Stage::Waiting,
+        counts: Counts::none(),
+    }
+}

@@ -1,0 +1,68 @@
+// The end of a sheet: what is printed last.
+use crate::CLOSING_BYTES;
+use crate::Counts;
+use crate::blocks::Sheet;
+use crate::blocks::Stage;
+use crate::status::Status;
+ghost use mathlib.Core.Path.{_≡_};
+ghost use mathlib.Core.List.{_++_};
+ghost use Prim.Native.Nat.{_<_, _≤_};
+ghost use lib.ListN.{length, take};
+ghost use Rattle.sheet_requests.specs.Counts.{afterBroken, closing};
+ghost use Rattle.sheet_requests.specs.Sheet.{broken};
+ghost use Rattle.sheet_requests.specs.inner.Place.{due};
+ghost use Rattle.sheet_requests.specs.inner.Finished.{cutBytes, Finished};
+
+// The bytes that are printed where the input ends inside a request.
+const CUT_BYTES: usize = sheet_lines::text::HEAD_BYTES + CLOSING_BYTES;
+
+// Prints that a request broke off, and what is printed last.
+fn print_cut(text: &mut [u8], counts: Counts)
+    requires { ⌜ cutBytes ≤ length (now text) ⌝ }
+    ensures { λ _. ⌜ take cutBytes (now (text .exit)) ≡ broken counts .prints ++ closing (afterBroken counts) ⌝ }
+{
+    sheet_lines::text::print_head(text, 0, 0, 0, 10, 0);
+    counts.broken().print(text, sheet_lines::text::HEAD_BYTES);
+}
+
+// Prints what the end of the input gives, with `kept` bytes that are too few for a line, and gives how many bytes.
+fn print_end(sheet: Sheet, kept: usize, text: &mut [u8]) -> usize
+    requires { ⌜ (kept < due (sheet .stage)) × (cutBytes ≤ length (now text)) ⌝ }
+    ensures { λ r. ⌜ Finished Status.Done sheet kept r (now (text .exit)) ⌝ }
+{
+    let stage = sheet.stage;
+    let counts = sheet.counts;
+    match stage {
+        Stage::Waiting => {
+            if kept == 0 {
+                counts.print(text, 0);
+                CLOSING_BYTES
+            } else {
+                print_cut(text, counts);
+                CUT_BYTES
+            }
+        }
+        Stage::Collecting(_, _) => {
+            print_cut(text, counts);
+            CUT_BYTES
+        }
+        Stage::Stopped => {
+            counts.print(text, 0);
+            CLOSING_BYTES
+        }
+    }
+}
+
+// Prints what is printed last, and gives how many bytes: none where not
+// all was read and written, so that no last line follows a failed read.
+pub fn finish(status: Status, sheet: Sheet, kept: usize, text: &mut [u8]) -> usize
+    requires { ⌜ (kept < due (sheet .stage)) × (cutBytes ≤ length (now text)) ⌝ }
+    ensures { λ r. ⌜ Finished status sheet kept r (now (text .exit)) ⌝ }
+{
+    match status {
+        Status::Done => print_end(sheet, kept, text),
+        Status::Reading => 0,
+        Status::ReadFailed => 0,
+        Status::WriteFailed => 0,
+    }
+}

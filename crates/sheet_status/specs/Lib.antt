@@ -1,2 +1,0 @@
--- The exit status of a run.
-pub mod Status

@@ -1,2 +1,0 @@
--- What an answer prints.
-pub mod Printed

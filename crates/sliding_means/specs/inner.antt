@@ -1,2 +1,0 @@
--- What the functions that write running means ask and promise.
-pub mod Means

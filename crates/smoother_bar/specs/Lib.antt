@@ -1,2 +1,0 @@
--- One cell of the ultimate smoother.
-pub mod Formula

@@ -1,1 +1,0 @@
-// Laws of window sums: a sum from -0.0 and one from +0.0: see proofs/.
