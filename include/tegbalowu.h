@@ -18,13 +18,15 @@
  *   2  series of unequal length
  *   3  an output shorter than the series
  *   4  a work slice shorter than 8 times the series
- *   5  a value that is not accepted: accepted are finite values of magnitude at most 1,073,741,824,
- *      other than -0.0; tick_mean takes whole values within 16,777,216 only
- *   6  an f64 parameter that is not finite
- *   7  a window above 4,096, or a smoother period that is not whole from 0 to 512
- *   8  triple_sma_positions: m3 above the series' length; ultimate_channel: period above that
+ *   5  a value that is not accepted; for tick_mean one that is no whole tick
+ *   6  a floating-point parameter that is not finite
+ *   7  a window above 4,096; a smoother period that is not whole from 0 to 512
+ *   8  triple_sma_positions: m3 above the series' length; ultimate_channel: a period above that
  *      length + 1
- *   9  double_sma_positions: n is not below m; triple_sma_positions: not m1 < m2 < m3
+ *   9  double_sma_positions: n not below m; triple_sma_positions: not m1 < m2 < m3
+ *
+ * Accepted are finite values of magnitude at most 1,073,741,824, other than -0.0. A whole tick is an
+ * accepted value without a fraction, of magnitude at most 16,777,216.
  *
  * A work slice is lent for the call's own use. Its first 8 * series_len cells hold +0.0 after an
  * answered call, and the others keep their values.

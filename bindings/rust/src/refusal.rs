@@ -3,17 +3,19 @@
 use std::error::Error;
 use std::fmt::{Display, Formatter};
 
-/// Makes the refusals. An entry has what is written about it, its name, its number and its text for a reader.
+/// Makes the enum of the refusals with their numbers; the words of each are its documentation and what it displays.
 macro_rules! refusals {
-    ($($(#[$words:meta])* $name:ident $number:literal $text:literal;)*) => {
-        /// Why a call is refused; the first that applies is given. The numbers are those of the C library.
+    ($($name:ident = $number:literal: $words:literal,)*) => {
+        /// Why a call is refused; the first that applies is given. The numbers are those of the C library, of which a
+        /// later version may have more.
         ///
-        /// A later version of the library may have more of them.
+        /// Accepted are finite values of magnitude at most 1,073,741,824, other than -0.0. A whole tick is an accepted
+        /// value without a fraction, of magnitude at most 16,777,216.
         #[derive(Clone, Copy, Debug, PartialEq, Eq, Hash)]
         #[non_exhaustive]
         pub enum Refusal {
-            $($(#[$words])* $name,)*
-            /// A number that has no name here: the library that is linked is a later one.
+            $(#[doc = $words] $name,)*
+            /// a number that has no name here: the library that is linked is a later one
             Unknown(u64),
         }
 
@@ -48,42 +50,25 @@ macro_rules! refusals {
         impl Display for Refusal {
             fn fmt(&self, f: &mut Formatter<'_>) -> std::fmt::Result {
                 match self {
-                    $(Refusal::$name => f.write_str($text),)*
+                    $(Refusal::$name => f.write_str($words),)*
                     Refusal::Unknown(number) => write!(f, "refusal {number} of a later library"),
                 }
             }
         }
-
-        impl Error for Refusal {}
     };
 }
 
 refusals! {
-    /// A series longer than 65,536.
-    SeriesTooLong 1 "a series longer than 65,536";
-
-    /// Series of unequal length.
-    LengthsDiffer 2 "series of unequal length";
-
-    /// An output shorter than the series.
-    OutputTooShort 3 "an output shorter than the series";
-
-    /// A work slice shorter than 8 times the series.
-    WorkTooShort 4 "a work slice shorter than 8 times the series";
-
-    /// A value that is not accepted: accepted are finite values of magnitude at most 1,073,741,824, other than -0.0;
-    /// for `tick_mean` whole values within 16,777,216.
-    ValueNotAccepted 5 "a value that is not accepted";
-
-    /// An f64 parameter that is not finite.
-    ParameterNotFinite 6 "an f64 parameter that is not finite";
-
-    /// A window above 4,096, or a smoother period that is not whole from 0 to 512.
-    WindowTooLong 7 "a window above 4,096, or a smoother period that is not whole from 0 to 512";
-
-    /// `triple_sma_positions`: m3 above the series' length; `ultimate_channel`: the period above that length + 1.
-    SeriesTooShort 8 "a window or period that is too long for the series";
-
-    /// `double_sma_positions`: n is not below m; `triple_sma_positions`: not m1 < m2 < m3.
-    WindowsOutOfOrder 9 "windows that do not rise";
+    SeriesTooLong = 1: "a series longer than 65,536",
+    LengthsDiffer = 2: "series of unequal length",
+    OutputTooShort = 3: "an output shorter than the series",
+    WorkTooShort = 4: "a work slice shorter than 8 times the series",
+    ValueNotAccepted = 5: "a value that is not accepted; for `tick_mean` one that is no whole tick",
+    ParameterNotFinite = 6: "a floating-point parameter that is not finite",
+    WindowTooLong = 7: "a window above 4,096; a smoother period that is not whole from 0 to 512",
+    SeriesTooShort = 8:
+        "`triple_sma_positions`: m3 above the series' length; `ultimate_channel`: a period above that length + 1",
+    WindowsOutOfOrder = 9: "`double_sma_positions`: n not below m; `triple_sma_positions`: not m1 < m2 < m3",
 }
+
+impl Error for Refusal {}

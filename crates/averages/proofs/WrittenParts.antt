@@ -44,7 +44,7 @@ module _ {A : Type 0} {f : ℕ → A} {d : A} {old : List A} where
       }
 
   -- a cell more at each
-  pub both-parts : {lo b hi : ℕ} {now : List A} {x y : A} (i j : ℕ) → Parts f d lo b hi old now → x ≡ f lo → y ≡ f hi
+  both-parts : {lo b hi : ℕ} {now : List A} {x y : A} (i j : ℕ) → Parts f d lo b hi old now → x ≡ f lo → y ≡ f hi
       → (lo + 1 ≡ i) × (hi + 1 ≡ j) × (lo < b) × (b ≤ hi) × (hi < length old)
       → Parts f d i b j old (set (set now lo x) hi y)
   both-parts {lo} {b} {hi} {now} {x} {y} i j w e g (u, v, p, q, r) =

@@ -2,9 +2,11 @@
 use mathlib.Core.Bool.{false}
 use mathlib.Core.List.{List, [], _∷_, map}
 use mathlib.Core.Path.{_≡_, refl}
+use Prim.Native.Nat.{suc}
 use lib.IntN.{pos, negsuc}
 use lib.ListN.{replicate}
 use lib.Ieee.{Float, nan, fin, round, add, sub, div, ofInt, lt, eq, le, toBits, whole}
+use Rattle.limits.specs.Limits.{longestWindow}
 use Rattle.calls.specs.declared.Refusal.the-variants.{OutputTooShort, ValueNotAccepted, WindowTooLong}
 use Rattle.calls.specs.declared.Answer.the-variants.{Cells, Refused}
 use Rattle.values.specs.Accepted.{accepted, tick}
@@ -25,13 +27,13 @@ sma-case : map (λ n. written 3 (smaLine n (line short)) short) (2 ∷ 4 ∷ [])
 unfolding short smaLine runningSum recur sumFrom fromBar add sub div ofInt round
 sma-case = refl
 
--- all of three bars; no bars or a window of 0 give the empty answer; a window of 4,097, an output of two cells and a
+-- all of three bars; no bars or a window of 0 give the empty answer; a window too long, an output of two cells and a
 -- value that is no tick are refused
 answers : answered accepted short (2 ∷ []) 3 []
     ∷ answered accepted [] (2 ∷ []) 3 []
     ∷ answered accepted short (0 ∷ []) 3 []
-    ∷ answered accepted short (4097 ∷ []) 3 []
-    ∷ answered accepted short (4097 ∷ []) 2 []
+    ∷ answered accepted short (suc longestWindow ∷ []) 3 []
+    ∷ answered accepted short (suc longestWindow ∷ []) 2 []
     ∷ answered tick (fin false 1 (negsuc 0) ∷ []) (1 ∷ []) 1 []
     ∷ []
     ≡ Cells 3 ∷ Cells 0 ∷ Cells 0 ∷ Refused WindowTooLong ∷ Refused OutputTooShort ∷ Refused ValueNotAccepted ∷ []

@@ -42,14 +42,14 @@ pub fn blend_tested(series: &[f64], alpha: f64, first: usize, seed: Tested) -> T
     let mut last = seed.value;
     let mut k = 0;
     while k < eights {
-        accept = accept & values::series::some_accepted(series, low + 8 * k, 8);
-        accept = accept & values::series::some_accepted(series, high + 8 * k, 8);
+        accept = accept & values::series::range_accepted(series, low + 8 * k, 8);
+        accept = accept & values::series::range_accepted(series, high + 8 * k, 8);
         last = blend_more(alpha, last, series, low + 8 * k, 8);
         k += 1;
     }
     let end = high + 8 * eights;
     Tested {
-        accept: accept & values::series::some_accepted(series, end, series.len() - end),
+        accept: accept & values::series::range_accepted(series, end, series.len() - end),
         value: last,
     }
 }

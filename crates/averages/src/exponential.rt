@@ -50,7 +50,7 @@ fn answer_from_first(series: &[f64], alpha: f64, out: &mut [f64]) -> Answer
         (now (out .exit)) ⌝ }
 {
     let seed = Tested {
-        accept: values::series::some_accepted(series, 0, 1),
+        accept: values::series::range_accepted(series, 0, 1),
         value: series[0],
     };
     answer_smooth(series, alpha, 0, seed, out)

@@ -33,11 +33,11 @@ pub fn sum_tested(series: &[f64], n: usize) -> Tested
     let mut sum = -0.0;
     let mut i = 0;
     while n - i >= 8 {
-        accept = accept & values::series::some_accepted(series, i, 8);
+        accept = accept & values::series::range_accepted(series, i, 8);
         sum = windows::sum_more(sum, series, i, 8);
         i += 8;
     }
-    accept = accept & values::series::some_accepted(series, i, n - i);
+    accept = accept & values::series::range_accepted(series, i, n - i);
     Tested {
         accept,
         value: windows::sum_more(sum, series, i, n - i),

@@ -1,10 +1,11 @@
 -- wilder_rsi at small series, with the cells of a plain loop in Rust, and its answers. Assumes nothing.
 use mathlib.Core.Path.{_≡_, refl}
 use mathlib.Core.List.{[], _∷_}
-use Prim.Native.Nat.{ℕ}
+use Prim.Native.Nat.{ℕ, suc}
 use lib.IntN.{pos}
 use lib.ListN.{length}
 use lib.Ieee.{Float, nan, round, neg, add, sub, mul, div, lt, eq, le, ofInt, ofBits, toBits}
+use Rattle.limits.specs.Limits.{longestWindow}
 use Rattle.rounding.specs.Literals.{hundred}
 use Rattle.values.specs.Accepted.{accepted}
 use Rattle.calls.specs.declared.Refusal.the-variants.{WindowTooLong}
@@ -47,7 +48,7 @@ abbrev oneBar : ℕ → Answer
 oneBar n = answered accepted (plusZero ∷ []) (n ∷ []) 1 (8 ∷ [])
 
 -- a window of 1; one of 0; one too long; no bars
-wilder-rsi-answers : oneBar 1 ∷ oneBar 0 ∷ oneBar 4097 ∷ answered accepted [] (1 ∷ []) 0 (0 ∷ []) ∷ []
+wilder-rsi-answers : oneBar 1 ∷ oneBar 0 ∷ oneBar (suc longestWindow) ∷ answered accepted [] (1 ∷ []) 0 (0 ∷ []) ∷ []
     ≡ Cells 1 ∷ Cells 0 ∷ Refused WindowTooLong ∷ Cells 0 ∷ []
 unfolding answered windowed slices checked accepted lt eq le toBits
 wilder-rsi-answers = refl

@@ -18,7 +18,7 @@ use Rattle.calls.proofs.Call.{AllBars}
 use Rattle.calls.proofs.Room.{asked, andThen-cells, emptyIf-cells, same-count}
 use Rattle.outer_lines.proofs.Calls.{one-band-passed, one-band-clearable}
 use Rattle.bands.specs.Bands.{bandsAnswer}
-use Rattle.bands.specs.inner.Stages.{Ready}
+use Rattle.bands.specs.inner.Stages.{BandsRoom}
 
 module _ (s : List Float) (n : ℕ) (k : Float) (m middle upper lower work : ℕ) where
   abbrev whole : Answer
@@ -42,7 +42,7 @@ module _ (s : List Float) (n : ℕ) (k : Float) (m middle upper lower work : ℕ
 
   -- and where they are due, all is in order
   pub bands-ready : {r : Answer} → r ≡ bandsAnswer s n k m middle upper lower work → 0 < countOf r
-      → Ready n m s middle upper lower × (8 * length s ≤ work)
+      → BandsRoom n m s middle upper lower × (8 * length s ≤ work)
   unfolding bandsAnswer
   bands-ready {r} e h =
       let p = one-band-passed middle upper lower work rest s e h in

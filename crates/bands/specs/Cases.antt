@@ -2,9 +2,10 @@
 use mathlib.Core.Path.{_≡_, refl}
 use mathlib.Core.Bool.{true}
 use mathlib.Core.List.{List, [], _∷_}
-use Prim.Native.Nat.{ℕ}
+use Prim.Native.Nat.{ℕ, suc}
 use lib.IntN.{pos}
 use lib.Ieee.{Float, nan, inf, round, neg, add, sub, mul, div, lt, eq, le, ofInt, ofBits, toBits}
+use Rattle.limits.specs.Limits.{longestPeriod}
 use Rattle.calls.specs.declared.Refusal.the-variants.{OutputTooShort, ParameterNotFinite, WindowTooLong}
 use Rattle.calls.specs.declared.Answer.{Answer}
 use Rattle.calls.specs.declared.Answer.the-variants.{Cells, Refused}
@@ -91,10 +92,11 @@ bands-edges = (refl, refl, refl, refl, refl, refl, refl)
 abbrev oneBar : ℕ → Float → ℕ → Answer
 oneBar n k m = bandsAnswer (plusZero ∷ []) n k m 1 1 1 8
 
--- one bar; L below the period gives the empty answer, and so does either period of 0; 512 and 513; a multiplier that
--- is not finite; a lower line of no cells; no bars
-bands-answers : oneBar 1 plusOne 512 ∷ oneBar 2 plusOne 5 ∷ oneBar 0 plusOne 5 ∷ oneBar 1 plusOne 0
-    ∷ oneBar 513 plusOne 0 ∷ oneBar 0 plusOne 513 ∷ oneBar 0 (inf true) 513
+-- one bar; L below the period gives the empty answer, and so does either period of 0; the longest period, and longer
+-- ones; a multiplier that is not finite; a lower line of no cells; no bars
+bands-answers : oneBar 1 plusOne longestPeriod ∷ oneBar 2 plusOne 5 ∷ oneBar 0 plusOne 5 ∷ oneBar 1 plusOne 0
+    ∷ oneBar (suc longestPeriod) plusOne 0 ∷ oneBar 0 plusOne (suc longestPeriod)
+    ∷ oneBar 0 (inf true) (suc longestPeriod)
     ∷ bandsAnswer (plusZero ∷ []) 1 plusOne 1 1 1 0 8 ∷ bandsAnswer [] 1 plusOne 1 0 0 0 0 ∷ []
     ≡ Cells 1 ∷ Cells 0 ∷ Cells 0 ∷ Cells 0 ∷ Refused WindowTooLong ∷ Refused WindowTooLong
     ∷ Refused ParameterNotFinite ∷ Refused OutputTooShort ∷ Cells 0 ∷ []

@@ -2,7 +2,7 @@
 use calls::Answer;
 use calls::Refusal;
 use limits::LONGEST_PERIOD;
-ghost use Rattle.bands.specs.inner.Deviations.{Begun, Further, Spreading};
+ghost use Rattle.bands.specs.inner.Deviations.{DeviationsBefore, MoreDeviations, Spreading};
 ghost use mathlib.Core.Path.{_≡_};
 ghost use Prim.Native.Nat.{_-_, _<_, _≤_};
 ghost use lib.ListN.{length};
@@ -12,13 +12,14 @@ ghost use Rattle.cells.specs.Written.{Writing};
 ghost use Rattle.cells.specs.inner.Touched.{Touched};
 ghost use Rattle.deviations.specs.Deviation.{deviation};
 ghost use Rattle.outer_lines.specs.inner.Lined.{Lined};
-ghost use Rattle.bands.specs.Bands.{bandsDeviation, bandsMiddle, bandsWidth, bandsUpper, bandsLower, bandsAnswer, UltimateBandsCall};
-ghost use Rattle.bands.specs.inner.Stages.{Ready};
+ghost use Rattle.bands.specs.Bands.{bandsDeviation, bandsMiddle, bandsWidth, bandsUpper, bandsLower};
+ghost use Rattle.bands.specs.Bands.{bandsAnswer, UltimateBandsCall};
+ghost use Rattle.bands.specs.inner.Stages.{BandsRoom};
 
 // Writes the deviations of a few bars from bar i on, and gives how many they are.
 pub fn write_some_deviations(close: &[f64], n: usize, i: usize, out: &mut [f64]) -> usize
-    requires { ⌜ Begun n (now close) i (now out) ⌝ }
-    ensures { λ r. ⌜ Further n (now (close .entry)) i r (now (out .entry)) (now (out .exit)) ⌝ }
+    requires { ⌜ DeviationsBefore n (now close) i (now out) ⌝ }
+    ensures { λ r. ⌜ MoreDeviations n (now (close .entry)) i r (now (out .entry)) (now (out .exit)) ⌝ }
 {
     let mut middles = [0.0; 8];
     let mut variances = [0.0; 8];
@@ -111,7 +112,7 @@ fn write_bands(
     upper: &mut [f64],
     lower: &mut [f64],
 )
-    requires { ⌜ Ready n m (now close) (length (now middle)) (length (now upper)) (length (now lower)) ⌝ }
+    requires { ⌜ BandsRoom n m (now close) (length (now middle)) (length (now upper)) (length (now lower)) ⌝ }
     ensures { λ _. ⌜ Lined (length (now (close .entry))) (bandsMiddle n (line (now (close .entry))))
         (bandsUpper n k m (line (now (close .entry)))) (bandsLower n k m (line (now (close .entry))))
         (now (middle .entry)) (now (upper .entry)) (now (lower .entry))

@@ -16,7 +16,6 @@ use Rattle.calls.specs.declared.Refusal.the-variants.{
   OutputTooShort,
   WorkTooShort,
   ValueNotAccepted,
-  WindowTooLong,
 }
 use Rattle.calls.specs.declared.Answer.{Answer}
 use Rattle.calls.specs.declared.Answer.the-variants.{Cells, Refused}
@@ -35,6 +34,7 @@ use Rattle.calls.specs.Answer.{
   unlessEmpty,
   windowed,
   answered,
+  answeredWith,
 }
 use Rattle.calls.proofs.Call.{AllBars}
 use Rattle.calls.specs.inner.Fits.{windowFits, Fits}
@@ -79,11 +79,6 @@ pub checked-one : (ok : Float → Bool) (s : List Float) (outputs work : List �
     ≡ andThen (slices (length s ∷ []) outputs work) (unless (all ok s) ValueNotAccepted (Cells (length s)))
 unfolding checked
 checked-one ok s outputs work = rw (and-true (all ok s))
-
-pub windowed-one : (l n : ℕ) (next : Answer)
-    → windowed l (n ∷ []) next ≡ unless (leb n longestWindow) WindowTooLong (emptyIf (eqb l 0 || eqb n 0) next)
-unfolding windowed
-windowed-one l n next = rw (and-true (leb n longestWindow), or-false (eqb n 0))
 
 -- ---- what is known where a count was answered
 
@@ -158,7 +153,6 @@ each-window (n ∷ ns) e z =
 
 -- what is known of the parameters of a call of l bars that has cells, and what came after them
 pub record Asked (l : ℕ) (numbers : List Float) (windows periods : List ℕ) (next : Answer) (k : ℕ) : Type 0 where
-  pub finite-numbers : all finite numbers ≡ true
   pub short-periods : all (λ n. leb n longestPeriod) periods ≡ true
   pub some-periods : anyZero periods ≡ false
   pub each : EachWindow windows
@@ -176,7 +170,6 @@ asked l numbers windows periods next k e h =
     let some = or-parts (anyZero periods) _ (d .0) in
     let bars = or-parts (eqb l 0) (anyZero windows) (some .1) in
     record {
-      finite-numbers = a .0;
       short-periods = b .0;
       some-periods = some .0;
       each = each-window windows (c .0) (bars .1);
@@ -184,35 +177,54 @@ asked l numbers windows periods next k e h =
       rest = d .1;
     }
 
--- ---- a call of one series with windows
+-- ---- a call of one series with numbers and windows
 
-module _ (ok : Float → Bool) (s : List Float) (windows : List ℕ) (out : ℕ) (work : List ℕ) (k : ℕ)
-    (e : answered ok s windows out work ≡ Cells k) where
-  -- it has room for its cells
-  pub room : Room ok s out work
-  unfolding answered
-  room = checked-room ok s out work _ (andThen-cells (checked ok (s ∷ []) (out ∷ []) work) _ k e .0)
+module _ (ok : Float → Bool) (s numbers : List Float) (windows : List ℕ) (out : ℕ) (work : List ℕ) where
+  module _ (k : ℕ) (e : answeredWith ok s numbers windows out work ≡ Cells k) where
+    -- it has room for its cells
+    with-room : Room ok s out work
+    unfolding answeredWith
+    with-room = checked-room ok s out work _ (andThen-cells (checked ok (s ∷ []) (out ∷ []) work) _ k e .0)
 
-  -- and where there are cells to be written, windows
-  pub opened : 0 < k → Asked (length s) [] windows [] (Cells (length s)) k
-  unfolding answered windowed
-  opened h = asked (length s) [] windows [] (Cells (length s)) k
-      (andThen-cells (checked ok (s ∷ []) (out ∷ []) work) _ k e .1) h
+    -- and where there are cells to be written, windows
+    with-opened : 0 < k → Asked (length s) numbers windows [] (Cells (length s)) k
+    unfolding answeredWith
+    with-opened h = asked (length s) numbers windows [] (Cells (length s)) k
+        (andThen-cells (checked ok (s ∷ []) (out ∷ []) work) _ k e .1) h
 
--- it has a cell for each bar
-pub all-bars : (ok : Float → Bool) (s : List Float) (windows : List ℕ) (out : ℕ) (work : List ℕ)
-    → AllBars (answered ok s windows out work) (length s)
-all-bars ok s windows out work k e h = sym (same-count _ _ (opened ok s windows out work k e h .rest))
+  -- it has a cell for each bar
+  pub with-bars : AllBars (answeredWith ok s numbers windows out work) (length s)
+  with-bars k e h = sym (same-count _ _ (with-opened k e h .rest))
 
--- what is known where an answer has cells
+  -- where an answer has cells its windows are open, and there are bars
+  pub with-windows : {r : Answer} → r ≡ answeredWith ok s numbers windows out work → 0 < countOf r
+      → EachWindow windows × (0 < length s)
+  with-windows {r = Cells k} e h = let a = with-opened k (sym e) h in (a .each, a .bars)
+  with-windows {r = Refused q} e h = let none : 0 < 0 = h in absurd (omega arith)
+
+-- ---- with windows alone
+
 module _ (ok : Float → Bool) (s : List Float) (windows : List ℕ) (out : ℕ) (work : List ℕ) where
+  with-none : answered ok s windows out work ≡ answeredWith ok s [] windows out work
+  unfolding answered windowed answeredWith
+  with-none = refl
+
+  module _ (k : ℕ) (e : answered ok s windows out work ≡ Cells k) where
+    pub room : Room ok s out work
+    room = with-room ok s [] windows out work k (sym with-none ∙ e)
+
+    pub opened : 0 < k → Asked (length s) [] windows [] (Cells (length s)) k
+    opened = with-opened ok s [] windows out work k (sym with-none ∙ e)
+
+  pub all-bars : AllBars (answered ok s windows out work) (length s)
+  all-bars = rw with-none (with-bars ok s [] windows out work)
+
   pub answered-room : {r : Answer} → r ≡ answered ok s windows out work → 0 < countOf r → Room ok s out work
-  answered-room {r = Cells k} e h = room ok s windows out work k (sym e)
+  answered-room {r = Cells k} e h = room k (sym e)
   answered-room {r = Refused q} e h = let none : 0 < 0 = h in absurd (omega arith)
 
   pub answered-windows : {r : Answer} → r ≡ answered ok s windows out work → 0 < countOf r → EachWindow windows
-  answered-windows {r = Cells k} e h = opened ok s windows out work k (sym e) h .each
-  answered-windows {r = Refused q} e h = let none : 0 < 0 = h in absurd (omega arith)
+  answered-windows e h = with-windows ok s [] windows out work (e ∙ with-none) h .0
 
 -- ---- a window that fits
 

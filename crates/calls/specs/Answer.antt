@@ -115,3 +115,11 @@ unfoldable pub answered : (Float → Bool) → List Float → List ℕ → ℕ �
 unfolding checked windowed
 answered ok s windows output work =
     andThen (checked ok (s ∷ []) (output ∷ []) work) (windowed (length s) windows (Cells (length s)))
+
+-- The same with f64 parameters: the table from the top, refusals 1 to 5, then 6 for the numbers, 7 for the windows, and
+-- the empty answer.
+unfoldable pub answeredWith : (Float → Bool) → List Float → List Float → List ℕ → ℕ → List ℕ → Answer
+unfolding checked
+answeredWith ok s numbers windows output work =
+    andThen (checked ok (s ∷ []) (output ∷ []) work)
+    (limited numbers windows [] (unlessEmpty (length s) windows [] (Cells (length s))))

@@ -1,7 +1,6 @@
 -- Lines that carry their last cell have no look-ahead, where their seed has none; their cells, bar by bar. Assumes
 -- nothing.
-use mathlib.Core.Path.{_≡_, refl}
-use mathlib.Core.Bool.{Bool, true, false, cond}
+use mathlib.Core.Path.{_≡_}
 use Prim.Native.Nat.{ℕ, suc, _+_, _-_, _<_, _≤_}
 use native.Mathlib.Omega.{arith}
 use borrow.Author.Tests.{leb-true}
@@ -9,18 +8,14 @@ use lib.Dec.{leb}
 use lib.Ieee.{Float}
 use Rattle.cells.specs.Line.{Line, fromBar, Same, Causal}
 use Rattle.cells.specs.Recur.{recur, carried}
-use Rattle.cells.proofs.Line.{from-bar}
+use Rattle.cells.proofs.Line.{from-bar, cond-same}
 use Rattle.cells.proofs.Recur.{recur-same}
-
-cond-when : {A : Type 0} (t : Bool) (x y d : A) → (t ≡ true → x ≡ y) → cond t x d ≡ cond t y d
-cond-when true x y d h = h refl
-cond-when false x y d h = refl
 
 -- two lines that begin at bar a, and agree at bar b if it is not before bar a
 pub from-same : {A : Type 0} (a : ℕ) (d : A) (f g : ℕ → A) (b : ℕ) → (a ≤ b → f b ≡ g b) → fromBar a d f b
     ≡ fromBar a d g b
 unfolding fromBar
-from-same a d f g b h = cond-when (leb a b) (f b) (g b) d (λ e. h (leb-true a b e))
+from-same a d f g b h = cond-same (leb a b) (f b) (g b) d (λ e. h (leb-true a b e))
 
 -- the cell of bar b needs the seed only from bar a on
 pub carried-same : (d : Float) (step : Float → Float → Float) (a : ℕ) (x y : Float) (f g : Line) (b : ℕ)

@@ -38,7 +38,7 @@ pub causal-with : {A B C D : Type 0} (op : B → C → D) {F : (ℕ → A) → �
     → Causal (λ f i. op (F f i) (G f i))
 causal-with op p q f g b s = rw (p f g b s, q f g b s)
 
-cond-same : {A : Type 0} (t : Bool) (x y z : A) → (t ≡ true → x ≡ y) → cond t x z ≡ cond t y z
+pub cond-same : {A : Type 0} (t : Bool) (x y z : A) → (t ≡ true → x ≡ y) → cond t x z ≡ cond t y z
 cond-same true x y z h = h refl
 cond-same false x y z h = refl
 

@@ -72,16 +72,6 @@ module _ {A : Type 0} {f : ℕ → A} {old : List A} where
       → Writing (k + 1) f old (set now k x)
   one-more {k} w e h = step k (k + 1) w e (omega arith)
 
-  -- four more, side by side
-  pub four-more : {k : ℕ} {now : List A} {a b c d : A} → Writing k f old now
-      → a ≡ f k → b ≡ f (k + 1) → c ≡ f (k + 2) → d ≡ f (k + 3) → k + 3 < length old
-      → Writing (k + 4) f old (set (set (set (set now k a) (k + 1) b) (k + 2) c) (k + 3) d)
-  four-more {k} w ea eb ec ed h =
-      step (k + 3) (k + 4)
-      (step (k + 2) (k + 3) (step (k + 1) (k + 2) (one-more w ea (omega arith)) eb (omega arith)) ec (omega arith))
-      ed
-      (omega arith)
-
   -- a cell that is written, read again
   pub read-back : {k : ℕ} {now : List A} (i : ℕ) (d : A) → Writing k f old now → (i < k) × (i < length old)
       → getD now i d ≡ f i

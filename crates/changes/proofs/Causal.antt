@@ -4,12 +4,7 @@ use Prim.Native.Nat.{zero, suc}
 use native.Mathlib.Omega.{arith}
 use lib.Ieee.{Float}
 use Rattle.cells.specs.Line.{plusZero, Causal}
-use Rattle.changes.specs.Changes.{earlier, change, gains, losses}
-
-pub causal-earlier : (d : Float) → Causal (earlier d)
-unfolding earlier
-causal-earlier d f g zero s = refl
-causal-earlier d f g (suc i) s = s i (omega arith)
+use Rattle.changes.specs.Changes.{change, gains, losses}
 
 pub causal-change : (d : Float) → Causal (change d)
 unfolding change

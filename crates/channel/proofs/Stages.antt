@@ -30,7 +30,7 @@ use Rattle.smoother.proofs.WarmUp.{nan-throughout}
 use Rattle.outer_lines.proofs.Lines.{nan-upper, nan-lower}
 use Rattle.outer_lines.proofs.Calls.{three-band-passed, three-band-clearable}
 use Rattle.channel.specs.Channel.{averageRange, channelWidth, channelUpper, channelLower, channelAnswer}
-use Rattle.channel.specs.inner.Ready.{Ready}
+use Rattle.channel.specs.inner.ChannelRoom.{ChannelRoom}
 
 -- ---- from period 5 on
 
@@ -84,7 +84,7 @@ module _ (high low close : List Float) (n : ℕ) (k : Float) (a b c work : ℕ) 
 
   -- and where they are due, all is in order
   pub channel-ready : {r : Answer} → r ≡ due → 0 < countOf r
-      → Ready n high low close (min a (min b c)) × (8 * length high ≤ work)
+      → ChannelRoom n high low close (min a (min b c)) × (8 * length high ≤ work)
   unfolding channelAnswer
   channel-ready {r} e h =
       let p = three-band-passed a b c work rest high low close e h in

@@ -1,10 +1,11 @@
 -- ultimate_channel at small series, with the cells that pure.rs gave, and its answers. Assumes nothing.
 use mathlib.Core.Path.{_≡_, refl}
 use mathlib.Core.List.{List, [], _∷_}
-use Prim.Native.Nat.{ℕ}
+use Prim.Native.Nat.{ℕ, suc}
 use lib.IntN.{pos}
 use lib.ListN.{length}
 use lib.Ieee.{Float, nan, round, neg, add, sub, mul, div, lt, eq, le, ofInt, ofBits, toBits}
+use Rattle.limits.specs.Limits.{longestPeriod}
 use Rattle.calls.specs.declared.Refusal.the-variants.{
   LengthsDiffer,
   OutputTooShort,
@@ -113,14 +114,14 @@ unfolding upperLine lowerLine channelWidth averageRange smooth formula coefficie
     ofInt ofBits round lt eq
 channel-edges = (refl, refl, refl, refl, refl, refl, refl, refl)
 
--- a period of L + 1, and of L + 2; 512 and 513; 0; a multiplier that is not finite; series of unequal length; one of
--- three outputs too short; no bars
+-- a period of L + 1, and of L + 2; the longest, and longer; 0; a multiplier that is not finite; series of
+-- unequal length; one of three outputs too short; no bars
 channel-answers : channelAnswer (plusZero ∷ []) (plusZero ∷ []) (plusZero ∷ []) 2 plusOne (1 ∷ 1 ∷ 1 ∷ []) 8
     ∷ channelAnswer (plusZero ∷ []) (plusZero ∷ []) (plusZero ∷ []) 3 plusOne (1 ∷ 1 ∷ 1 ∷ []) 8
-    ∷ channelAnswer (plusZero ∷ []) (plusZero ∷ []) (plusZero ∷ []) 512 plusOne (1 ∷ 1 ∷ 1 ∷ []) 8
-    ∷ channelAnswer (plusZero ∷ []) (plusZero ∷ []) (plusZero ∷ []) 513 plusOne (1 ∷ 1 ∷ 1 ∷ []) 8
+    ∷ channelAnswer (plusZero ∷ []) (plusZero ∷ []) (plusZero ∷ []) longestPeriod plusOne (1 ∷ 1 ∷ 1 ∷ []) 8
+    ∷ channelAnswer (plusZero ∷ []) (plusZero ∷ []) (plusZero ∷ []) (suc longestPeriod) plusOne (1 ∷ 1 ∷ 1 ∷ []) 8
     ∷ channelAnswer (plusZero ∷ []) (plusZero ∷ []) (plusZero ∷ []) 0 plusOne (1 ∷ 1 ∷ 1 ∷ []) 8
-    ∷ channelAnswer (plusZero ∷ []) (plusZero ∷ []) (plusZero ∷ []) 513 nan (1 ∷ 1 ∷ 1 ∷ []) 8
+    ∷ channelAnswer (plusZero ∷ []) (plusZero ∷ []) (plusZero ∷ []) (suc longestPeriod) nan (1 ∷ 1 ∷ 1 ∷ []) 8
     ∷ channelAnswer (plusZero ∷ []) (plusZero ∷ []) [] 2 plusOne (1 ∷ 1 ∷ 1 ∷ []) 8
     ∷ channelAnswer (plusZero ∷ []) (plusZero ∷ []) (plusZero ∷ []) 2 plusOne (1 ∷ 1 ∷ 0 ∷ []) 8
     ∷ channelAnswer [] [] [] 9 plusOne (0 ∷ 0 ∷ 0 ∷ []) 0

@@ -9,8 +9,9 @@ ghost use lib.ListN.{length};
 ghost use Rattle.cells.specs.Line.{line};
 ghost use Rattle.cells.specs.Written.{Writing};
 ghost use Rattle.cells.specs.inner.Touched.{Touched};
-ghost use Rattle.channel.specs.Channel.{channelWidth, channelAnswer, channelMiddle, channelUpper, channelLower, ChannelCall};
-ghost use Rattle.channel.specs.inner.Ready.{Ready};
+ghost use Rattle.channel.specs.Channel.{channelWidth, channelMiddle, channelUpper, channelLower};
+ghost use Rattle.channel.specs.Channel.{channelAnswer, ChannelCall};
+ghost use Rattle.channel.specs.inner.ChannelRoom.{ChannelRoom};
 ghost use Rattle.outer_lines.specs.inner.Lined.{Lined};
 
 // Writes the widths to `upper`. True ranges stand there first, and their averages in `lower`.
@@ -22,7 +23,7 @@ pub fn write_widths(
     upper: &mut [f64],
     lower: &mut [f64],
 )
-    requires { ⌜ Ready n (now high) (now low) (now close) (min (length (now upper)) (length (now lower))) ⌝ }
+    requires { ⌜ ChannelRoom n (now high) (now low) (now close) (min (length (now upper)) (length (now lower))) ⌝ }
     ensures { λ _. ⌜ Writing (length (now (high .entry))) (channelWidth n (line (now (high .entry)))
         (line (now (low .entry))) (line (now (close .entry)))) (now (upper .entry)) (now (upper .exit))
         × Touched (length (now (high .entry))) (now (lower .entry)) (now (lower .exit)) ⌝ }
@@ -68,7 +69,7 @@ fn write_channel(
     upper: &mut [f64],
     lower: &mut [f64],
 )
-    requires { ⌜ Ready n (now high) (now low) (now close)
+    requires { ⌜ ChannelRoom n (now high) (now low) (now close)
         (min (length (now middle)) (min (length (now upper)) (length (now lower)))) ⌝ }
     ensures { λ _. ⌜ Lined (length (now (high .entry))) (channelMiddle n (line (now (close .entry))))
         (channelUpper n k (line (now (high .entry))) (line (now (low .entry))) (line (now (close .entry))))

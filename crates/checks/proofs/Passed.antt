@@ -20,7 +20,7 @@ passed check next {r = Cells k} e h = andThen-cells check next k (sym e)
 passed check next {r = Refused q} e h = let none : 0 < 0 = h in absurd (omega arith)
 
 -- where a check that passed leaves room, the work slice can be cleared
-pub passed-clearable : (check next : Answer) (l : ℕ) {work : ℕ} {r : Answer} → r ≡ andThen check next
+passed-clearable : (check next : Answer) (l : ℕ) {work : ℕ} {r : Answer} → r ≡ andThen check next
     → ((k : ℕ) → check ≡ Cells k → 8 * l ≤ work) → clearedOf r (8 * l) ≤ work
 passed-clearable check next l {r = Cells k} e room = room _ (andThen-cells check next k (sym e) .0)
 passed-clearable check next l {r = Refused q} e room = omega arith

@@ -10,7 +10,8 @@ ghost use Prim.Native.Nat.{_*_, min, _≤_};
 ghost use lib.Dec.{leb};
 ghost use lib.ListN.{length};
 ghost use Rattle.values.specs.Accepted.{accepted, tick, all};
-ghost use Rattle.calls.specs.Answer.{unless, andThen, slices, checked, windowed, answered, clearedOf, emptyIf};
+ghost use Rattle.calls.specs.Answer.{unless, andThen, slices, checked, clearedOf, emptyIf};
+ghost use Rattle.calls.specs.Answer.{windowed, answered, answeredWith};
 ghost use Rattle.calls.specs.inner.Fits.{windowFits};
 ghost use Rattle.calls.specs.declared.Answer.the-variants.{Cells};
 ghost use Rattle.calls.specs.declared.Refusal.the-variants.{WorkTooShort, ValueNotAccepted};
@@ -176,6 +177,26 @@ pub fn answer_window_with_work(series: &[f64], n: usize, out: usize, work: usize
     let due = check_with_work(series, out, work);
     let bars = series.len();
     let next = check_window(bars, n, Answer::Cells(bars));
+    and_then(due, next)
+}
+
+// The answer of a call with one series, f64 parameters, one window, its output and a work slice: refusal 6 for the
+// numbers comes after the series' own refusals, and before those of the window.
+pub fn answer_numbers_and_window(
+    series: &[f64],
+    numbers: &[f64],
+    n: usize,
+    out: usize,
+    work: usize,
+) -> Answer
+    ensures { λ r. ⌜ r ≡ answeredWith accepted (now (series .entry)) (now (numbers .entry)) (n ∷ []) out
+        (work ∷ []) ⌝ }
+{
+    let due = check_with_work(series, out, work);
+    let bars = series.len();
+    let window = check_window(bars, n, Answer::Cells(bars));
+    let finite = values::all_finite(numbers);
+    let next = unless_refused(finite, Refusal::ParameterNotFinite, window);
     and_then(due, next)
 }
 

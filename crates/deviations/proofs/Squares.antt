@@ -6,13 +6,13 @@ use native.Mathlib.Omega.{arith}
 use lib.Ieee.{Float, binary64, sub}
 use Rattle.cells.specs.Line.{Line, plusZero, minusZero}
 use Rattle.cells.proofs.Line.{from-bar}
-use Rattle.windows.specs.declared.Lanes.{Lanes}
+use Rattle.windows.specs.declared.Eight.{Eight}
 use Rattle.windows.specs.Window.{mean, over, windowSum}
 use Rattle.windows.specs.inner.Sums.{Summing}
-use Rattle.windows.specs.inner.Eight.{Eight, eachOver}
+use Rattle.windows.specs.inner.Eight.{EightOf, eachOver}
 use Rattle.windows.proofs.Window.{none-summed, one-added, added-at}
 use Rattle.deviations.specs.Deviation.{square, squaresAbout, variance}
-use Rattle.deviations.specs.inner.Lanes8.{eachLess, eachPlusSquare}
+use Rattle.deviations.specs.inner.Eight.{eachLess, eachPlusSquare}
 use Rattle.deviations.specs.inner.Spread.{About}
 
 -- the squares of the distances of a line's cells from m
@@ -36,7 +36,7 @@ variance-about d n i f p q h = rw (q, p, from-bar (n - 1) plusZero _ i (omega ar
 -- ---- eight bars side by side
 
 -- eight sums of squares, each k cells long: what the loop that sums keeps
-pub record Squared (f : Line) (m : Lanes) (a k : ℕ) (r : Lanes) : Type 0 where
+pub record Squared (f : Line) (m : Eight) (a k : ℕ) (r : Eight) : Type 0 where
   pub lane0 : Summing minusZero (fromMiddle (m .lane0) f) a k (r .lane0)
   pub lane1 : Summing minusZero (fromMiddle (m .lane1) f) (a + 1) k (r .lane1)
   pub lane2 : Summing minusZero (fromMiddle (m .lane2) f) (a + 2) k (r .lane2)
@@ -46,10 +46,10 @@ pub record Squared (f : Line) (m : Lanes) (a k : ℕ) (r : Lanes) : Type 0 where
   pub lane6 : Summing minusZero (fromMiddle (m .lane6) f) (a + 6) k (r .lane6)
   pub lane7 : Summing minusZero (fromMiddle (m .lane7) f) (a + 7) k (r .lane7)
 
-abbrev allOf : Float → Lanes
+abbrev allOf : Float → Eight
 allOf x = record { lane0 = x; lane1 = x; lane2 = x; lane3 = x; lane4 = x; lane5 = x; lane6 = x; lane7 = x }
 
-pub none-squared : {f : Line} {m : Lanes} {a : ℕ} → Squared f m a 0 (allOf minusZero)
+pub none-squared : {f : Line} {m : Eight} {a : ℕ} → Squared f m a 0 (allOf minusZero)
 none-squared = record {
   lane0 = none-summed;
   lane1 = none-summed;
@@ -62,7 +62,7 @@ none-squared = record {
 }
 
 -- one more square in each
-pub each-squared : {f : Line} {m : Lanes} {a k : ℕ} {r : Lanes} → Squared f m a k r
+pub each-squared : {f : Line} {m : Eight} {a k : ℕ} {r : Eight} → Squared f m a k r
     → Squared f m a (k + 1) (eachPlusSquare r (eachLess f (a + k) m))
 each-squared {f} {m} {a} {k} s = record {
   lane0 = one-added (s .lane0);
@@ -76,7 +76,7 @@ each-squared {f} {m} {a} {k} s = record {
 }
 
 -- the squares of the windows that end at the eight bars from i on, the first of which starts at bar a
-pub eight-squares : (n i a : ℕ) (f : Line) (m : Lanes) {k : ℕ} {r : Lanes} → Squared f m a k r → (k ≡ n)
+pub eight-squares : (n i a : ℕ) (f : Line) (m : Eight) {k : ℕ} {r : Eight} → Squared f m a k r → (k ≡ n)
     × (a + n ≡ i + 1)
     → About n f i m r
 eight-squares n i a f m s (p, q) = record {
@@ -91,8 +91,8 @@ eight-squares n i a f m s (p, q) = record {
 }
 
 -- the variances at those bars, from the squares about the means
-pub eight-variances : (d n i : ℕ) (f : Line) {m r v : Lanes} → Eight (mean n f) i m → About n f i m r → v ≡ eachOver d r
-    → n ≤ i + 1 → Eight (variance minusZero d n f) i v
+pub eight-variances : (d n i : ℕ) (f : Line) {m r v : Eight} → EightOf (mean n f) i m → About n f i m r
+    → v ≡ eachOver d r → n ≤ i + 1 → EightOf (variance minusZero d n f) i v
 eight-variances d n i f p q e h =
     rw e
     (record {
@@ -107,7 +107,7 @@ eight-variances d n i f p q e h =
     })
 
 -- the same cells, counted from bar i on
-pub counted-from : {f : Line} (i : ℕ) {r : Lanes} → Eight f i r → Eight (λ j. f (i + j)) 0 r
+pub counted-from : {f : Line} (i : ℕ) {r : Eight} → EightOf f i r → EightOf (λ j. f (i + j)) 0 r
 counted-from i e = record {
   lane0 = rw (add-zero i) (e .lane0);
   lane1 = e .lane1;

@@ -1,3 +1,3 @@
 -- What the crate's own functions ask of each other.
-pub mod Lanes8
+pub mod Eight
 pub mod Spread

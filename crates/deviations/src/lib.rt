@@ -1,21 +1,21 @@
 // Squares about the mean of a window, each window summed afresh from left to right: of one bar, and of eight bars
 // side by side.
-use windows::Lanes;
+use windows::Eight;
 ghost use mathlib.Core.Path.{_≡_};
 ghost use Prim.Native.Nat.{_+_, _≤_};
 ghost use lib.ListN.{length};
 ghost use Rattle.cells.specs.Line.{line, minusZero};
 ghost use Rattle.windows.specs.inner.Eight.{Windows};
 ghost use Rattle.deviations.specs.Deviation.{squaresAbout};
-ghost use Rattle.deviations.specs.inner.Lanes8.{eachLess, eachPlusSquare};
+ghost use Rattle.deviations.specs.inner.Eight.{eachLess, eachPlusSquare};
 ghost use Rattle.deviations.specs.inner.Spread.{About, SpreadRoom, Spread};
 
 // Each lane's cell, of the eight from `at` on, less its middle.
-fn distances(cells: &[f64], at: usize, middles: Lanes) -> Lanes
+fn distances(cells: &[f64], at: usize, middles: Eight) -> Eight
     requires { ⌜ at + 8 ≤ length (now cells) ⌝ }
     ensures { λ r. ⌜ r ≡ eachLess (line (now (cells .entry))) at middles ⌝ }
 {
-    Lanes {
+    Eight {
         lane0: cells[at] - middles.lane0,
         lane1: cells[at + 1] - middles.lane1,
         lane2: cells[at + 2] - middles.lane2,
@@ -28,10 +28,10 @@ fn distances(cells: &[f64], at: usize, middles: Lanes) -> Lanes
 }
 
 // Each lane with the square of a distance added.
-fn plus_squares(sums: Lanes, apart: Lanes) -> Lanes
+fn plus_squares(sums: Eight, apart: Eight) -> Eight
     ensures { λ r. ⌜ r ≡ eachPlusSquare sums apart ⌝ }
 {
-    Lanes {
+    Eight {
         lane0: sums.lane0 + apart.lane0 * apart.lane0,
         lane1: sums.lane1 + apart.lane1 * apart.lane1,
         lane2: sums.lane2 + apart.lane2 * apart.lane2,
@@ -44,12 +44,12 @@ fn plus_squares(sums: Lanes, apart: Lanes) -> Lanes
 }
 
 // The squares of the n cells up to each of the eight bars from i on, about the bar's own middle.
-fn squares_of_eight(cells: &[f64], n: usize, i: usize, middles: Lanes) -> Lanes
+fn squares_of_eight(cells: &[f64], n: usize, i: usize, middles: Eight) -> Eight
     requires { ⌜ Windows n i 8 (length (now cells)) ⌝ }
     ensures { λ r. ⌜ About n (line (now (cells .entry))) i middles r ⌝ }
 {
     let at = i + 1 - n;
-    let mut sums = Lanes::NONE;
+    let mut sums = Eight::NONE;
     let mut k = 0;
     while k < n {
         sums = plus_squares(sums, distances(cells, at + k, middles));
@@ -89,7 +89,7 @@ pub fn write_spreads(
         (now (middles .exit)) (now (variances .exit)) ⌝ }
 {
     if i + 8 <= cells.len() {
-        let eight = windows::means_at(cells, n, i);
+        let eight = windows::means_of_eight(cells, n, i);
         let squares = squares_of_eight(cells, n, i, eight);
         window_means::store_eight(middles, 0, eight);
         window_means::store_eight(variances, 0, windows::divided(squares, d));

@@ -1,5 +1,5 @@
 pub mod Bounds
 pub mod Errors
 pub mod Exact
-pub mod Runs
+pub mod RunningSums
 pub mod TickMeans

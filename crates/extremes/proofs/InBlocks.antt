@@ -7,9 +7,9 @@ use lib.Ieee.{Float}
 use Rattle.extremes.specs.inner.Part.{Replacing}
 use Rattle.extremes.proofs.Part.{part-ends, stays}
 use Rattle.extremes.specs.inner.Windows.{Whole}
-use Rattle.extremes.specs.inner.Blocks.{Begun, Room}
+use Rattle.extremes.specs.inner.Blocks.{LeadWritten, Room}
 
 pub begun : {s : List Float} {n k : ℕ} {old now : List Float} → Room s n (length old)
     → Replacing (length s) 0 k (Whole s n) old now
-    → k ≡ min (n - 1) (length s) → Begun s n now
+    → k ≡ min (n - 1) (length s) → LeadWritten s n now
 begun g w e = record { given = rw (w .long) g; lead = part-ends (stays w) e }

@@ -4,7 +4,7 @@ use Prim.Native.Nat.{ℕ, zero, suc, _+_, _-_}
 use lib.IntN.{ℤ}
 use lib.Signed.{ltZ}
 
--- ---- the highest and the lowest of a run of integers
+-- ---- the highest and the lowest of neighbouring integers
 
 -- z a, z (a + 1), .., z (a + k), joined from left to right by `pick`
 unfoldable pub pickℤ : (ℤ → ℤ → ℤ) → (ℕ → ℤ) → ℕ → ℕ → ℤ

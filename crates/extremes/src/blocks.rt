@@ -5,7 +5,7 @@ ghost use Prim.Native.Nat.{_+_};
 ghost use lib.ListN.{length};
 ghost use Rattle.extremes.specs.inner.Range.{alone, joined};
 ghost use Rattle.extremes.specs.inner.Part.{Replacing};
-ghost use Rattle.extremes.specs.inner.Windows.{UpTo, Whole, Windows};
+ghost use Rattle.extremes.specs.inner.Windows.{UpTo, Whole, WindowsOver};
 
 // The highest and the lowest of neighbouring cells.
 pub struct HighLow {
@@ -32,7 +32,7 @@ pub fn join(x: HighLow, y: HighLow) -> HighLow
 
 // Joins to what the rows hold, for each bar from e to `last`, the range of the bars from e on.
 pub fn join_from(cells: &[f64], n: usize, e: usize, last: usize, rows: &mut [f64])
-    requires { ⌜ Windows (now cells) n e last (length (now rows)) ⌝ }
+    requires { ⌜ WindowsOver (now cells) n e last (length (now rows)) ⌝ }
     requires { ⌜ Replacing (length (now cells)) e (last + 1) (UpTo (now cells) n e) (now rows) (now rows) ⌝ }
     ensures { λ _. ⌜ Replacing (length (now (cells .entry))) e (last + 1) (Whole (now (cells .entry)) n)
         (now (rows .entry)) (now (rows .exit)) ⌝ }

@@ -11,8 +11,8 @@ ghost use Rattle.extremes.specs.Extreme.{larger, smaller, extreme};
 ghost use Rattle.extremes.specs.inner.Best.{Numbers};
 ghost use Rattle.extremes.specs.inner.Range.{RangeOf};
 ghost use Rattle.extremes.specs.inner.Part.{Replacing};
-ghost use Rattle.extremes.specs.inner.Windows.{UpTo, Whole, Windows};
-ghost use Rattle.extremes.specs.inner.Blocks.{Room, Begun};
+ghost use Rattle.extremes.specs.inner.Windows.{UpTo, Whole, WindowsOver};
+ghost use Rattle.extremes.specs.inner.Blocks.{Room, LeadWritten};
 ghost use Rattle.limits.specs.Limits.{longestSeries, longestWindow};
 
 // The range of the cells of bars a to e.
@@ -31,7 +31,7 @@ fn range_of(cells: &[f64], a: usize, e: usize) -> HighLow
 
 // Writes for each bar from `last` down to e the range of its window's bars up to e.
 fn write_up_to(cells: &[f64], n: usize, e: usize, last: usize, rows: &mut [f64])
-    requires { ⌜ Windows (now cells) n e last (length (now rows)) ⌝ }
+    requires { ⌜ WindowsOver (now cells) n e last (length (now rows)) ⌝ }
     ensures { λ _. ⌜ Replacing (length (now (cells .entry))) e (last + 1) (UpTo (now (cells .entry)) n e)
         (now (rows .entry)) (now (rows .exit)) ⌝ }
 {
@@ -50,7 +50,7 @@ fn write_up_to(cells: &[f64], n: usize, e: usize, last: usize, rows: &mut [f64])
 
 // Writes the ranges of the windows that end at bars e to `last`.
 fn write_block(cells: &[f64], n: usize, e: usize, last: usize, rows: &mut [f64])
-    requires { ⌜ Windows (now cells) n e last (length (now rows)) ⌝ }
+    requires { ⌜ WindowsOver (now cells) n e last (length (now rows)) ⌝ }
     ensures { λ _. ⌜ Replacing (length (now (cells .entry))) e (last + 1) (Whole (now (cells .entry)) n)
         (now (rows .entry)) (now (rows .exit)) ⌝ }
 {
@@ -68,7 +68,7 @@ fn last_of(e: usize, n: usize, bars: usize) -> usize
 
 // Writes the range of every whole window, block after block.
 fn write_blocks(cells: &[f64], n: usize, rows: &mut [f64])
-    requires { ⌜ Begun (now cells) n (now rows) ⌝ }
+    requires { ⌜ LeadWritten (now cells) n (now rows) ⌝ }
     ensures { λ _. ⌜ Replacing (length (now (cells .entry))) 0 (length (now (cells .entry)))
         (Whole (now (cells .entry)) n) (now (rows .entry)) (now (rows .exit)) ⌝ }
 {
@@ -81,7 +81,7 @@ fn write_blocks(cells: &[f64], n: usize, rows: &mut [f64])
 
 // The same of windows of one or two bars, each by itself.
 fn write_pairs(cells: &[f64], n: usize, rows: &mut [f64])
-    requires { ⌜ (n ≤ 2) × Begun (now cells) n (now rows) ⌝ }
+    requires { ⌜ (n ≤ 2) × LeadWritten (now cells) n (now rows) ⌝ }
     ensures { λ _. ⌜ Replacing (length (now (cells .entry))) 0 (length (now (cells .entry)))
         (Whole (now (cells .entry)) n) (now (rows .entry)) (now (rows .exit)) ⌝ }
 {

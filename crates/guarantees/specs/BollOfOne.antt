@@ -25,7 +25,8 @@ use Rattle.cells.proofs.Line.{from-bar}
 use Rattle.windows.specs.Window.{sumFrom, over, mean}
 use Rattle.deviations.specs.Deviation.{square, deviation}
 use Rattle.rules_held.specs.Held.{flat}
-use Rattle.rules_bands.specs.Boll.{bandAnswer, outsideAt, outsideBands, bollLine, BollCall}
+use Rattle.calls.specs.Answer.{answeredWith}
+use Rattle.rules_bands.specs.Boll.{outsideAt, outsideBands, bollLine, BollCall}
 
 -- ---- the mean of one cell is the cell
 
@@ -93,7 +94,7 @@ boll-of-one k f i =
 pub boll-of-one-is-flat : (s : List Float) {out₀ out₁ : List ℤ} {work₀ work₁ : List Float} (k : Float)
     → BollCall s 1 k out₀ work₀ (Cells (length s)) out₁ work₁
     → (i : ℕ) → i < length s → getD out₁ i flat ≡ flat
-unfolding bandAnswer
+unfolding answeredWith
 boll-of-one-is-flat s {out₀ = out₀} {work₀ = work₀} k c i h =
     let room = room-after accepted s (length out₀) (length work₀ ∷ []) _ (length s) (sym (c .call .answer)) .out-long in
     rw (cell-at flat (c .call) room i h) (boll-of-one k (line s) i)

@@ -2,11 +2,11 @@
 -- before. No statement of no look-ahead can hold of them. Each is computed. Assumes nothing.
 use mathlib.Core.Path.{_≡_, refl}
 use mathlib.Core.List.{List, [], _∷_, _++_}
-use Prim.Native.Nat.{ℕ, suc, _+_, _<_}
+use Prim.Native.Nat.{ℕ, _+_, _<_}
 use native.Mathlib.Omega.{arith}
 use lib.IntN.{pos}
 use lib.ListN.{length}
-use lib.Ieee.{Float, binary64, round, neg, add, sub, mul, div, eq, ofInt, isNan}
+use lib.Ieee.{Float, round, neg, add, sub, mul, div, eq, ofInt, isNan}
 use Rattle.rounding.specs.Leaves.{plusOne, magnitudeOf, signOf}
 use Rattle.rounding.specs.Literals.{half}
 use Rattle.cells.specs.Line.{Line, line, plusZero, fromBar}
@@ -19,11 +19,11 @@ use Rattle.jurik.specs.Jurik.{
   averaged,
   copied,
   firstDiffering,
-  swings,
-  once,
-  twice,
-  lean,
-  leaned,
+  priceChange,
+  smooth1,
+  smooth2,
+  jvOf,
+  jv,
   jurikWith,
   jurikLine,
 }
@@ -39,7 +39,7 @@ pub record Changed (F : ℕ → Line → Line) (s : List Float) (x : Float) (b :
 -- third pass only bar 2's was not 0, and then bar 4's is not 0 either.
 pub jurik-looks-ahead : Changed (λ l. jurikLine l 2 plusOne) (prices (pos 0 ∷ pos 1 ∷ pos 1 ∷ pos 1 ∷ [])) (num 0) 3
     plusZero half
-unfolding jurikLine jurikWith once twice lean leaned swings averaged copied firstDiffering change carried firstBar
+unfolding jurikLine jurikWith smooth1 smooth2 jvOf jv priceChange averaged copied firstDiffering change carried firstBar
     recur fromBar magnitudeOf isNan neg add sub mul div ofInt round eq
 jurik-looks-ahead = record { inside = omega arith; before = refl; after = refl }
 

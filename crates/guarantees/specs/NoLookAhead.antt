@@ -14,7 +14,7 @@ use Rattle.values.specs.Accepted.{accepted, tick}
 use Rattle.cells.specs.Line.{Line, line, Same, Causal}
 use Rattle.calls.specs.declared.Answer.{Answer}
 use Rattle.calls.specs.declared.Answer.the-variants.{Cells}
-use Rattle.calls.specs.Answer.{andThen, checked, answered}
+use Rattle.calls.specs.Answer.{andThen, checked, answered, answeredWith}
 use Rattle.calls.specs.Call.{Call}
 use Rattle.calls.proofs.Room.{EachWindow, room, opened}
 use Rattle.calls.proofs.Cells.{cell-at, room-after, no-look-ahead}
@@ -55,7 +55,7 @@ use Rattle.channel.proofs.Causal.{causal-channel-middle, causal-channel-upper, 
 use Rattle.channel.proofs.Stages.{channel-ready}
 use Rattle.channel.specs.Channel.{ChannelCall}
 use Rattle.rules_bands.proofs.Bands.{causal-boll, causal-boll-reverse}
-use Rattle.rules_bands.specs.Boll.{bandAnswer, BollCall}
+use Rattle.rules_bands.specs.Boll.{BollCall}
 use Rattle.rules_bands.specs.BollReverse.{BollReverseCall}
 use Rattle.rules_mms.proofs.Scaled.{causal-mms}
 use Rattle.rules_mms.specs.Mms.{MmsCall}
@@ -64,7 +64,7 @@ use Rattle.rules_rank.specs.Rank.{RankCall}
 use Rattle.rules_rank.proofs.CausalRolling.{causal-rolling-rank}
 use Rattle.rules_rank.specs.RollingRank.{RollingRankCall, rollingRankAnswer}
 use Rattle.rules_rsi.proofs.Index.{causal-rsi-reverse}
-use Rattle.rules_rsi.specs.RsiReverse.{RsiReverseCall, rsiReverseAnswer}
+use Rattle.rules_rsi.specs.RsiReverse.{RsiReverseCall}
 use Rattle.rules_triple.proofs.Crossover.{causal-triple}
 use Rattle.rules_triple.specs.Triple.{TripleCall, tripleAnswer}
 
@@ -217,12 +217,12 @@ module _ {s t : List Float} {out₀ out₁ out₀′ out₁′ : List ℤ} {work
 
   pub boll-no-look-ahead : (n : ℕ) (k : Float) → BollCall s n k out₀ work₀ (Cells (length s)) out₁ work₁
       → BollCall t n k out₀′ work₀′ (Cells (length t)) out₁′ work₁′ → EqualCells (pos 0) out₁ out₁′ b
-  unfolding bandAnswer
+  unfolding answeredWith
   boll-no-look-ahead n k c c′ = table-agrees (pos 0) accepted equal _ _ _ _ (causal-boll n k) (c .call) (c′ .call)
 
   pub boll-reverse-no-look-ahead : (n : ℕ) (k : Float) → BollReverseCall s n k out₀ work₀ (Cells (length s)) out₁ work₁
       → BollReverseCall t n k out₀′ work₀′ (Cells (length t)) out₁′ work₁′ → EqualCells (pos 0) out₁ out₁′ b
-  unfolding bandAnswer
+  unfolding answeredWith
   boll-reverse-no-look-ahead n k c c′ =
       table-agrees (pos 0) accepted equal _ _ _ _ (causal-boll-reverse n k) (c .call) (c′ .call)
 
@@ -230,7 +230,7 @@ module _ {s t : List Float} {out₀ out₁ out₀′ out₁′ : List ℤ} {work
       → RsiReverseCall s n upper lower exit out₀ work₀ (Cells (length s)) out₁ work₁
       → RsiReverseCall t n upper lower exit out₀′ work₀′ (Cells (length t)) out₁′ work₁′
       → EqualCells (pos 0) out₁ out₁′ b
-  unfolding rsiReverseAnswer
+  unfolding answeredWith
   rsi-reverse-no-look-ahead n upper lower exit c c′ =
       table-agrees (pos 0) accepted equal _ _ _ _ (causal-rsi-reverse n upper lower exit) (c .call) (c′ .call)
 

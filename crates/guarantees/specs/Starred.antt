@@ -5,13 +5,14 @@ use mathlib.Core.List.{List, [], _∷_, map}
 use Prim.Native.Nat.{ℕ, _*_}
 use lib.IntN.{ℤ, pos, negsuc}
 use lib.ListN.{length}
-use lib.Ieee.{Float, nan, fin, binary64, add, sub, mul, div, ofInt, toSigned, whole, lt, eq, le, toBits, neg, round}
+use lib.Ieee.{Float, nan, fin, binary64, add, sub, mul, div, ofInt, toSigned, lt, eq, le, toBits, neg, round}
+use lib.Ieee as ieee
 use Rattle.rounding.specs.Whole.{total}
 use Rattle.rounding.specs.Leaves.{signOf, magnitudeOf, roundToWhole}
 use Rattle.calls.specs.declared.Answer.{Answer}
 use Rattle.calls.specs.declared.Answer.the-variants.{Cells}
 use Rattle.values.specs.Accepted.{accepted, tick, finite}
-use Rattle.calls.specs.Answer.{slices, checked, windowed, answered, countOf}
+use Rattle.calls.specs.Answer.{slices, checked, windowed, answered, answeredWith, countOf}
 use Rattle.cells.specs.Line.{line, fromBar}
 use Rattle.cells.specs.Recur.{recur, carried}
 use Rattle.windows.specs.Window.{sumFrom, windowSum, mean, runningSum}
@@ -21,7 +22,6 @@ use Rattle.averages_ticks.specs.TickMean.{toTick, tickMeanLine}
 use Rattle.rules_single.specs.Single.{singleLine}
 use Rattle.rules_double.specs.Double.{runningMean, doubleLine, doubleAnswer}
 use Rattle.cells.specs.Shown.{firstCells, num}
-use Rattle.rules_bands.specs.Boll.{bandAnswer}
 use Rattle.rules_bands.specs.BollReverse.{bollReverseLine, bandSignals, turnedBands}
 use Rattle.rules_mms.specs.Mms.{mmsAnswer, mmsLine}
 use Rattle.rules_rank.specs.Rank.{rankLine, belowNow, wholeRank}
@@ -32,12 +32,13 @@ use Rattle.ranks.specs.Counted.{countFrom}
 use Rattle.rounding.specs.Literals.{tenToMinus}
 use Rattle.rounding_root.specs.Root.{nearestRoot, root, rootBelow, sqrtOf}
 use Rattle.rules_held.specs.Held.{hold, moved}
-use Rattle.holt_winters.specs.HoltWinters.{weights, fitLine, fitsAfter, withNext, nextFit, holtWintersLine, holtWintersAnswer}
+use Rattle.holt_winters.specs.HoltWinters.{weights, fitLine, fitsAfter, withNext, nextFit}
+use Rattle.holt_winters.specs.HoltWinters.{holtWintersLine, holtWintersAnswer}
 
 -- a cell of an output: an f64 or a whole number
 pub data Cell : Type 0 where
   number : Float → Cell
-  ticks : ℤ → Cell
+  whole : ℤ → Cell
 
 -- a function with its parameters
 pub data Function : Type 0 where
@@ -77,12 +78,12 @@ table =
     ∷ star (oneAverage 2) (1 ∷ 3 ∷ 5 ∷ []) (float 0 ∷ float 0 ∷ float 1 ∷ [])
     ∷ star (rank 2) (1 ∷ 2 ∷ 3 ∷ []) (float 0 ∷ float 0 ∷ float 1 ∷ [])
     ∷ star (rank 1) (5 ∷ []) (number nan ∷ [])
-    ∷ star (rollingRank 2) (3 ∷ 1 ∷ 2 ∷ []) (ticks (pos 0) ∷ ticks (pos 1) ∷ ticks (pos 2) ∷ [])
+    ∷ star (rollingRank 2) (3 ∷ 1 ∷ 2 ∷ []) (whole (pos 0) ∷ whole (pos 1) ∷ whole (pos 2) ∷ [])
     ∷ star (mms 1 2) (1 ∷ 3 ∷ 2 ∷ []) (float 0 ∷ float 1 ∷ number minusOne ∷ [])
-    ∷ star (bollReverse 2 oneHalf) (4 ∷ 4 ∷ 8 ∷ []) (ticks (pos 0) ∷ ticks (pos 0) ∷ ticks (negsuc 0) ∷ [])
+    ∷ star (bollReverse 2 oneHalf) (4 ∷ 4 ∷ 8 ∷ []) (whole (pos 0) ∷ whole (pos 0) ∷ whole (negsuc 0) ∷ [])
     ∷ star (ema 3) (2 ∷ 4 ∷ 6 ∷ 10 ∷ []) (number nan ∷ number nan ∷ float 4 ∷ float 7 ∷ [])
     ∷ star (holtWinters 1 oneHalf (num 0) (num 0)) (4 ∷ 6 ∷ []) (float 4 ∷ float 5 ∷ [])
-    ∷ star (tickMean 2) (2 ∷ 3 ∷ []) (ticks (pos 0) ∷ ticks (pos 3) ∷ [])
+    ∷ star (tickMean 2) (2 ∷ 3 ∷ []) (whole (pos 0) ∷ whole (pos 3) ∷ [])
     ∷ []
 
 -- what the definitions answer and write, where the slices are just long enough
@@ -95,19 +96,19 @@ answerOf (double n m) s = doubleAnswer s n m (length s)
 answerOf (rank n) s = answered accepted s (n ∷ []) (length s) (8 * length s ∷ [])
 answerOf (rollingRank w) s = rollingRankAnswer s w (length s) (8 * length s)
 answerOf (mms n w) s = mmsAnswer s n w (length s) (8 * length s)
-answerOf (bollReverse n k) s = bandAnswer s n k (length s) (8 * length s)
+answerOf (bollReverse n k) s = answeredWith accepted s (k ∷ []) (n ∷ []) (length s) (8 * length s ∷ [])
 answerOf (holtWinters m a b c) s = holtWintersAnswer s m (weights a b c) (length s) (8 * length s)
 
 abbrev pub cellsOf : Function → List Float → ℕ → List Cell
 cellsOf (sma n) s k = map number (firstCells k (smaLine n (line s)))
 cellsOf (ema n) s k = map number (firstCells k (emaLine n (line s)))
-cellsOf (tickMean n) s k = map ticks (firstCells k (tickMeanLine n (line s)))
+cellsOf (tickMean n) s k = map whole (firstCells k (tickMeanLine n (line s)))
 cellsOf (oneAverage n) s k = map number (firstCells k (singleLine n (line s)))
 cellsOf (double n m) s k = map number (firstCells k (doubleLine n m (line s)))
 cellsOf (rank n) s k = map number (firstCells k (rankLine n (line s)))
-cellsOf (rollingRank w) s k = map (λ c. ticks (pos c)) (firstCells k (rollingRankLine w (line s)))
+cellsOf (rollingRank w) s k = map (λ c. whole (pos c)) (firstCells k (rollingRankLine w (line s)))
 cellsOf (mms n w) s k = map number (firstCells k (mmsLine n w (line s)))
-cellsOf (bollReverse n x) s k = map ticks (firstCells k (bollReverseLine n x (line s)))
+cellsOf (bollReverse n x) s k = map whole (firstCells k (bollReverseLine n x (line s)))
 cellsOf (holtWinters m a b c) s k = map number (firstCells k (holtWintersLine m (weights a b c) (line s)))
 
 abbrev pub found : Case → Case
@@ -119,8 +120,8 @@ found c =
 pub starred : map found table ≡ table
 unfolding smaLine carried total toTick tickMeanLine singleLine runningMean doubleLine doubleAnswer mean windowSum
     sumFrom runningSum recur fromBar slices checked windowed answered accepted tick signOf add sub mul div ofInt
-    toSigned whole lt eq le toBits rankLine wholeRank belowNow countFrom roundToWhole round rollingRankLine
-    rollingRankAnswer tenToMinus magnitudeOf neg mmsLine extreme pickFrom turnedBands bandSignals bandAnswer hold moved
-    deviation sqrtOf nearestRoot root rootBelow finite holtWintersLine holtWintersAnswer fitLine fitsAfter withNext
-    nextFit
+    toSigned ieee.whole lt eq le toBits rankLine wholeRank belowNow countFrom roundToWhole round rollingRankLine
+    rollingRankAnswer tenToMinus magnitudeOf neg mmsLine extreme pickFrom turnedBands bandSignals answeredWith hold
+    moved deviation sqrtOf nearestRoot root rootBelow finite holtWintersLine holtWintersAnswer fitLine fitsAfter
+    withNext nextFit
 starred = refl

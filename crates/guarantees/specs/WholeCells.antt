@@ -13,7 +13,7 @@ use lib.ListN.{length, getD}
 use lib.Ieee.{Float, lt}
 use Rattle.calls.specs.declared.Answer.{Answer}
 use Rattle.calls.specs.declared.Answer.the-variants.{Cells}
-use Rattle.calls.specs.Answer.{andThen, checked}
+use Rattle.calls.specs.Answer.{andThen, checked, answeredWith}
 use Rattle.calls.specs.Call.{Call}
 use Rattle.calls.proofs.Cells.{cell-at, room-after}
 use Rattle.values.specs.Accepted.{accepted}
@@ -21,11 +21,11 @@ use Rattle.cells.specs.Line.{Line, line, fromBar}
 use Rattle.windows.specs.Window.{mean}
 use Rattle.rules_held.specs.Held.{flat, long, short}
 use Rattle.rules_held.proofs.Holding.{Position, at-flat, at-long, at-short, either-position}
-use Rattle.rules_bands.specs.Boll.{bandAnswer, BollCall}
+use Rattle.rules_bands.specs.Boll.{BollCall}
 use Rattle.rules_bands.specs.BollReverse.{BollReverseCall}
 use Rattle.rules_bands.proofs.Bands.{boll-position, boll-reverse-position, boll-reverse-neighbours}
 use Rattle.rules_triple.specs.Triple.{tripleLine, tripleAnswer, TripleCall}
-use Rattle.rules_rsi.specs.RsiReverse.{rsiReverseAnswer, RsiReverseCall}
+use Rattle.rules_rsi.specs.RsiReverse.{RsiReverseCall}
 use Rattle.rules_rsi.proofs.Index.{rsi-reverse-position, rsi-reverse-neighbours}
 use Rattle.rules_rank.specs.RollingRank.{rollingRankAnswer, RollingRankCall}
 use Rattle.rules_rank.proofs.RollingCells.{rolling-before, rolling-within}
@@ -84,7 +84,7 @@ module _ (s : List Float) {out₀ out₁ : List ℤ} {work₀ work₁ : List Flo
     -- Bollinger: likewise.
     pub boll-writes-positions : BollCall s n k out₀ work₀ (Cells (length s)) out₁ work₁ → (i : ℕ) → i < length s
         → WholePosition (getD out₁ i flat)
-    unfolding bandAnswer
+    unfolding answeredWith
     boll-writes-positions c i h =
         rw (due-cell flat s (length work₀) _ (c .call) i h) (whole (boll-position n k (line s) i))
 
@@ -92,13 +92,13 @@ module _ (s : List Float) {out₀ out₁ : List ℤ} {work₀ work₁ : List Flo
     pub boll-reverse-writes-positions : BollReverseCall s n k out₀ work₀ (Cells (length s)) out₁ work₁ → (i : ℕ)
         → i < length s
         → WholePosition (getD out₁ i flat)
-    unfolding bandAnswer
+    unfolding answeredWith
     boll-reverse-writes-positions c i h =
         rw (due-cell flat s (length work₀) _ (c .call) i h) (whole (boll-reverse-position n k (line s) i))
 
     -- The reverse rule: a position closes before the other one opens.
     pub boll-reverse-closes-first : BollReverseCall s n k out₀ work₀ (Cells (length s)) out₁ work₁ → ClosesFirst s out₁
-    unfolding bandAnswer
+    unfolding answeredWith
     boll-reverse-closes-first c =
         closes-first s (length work₀) _ (c .call) (boll-reverse-neighbours n k (line s))
 
@@ -106,13 +106,13 @@ module _ (s : List Float) {out₀ out₁ : List ℤ} {work₀ work₁ : List Flo
       (c : RsiReverseCall s n upper lower exit out₀ work₀ (Cells (length s)) out₁ work₁) where
     -- The relative strength index: each cell is +1, -1 or 0.
     pub rsi-reverse-writes-positions : (i : ℕ) → i < length s → WholePosition (getD out₁ i flat)
-    unfolding rsiReverseAnswer
+    unfolding answeredWith
     rsi-reverse-writes-positions i h =
         rw (due-cell flat s (length work₀) _ (c .call) i h) (whole (rsi-reverse-position n upper lower exit (line s) i))
 
     -- And a position closes before the other one opens.
     pub rsi-reverse-closes-first : ClosesFirst s out₁
-    unfolding rsiReverseAnswer
+    unfolding answeredWith
     rsi-reverse-closes-first =
         closes-first s (length work₀) _ (c .call) (rsi-reverse-neighbours n upper lower exit (line s))
 

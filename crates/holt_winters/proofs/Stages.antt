@@ -22,7 +22,7 @@ use Rattle.cells.proofs.Scratch.{one-put, goes-on, then-put, scratch-same}
 use Rattle.holt_winters.specs.declared.Fit.{Fit}
 use Rattle.holt_winters.specs.declared.Weights.{Weights}
 use Rattle.holt_winters.specs.HoltWinters.{firstFit, nextFit, total, fitLine, holtWintersLine, holtWintersAnswer}
-use Rattle.holt_winters.specs.inner.Stages.{Ready, First, Smoothed}
+use Rattle.holt_winters.specs.inner.Stages.{SeasonRoom, First, Smoothed}
 use Rattle.holt_winters.proofs.Bars.{fit-first, fit-next, cell-first, cell-later}
 
 -- ---- the loops
@@ -106,7 +106,7 @@ module _ (s : List Float) (m : ℕ) (w : Weights) (out work : ℕ) where
       sym (same-count _ _ (emptyIf-cells (ltb (length s) m) _ k (a .rest) h .1))
 
   -- and where they are due, all is in order
-  pub holt-winters-ready : {r : Answer} → r ≡ holtWintersAnswer s m w out work → 0 < countOf r → Ready m s out work
+  pub holt-winters-ready : {r : Answer} → r ≡ holtWintersAnswer s m w out work → 0 < countOf r → SeasonRoom m s out work
   unfolding holtWintersAnswer
   holt-winters-ready {r} e h =
       let p = one-passed s out work rest e h in

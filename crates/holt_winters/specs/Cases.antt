@@ -2,9 +2,10 @@
 use mathlib.Core.Path.{_≡_, refl}
 use mathlib.Core.Bool.{true, false}
 use mathlib.Core.List.{[], _∷_}
-use Prim.Native.Nat.{ℕ}
+use Prim.Native.Nat.{ℕ, suc}
 use lib.IntN.{pos, negsuc}
 use lib.Ieee.{Float, nan, inf, fin, binary64, round, add, sub, mul, div, lt, eq, le, ofInt, ofBits, toBits}
+use Rattle.limits.specs.Limits.{longestWindow}
 use Rattle.calls.specs.declared.Refusal.the-variants.{ParameterNotFinite, WindowTooLong}
 use Rattle.calls.specs.declared.Answer.{Answer}
 use Rattle.calls.specs.declared.Answer.the-variants.{Cells, Refused}
@@ -64,8 +65,9 @@ oneBar m w = holtWintersAnswer (plusZero ∷ []) m w 1 8
 -- a season as long as the series; a longer one and one of 0 give the empty answer; each parameter not finite comes
 -- before a season too long; no bars
 holt-winters-answers : oneBar 1 halves ∷ oneBar 2 halves ∷ oneBar 0 halves
-    ∷ oneBar 4097 (weights nan half half) ∷ oneBar 4097 (weights half (inf true) half)
-    ∷ oneBar 4097 (weights half half (inf false)) ∷ oneBar 4097 halves ∷ holtWintersAnswer [] 1 halves 0 0 ∷ []
+    ∷ oneBar (suc longestWindow) (weights nan half half) ∷ oneBar (suc longestWindow) (weights half (inf true) half)
+    ∷ oneBar (suc longestWindow) (weights half half (inf false)) ∷ oneBar (suc longestWindow) halves
+    ∷ holtWintersAnswer [] 1 halves 0 0 ∷ []
     ≡ Cells 1 ∷ Cells 0 ∷ Cells 0 ∷ Refused ParameterNotFinite ∷ Refused ParameterNotFinite
     ∷ Refused ParameterNotFinite ∷ Refused WindowTooLong ∷ Cells 0 ∷ []
 unfolding holtWintersAnswer slices checked accepted finite lt eq le toBits

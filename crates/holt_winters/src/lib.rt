@@ -7,7 +7,7 @@ ghost use lib.ListN.{length};
 ghost use Rattle.cells.specs.Line.{line};
 ghost use Rattle.holt_winters.specs.HoltWinters.{nextFit, total, holtWintersAnswer, HoltWintersCall};
 ghost use Rattle.windows.specs.Window.{mean};
-ghost use Rattle.holt_winters.specs.inner.Stages.{Ready, First, Smoothed};
+ghost use Rattle.holt_winters.specs.inner.Stages.{SeasonRoom, First, Smoothed};
 
 // How much a new price weighs in the level, in the trend and in the seasonal part.
 pub struct Weights {
@@ -54,7 +54,7 @@ fn cell(fit: Fit) -> f64
 
 // Copies the first season's prices, and keeps their seasonal parts in the last row of `work`: each price less the mean.
 fn write_first(series: &[f64], m: usize, average: f64, out: &mut [f64], work: &mut [f64])
-    requires { ⌜ Ready m (now series) (length (now out)) (length (now work)) ⌝ }
+    requires { ⌜ SeasonRoom m (now series) (length (now out)) (length (now work)) ⌝ }
     ensures { λ _. ⌜ First average (line (now (series .entry))) (length (now (series .entry))) m (now (out .entry))
         (now (out .exit)) (now (work .entry)) (now (work .exit)) ⌝ }
 {
@@ -76,7 +76,7 @@ fn write_later(
     out: &mut [f64],
     work: &mut [f64],
 )
-    requires { ⌜ Ready m (now series) (length (now out)) (length (now work)) ⌝ }
+    requires { ⌜ SeasonRoom m (now series) (length (now out)) (length (now work)) ⌝ }
     requires { ⌜ (average ≡ mean m (line (now series)) (m - 1)) × First average (line (now series))
         (length (now series)) m (now out) (now out) (now work) (now work) ⌝ }
     ensures { λ _. ⌜ Smoothed m w (line (now (series .entry))) (length (now (series .entry)))
@@ -100,7 +100,7 @@ fn write_later(
 
 // Writes each bar's cell. The seven rows before the last one of `work` are cleared meanwhile.
 fn write_smoothed(series: &[f64], m: usize, w: Weights, out: &mut [f64], work: &mut [f64])
-    requires { ⌜ Ready m (now series) (length (now out)) (length (now work)) ⌝ }
+    requires { ⌜ SeasonRoom m (now series) (length (now out)) (length (now work)) ⌝ }
     ensures { λ _. ⌜ Smoothed m w (line (now (series .entry))) (length (now (series .entry)))
         (length (now (series .entry))) (now (out .entry)) (now (out .exit)) (now (work .entry)) (now (work .exit)) ⌝ }
 {

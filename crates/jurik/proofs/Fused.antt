@@ -5,19 +5,28 @@ use mathlib.Core.List.{List}
 use Prim.Native.Nat.{ℕ, zero, suc, _+_, _-_, _/_, _<_, _≤_}
 use native.Mathlib.Omega.{arith}
 use borrow.Author.Tests.{lt-leb}
-use lib.Dec.{leb}
 use lib.Ieee.{Float, nan, isNan}
-use Rattle.cells.specs.Line.{Line, line, plusZero}
+use Rattle.cells.specs.Line.{Line, plusZero}
 use Rattle.cells.specs.Recur.{carried}
 use Rattle.cells.specs.Search.{nonZero, firstBar}
-use Rattle.cells.specs.Written.{Writing}
 use Rattle.cells.proofs.Line.{before-bar, from-bar}
 use Rattle.cells.proofs.Carried.{carried-seed, carried-next}
 use Rattle.cells.proofs.Search.{firstBar-found, firstBar-met, firstBar-most}
 use Rattle.cells.proofs.Touched.{touched, untouched}
 use Rattle.cells.proofs.Written.{writing-same}
 use Rattle.averages.specs.Blend.{blend, emaAlpha}
-use Rattle.jurik.specs.Jurik.{averaged, alike, isNumber, swings, once, twice, lean, leaned, jurikWith, jurikLine}
+use Rattle.jurik.specs.Jurik.{
+  averaged,
+  allSame,
+  isNumber,
+  priceChange,
+  smooth1,
+  smooth2,
+  jvOf,
+  jv,
+  jurikWith,
+  jurikLine,
+}
 use Rattle.jurik.specs.inner.Passes.{
   differs,
   tested,
@@ -25,10 +34,10 @@ use Rattle.jurik.specs.inner.Passes.{
   blendedTwice,
   Other,
   Differing,
-  Leant,
+  JvWritten,
   BothAverage,
 }
-use Rattle.jurik.proofs.Causal.{causal-averaged, causal-leaned}
+use Rattle.jurik.proofs.Causal.{causal-averaged, causal-jv}
 use Rattle.jurik.proofs.TwoPasses.{differing-is, differing-same, averaged-is}
 use Rattle.jurik.proofs.Stages.{local-causal}
 
@@ -39,7 +48,7 @@ pub found-under : (t : ℕ → Bool) (j l : ℕ) → t j ≡ true → j < l → 
 found-under t j l e h = let most = firstBar-most t j e in rw (firstBar-met t j l e h) (omega arith)
 
 -- one more bar, where one of those before may have passed
-pub or-under : (t : ℕ → Bool) (j l : ℕ) {p q : Bool} → (p ≡ true → firstBar t l < l) → q ≡ t j → j < l → p || q ≡ true
+or-under : (t : ℕ → Bool) (j l : ℕ) {p q : Bool} → (p ≡ true → firstBar t l < l) → q ≡ t j → j < l → p || q ≡ true
     → firstBar t l < l
 or-under t j l {p = true} h e k z = h refl
 or-under t j l {p = false} h e k z = found-under t j l (sym e ∙ z) k
@@ -89,18 +98,18 @@ other-more alpha f i l h a b e m =
     let seed = carried-seed nan (blend alpha) 1 (f 1) f in
     or-under (λ j. differs isNumber (average 1) (average j)) i l h (e ∙ rw (a, b, seed)) m
 
--- the leaned cell of a later bar
-pub lean-at : (power : Float) (f : Line) (i : ℕ) {last x y : Float} → y ≡ lean power last x → last ≡ f (i - 1)
+-- the cell of `jv` at a later bar
+pub jv-later : (power : Float) (f : Line) (i : ℕ) {last x y : Float} → y ≡ jvOf power last x → last ≡ f (i - 1)
     → x ≡ f i → 2 ≤ i
-    → y ≡ leaned power f i
-unfolding leaned
-lean-at power f i e p q h = rw (e, p, q, from-bar 2 plusZero (λ j. lean power (f (j - 1)) (f j)) i h)
+    → y ≡ jv power f i
+unfolding jv
+jv-later power f i e p q h = rw (e, p, q, from-bar 2 plusZero (λ j. jvOf power (f (j - 1)) (f j)) i h)
 
 -- ---- averages from bar 1 on
 
-swings-begin : (f : Line) → isNumber (swings f 0) ≡ false
-unfolding swings isNan
-swings-begin f = rw (before-bar 1 nan _ 0 (omega arith))
+price-change-begin : (f : Line) → isNumber (priceChange f 0) ≡ false
+unfolding priceChange isNan
+price-change-begin f = rw (before-bar 1 nan _ 0 (omega arith))
 
 blended-begin : (alpha : Float) (f : Line) → isNumber (blendedOnce alpha f 0) ≡ false
 unfolding carried isNan
@@ -115,47 +124,48 @@ module _ (l : ℕ) (h : 1 < l) (f : Line) (begin : isNumber (f 0) ≡ false) (nu
       none (suc j) m = absurd (omega arith)
 
   -- the pass averages
-  unlike-is : Other l f → alike isNumber l f ≡ false
-  unlike-is o =
+  not-all-same : Other l f → allSame isNumber l f ≡ false
+  not-all-same o =
       let here = differing-is isNumber l f first-number in
       lt-leb l _ (rw here at o)
 
   -- and these are its cells
-  once-is : (alpha : Float) (i : ℕ) → i < l → blendedOnce alpha f i ≡ averaged isNumber nan alpha f i
-  once-is alpha = averaged-is isNumber nan alpha l f 1 first-number
+  smooth1-is : (alpha : Float) (i : ℕ) → i < l → blendedOnce alpha f i ≡ averaged isNumber nan alpha f i
+  smooth1-is alpha = averaged-is isNumber nan alpha l f 1 first-number
 
-module _ (l n : ℕ) (f : Line) (d : Differing l (swings f)) where
+module _ (l n : ℕ) (f : Line) (d : Differing l (priceChange f)) where
   abbrev alpha : Float
   alpha = emaAlpha (n / 2)
 
   abbrev average : Line
-  average = blendedOnce alpha (swings f)
+  average = blendedOnce alpha (priceChange f)
 
-  average-is : (i : ℕ) → i < l → average i ≡ once false n f i
-  unfolding once
-  average-is = once-is l (d .bars) (swings f) (swings-begin f) (d .number) alpha
+  average-is : (i : ℕ) → i < l → average i ≡ smooth1 false n f i
+  unfolding smooth1
+  average-is = smooth1-is l (d .bars) (priceChange f) (price-change-begin f) (d .number) alpha
 
   average-number : isNumber (average 1) ≡ true
-  average-number = rw (carried-seed nan (blend alpha) 1 (swings f 1) (swings f)) (d .number)
+  average-number = rw (carried-seed nan (blend alpha) 1 (priceChange f 1) (priceChange f)) (d .number)
 
-  twice-is : (i : ℕ) → i < l → blendedTwice alpha (swings f) i ≡ twice false false n f i
-  unfolding twice
-  twice-is i h =
-      once-is l (d .bars) average (blended-begin alpha (swings f)) average-number alpha i h
-      ∙ local-causal l (causal-averaged isNumber nan alpha) average (once false n f) average-is i h
+  smooth2-is : (i : ℕ) → i < l → blendedTwice alpha (priceChange f) i ≡ smooth2 false false n f i
+  unfolding smooth2
+  smooth2-is i h =
+      smooth1-is l (d .bars) average (blended-begin alpha (priceChange f)) average-number alpha i h
+      ∙ local-causal l (causal-averaged isNumber nan alpha) average (smooth1 false n f) average-is i h
 
-  pub both-average : {r : Bool} {power : Float} {old now : List Float} → Leant r l alpha power (swings f) old now
+  pub both-average : {r : Bool} {power : Float} {old now : List Float}
+      → JvWritten r l alpha power (priceChange f) old now
       → BothAverage r n l power f old now
   both-average {power = power} w =
-      let leans = causal-leaned power in
-      let cells = local-causal l leans (blendedTwice alpha (swings f)) (twice false false n f) twice-is in
-      let same = differing-same isNumber l average (once false n f) average-is in
+      let causal = causal-jv power in
+      let cells = local-causal l causal (blendedTwice alpha (priceChange f)) (smooth2 false false n f) smooth2-is in
+      let same = differing-same isNumber l average (smooth1 false n f) average-is in
       record {
         used = touched (w .cells);
         cells = λ e. writing-same (w .cells) cells;
-        first = λ e. unlike-is l (d .bars) (swings f) (swings-begin f) (d .number) (d .other);
+        first = λ e. not-all-same l (d .bars) (priceChange f) (price-change-begin f) (d .number) (d .other);
         second = λ e. rw (← same)
-            (unlike-is l (d .bars) average (blended-begin alpha (swings f)) average-number (w .other e));
+            (not-all-same l (d .bars) average (blended-begin alpha (priceChange f)) average-number (w .other e));
       }
 
 -- one of them does not
@@ -170,9 +180,9 @@ none-average =
 
 -- ---- the line, where both average
 
-pub averages-then : (l n : ℕ) (power : Float) (f : Line) → alike isNumber l (swings f) ≡ false
-    → alike isNumber l (once false n f) ≡ false
-    → (i : ℕ) → tested nonZero plusZero (emaAlpha (n / 3)) l (leaned power (twice false false n f)) i
+pub averages-then : (l n : ℕ) (power : Float) (f : Line) → allSame isNumber l (priceChange f) ≡ false
+    → allSame isNumber l (smooth1 false n f) ≡ false
+    → (i : ℕ) → tested nonZero plusZero (emaAlpha (n / 3)) l (jv power (smooth2 false false n f)) i
     ≡ jurikLine l n power f i
 unfolding jurikLine jurikWith
 averages-then l n power f p q i = rw (p, q)

@@ -2,12 +2,12 @@
 use mathlib.Core.Path.{_≡_, refl, sym, _∙_}
 use mathlib.Core.Bool.{Bool, true, false, not, cond, _&&_}
 use mathlib.Core.List.{List}
-use Prim.Native.Nat.{ℕ, zero, suc, _+_, _-_, _<_, _≤_, min, suc-le-suc}
+use Prim.Native.Nat.{ℕ, zero, suc, _+_, _-_, _<_, _≤_, min}
 use native.Mathlib.Nat.{le-of-suc-le-suc}
 use native.Mathlib.Omega.{arith}
-use borrow.Author.Tests.{ltb-true, ltb-false, le-ltb, le-leb, lt-leb}
-use lib.Dec.{ltb, leb}
-use lib.Ieee.{Float, nan, inf, fin, eq, ne, isNan}
+use borrow.Author.Tests.{ltb-true, ltb-false, leb-false}
+use lib.Dec.{ltb}
+use lib.Ieee.{Float, nan, inf, fin, eq, ne}
 use Rattle.rounding.proofs.Patterns.{differs-nan}
 use Rattle.cells.specs.Line.{Line}
 use Rattle.cells.specs.Recur.{carried}
@@ -18,8 +18,9 @@ use Rattle.cells.proofs.Carried.{from-same, carried-next}
 use Rattle.cells.proofs.Written.{stands, writing-same}
 use Rattle.cells.specs.Written.{Writing}
 use Rattle.cells.proofs.Search.{firstBar-same}
+use Rattle.values.proofs.All.{and-true}
 use Rattle.averages.specs.Blend.{blend}
-use Rattle.jurik.specs.Jurik.{averaged, copied, firstDiffering, alike, isNumber}
+use Rattle.jurik.specs.Jurik.{averaged, copied, firstDiffering, allSame, isNumber}
 use Rattle.jurik.specs.inner.Passes.{differs, tested}
 
 -- ---- numbers
@@ -79,51 +80,45 @@ firstBar-both t u (suc l) = go (t 0) (u 0) (firstBar-both (λ j. t (suc j)) (λ 
     go true q h = omega arith
     go false q h = omega arith
 
-and-yes : (t : Bool) → t && true ≡ t
-and-yes true = refl
-and-yes false = refl
+module _ (valid : Float → Bool) (l : ℕ) (f : Line) where
+  -- every valid value differs from a NaN
+  pub valid-is : firstBar (λ j. differs valid nan (f j)) l ≡ firstBar (λ j. valid (f j)) l
+  valid-is = firstBar-same _ _ l (λ j m. rw (no-equal (f j), and-true (valid (f j))))
 
-module _ (usable : Float → Bool) (l : ℕ) (f : Line) where
-  -- every usable value differs from a NaN
-  pub usable-is : firstBar (λ j. differs usable nan (f j)) l ≡ firstBar (λ j. usable (f j)) l
-  usable-is = firstBar-same _ _ l (λ j m. rw (no-equal (f j), and-yes (usable (f j))))
-
-  -- the first that differs does not come before the first that is usable
-  pub differing-later : firstBar (λ j. usable (f j)) l ≤ firstDiffering usable l f
+  -- the first that differs does not come before the first that is valid
+  pub differing-later : firstBar (λ j. valid (f j)) l ≤ firstDiffering valid l f
   unfolding firstDiffering
   differing-later =
-      firstBar-both (λ j. usable (f j)) (λ j. not (eq (f j) (f (firstBar (λ k. usable (f k)) l)))) l
+      firstBar-both (λ j. valid (f j)) (λ j. not (eq (f j) (f (firstBar (λ k. valid (f k)) l)))) l
 
-  -- where there is one, there is a usable one
-  pub differing-inside : {a : ℕ} {r : Bool} → a ≡ firstBar (λ j. usable (f j)) l → r ≡ ltb (firstDiffering usable l f) l
-      → r ≡ true
-      → a < l
-  differing-inside e p q =
-      let h = ltb-true _ l (sym p ∙ q) in
+  -- where there is one, there is a valid one
+  pub differing-inside : {a : ℕ} → a ≡ firstBar (λ j. valid (f j)) l → allSame valid l f ≡ false → a < l
+  differing-inside e p =
+      let h = leb-false l _ p in
       let later = differing-later in
       omega arith
 
   -- as it is searched for
-  pub differing-is : {a : ℕ} → a ≡ firstBar (λ j. usable (f j)) l
-      → firstBar (λ j. differs usable (f a) (f j)) l ≡ firstDiffering usable l f
+  pub differing-is : {a : ℕ} → a ≡ firstBar (λ j. valid (f j)) l
+      → firstBar (λ j. differs valid (f a) (f j)) l ≡ firstDiffering valid l f
   unfolding firstDiffering
   differing-is e = rw e
 
 -- lines that agree below l
-pub differing-same : (usable : Float → Bool) (l : ℕ) (f g : Line) → ((j : ℕ) → j < l → f j ≡ g j)
-    → firstDiffering usable l f ≡ firstDiffering usable l g
+pub differing-same : (valid : Float → Bool) (l : ℕ) (f g : Line) → ((j : ℕ) → j < l → f j ≡ g j)
+    → firstDiffering valid l f ≡ firstDiffering valid l g
 unfolding firstDiffering
-differing-same usable l f g h =
-    let firsts = firstBar-same (λ j. usable (f j)) (λ j. usable (g j)) l (λ j m. rw (h j m)) in
+differing-same valid l f g h =
+    let firsts = firstBar-same (λ j. valid (f j)) (λ j. valid (g j)) l (λ j m. rw (h j m)) in
     rw firsts (firstBar-same _ _ l (λ j m. go j m (ltb a l) refl))
   where
     a : ℕ
-    a = firstBar (λ j. usable (g j)) l
+    a = firstBar (λ j. valid (g j)) l
 
-    go : (j : ℕ) → j < l → (t : Bool) → ltb a l ≡ t → differs usable (f a) (f j) ≡ differs usable (g a) (g j)
+    go : (j : ℕ) → j < l → (t : Bool) → ltb a l ≡ t → differs valid (f a) (f j) ≡ differs valid (g a) (g j)
     go j m true e = rw (h j m, h a (ltb-true a l e))
     go j m false e =
-        let none = firstBar-before (λ i. usable (g i)) l j (let k = ltb-false a l e in omega arith) in
+        let none = firstBar-before (λ i. valid (g i)) l j (let k = ltb-false a l e in omega arith) in
         rw (h j m, none)
 
 -- ---- the cells
@@ -151,18 +146,18 @@ module _ (d : Float) (step : Float → Float → Float) (a : ℕ) (seed : Float)
       let next = carried-next d step a seed f (i + 1) (omega arith) in
       e ∙ rw (p, q) (sym (rw last at next))
 
-module _ (usable : Float → Bool) (none alpha : Float) (l : ℕ) (f : Line) where
-  -- the average of l bars from the first usable one
-  pub averaged-is : (a : ℕ) → a ≡ firstBar (λ j. usable (f j)) l → (i : ℕ) → i < l
-      → carried none (blend alpha) a (f a) f i ≡ averaged usable none alpha f i
+module _ (valid : Float → Bool) (none alpha : Float) (l : ℕ) (f : Line) where
+  -- the average of l bars from the first valid one
+  pub averaged-is : (a : ℕ) → a ≡ firstBar (λ j. valid (f j)) l → (i : ℕ) → i < l
+      → carried none (blend alpha) a (f a) f i ≡ averaged valid none alpha f i
   unfolding averaged carried
   averaged-is a e i h = go (ltb i a) refl
     where
       b : ℕ
-      b = firstBar (λ j. usable (f j)) (suc i)
+      b = firstBar (λ j. valid (f j)) (suc i)
 
       first : b ≡ min a (suc i)
-      first = rw e (firstBar-fewer (λ j. usable (f j)) (suc i) l h)
+      first = rw e (firstBar-fewer (λ j. valid (f j)) (suc i) l h)
 
       go : (t : Bool) → ltb i a ≡ t → carried none (blend alpha) a (f a) f i ≡ carried none (blend alpha) b (f b) f i
       go true p =
@@ -176,11 +171,11 @@ module _ (usable : Float → Bool) (none alpha : Float) (l : ℕ) (f : Line) whe
           rw same
 
   -- the pass, where values differ, and where they do not
-  pub tested-averages : {a : ℕ} → a ≡ firstBar (λ j. usable (f j)) l → ltb (firstDiffering usable l f) l ≡ true
-      → (i : ℕ) → i < l
-      → carried none (blend alpha) a (f a) f i ≡ tested usable none alpha l f i
-  tested-averages {a} e t i h = rw (lt-leb l _ (ltb-true _ l t)) (averaged-is a e i h)
+  pub tested-averages : {a : ℕ} → a ≡ firstBar (λ j. valid (f j)) l → allSame valid l f ≡ false → (i : ℕ)
+      → i < l
+      → carried none (blend alpha) a (f a) f i ≡ tested valid none alpha l f i
+  tested-averages {a} e t i h = rw t (averaged-is a e i h)
 
-  pub tested-copies : ltb (firstDiffering usable l f) l ≡ false → (i : ℕ) → copied usable none f i
-      ≡ tested usable none alpha l f i
-  tested-copies t i = rw (le-leb l _ (ltb-false _ l t))
+  pub tested-copies : allSame valid l f ≡ true → (i : ℕ) → copied valid none f i
+      ≡ tested valid none alpha l f i
+  tested-copies t i = rw t

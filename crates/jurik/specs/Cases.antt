@@ -1,14 +1,16 @@
 -- jurik_volty at small series, with the cells that pure.rs gave, and its answers. Assumes nothing.
 use mathlib.Core.Path.{_≡_, refl}
 use mathlib.Core.List.{[], _∷_}
+use Prim.Native.Nat.{suc}
 use lib.IntN.{pos, negsuc}
 use lib.Ieee.{nan, binary64, round, neg, add, sub, mul, div, lt, eq, le, ofInt, ofBits, toBits, isNan}
+use Rattle.limits.specs.Limits.{longestWindow}
 use Rattle.rounding.specs.Leaves.{plusOne, magnitudeOf}
 use Rattle.rounding.specs.Literals.{half}
 use Rattle.values.specs.Accepted.{accepted, finite}
 use Rattle.calls.specs.declared.Refusal.the-variants.{ParameterNotFinite, WindowTooLong}
 use Rattle.calls.specs.declared.Answer.the-variants.{Cells, Refused}
-use Rattle.calls.specs.Answer.{slices, checked}
+use Rattle.calls.specs.Answer.{slices, checked, answeredWith}
 use Rattle.cells.specs.Line.{plusZero, fromBar}
 use Rattle.cells.specs.Recur.{recur, carried}
 use Rattle.cells.specs.Search.{firstBar}
@@ -18,14 +20,13 @@ use Rattle.jurik.specs.Jurik.{
   averaged,
   copied,
   firstDiffering,
-  swings,
-  once,
-  twice,
-  lean,
-  leaned,
+  priceChange,
+  smooth1,
+  smooth2,
+  jvOf,
+  jv,
   jurikWith,
   jurikLine,
-  jurikAnswer,
 }
 
 -- n 6 with power 1; n 3; n 2 and n 1, whose spans are 0: the weight is 2 / 1, and what is left of the last cell is -1
@@ -37,7 +38,7 @@ jurik-cases : (cellsOf (jurikLine 6 6 plusOne) (prices (pos 1 ∷ pos 2 ∷ pos 
     ≡ bits (0 ∷ 0 ∷ 0x4004000000000000 ∷ 0xbff8000000000000 ∷ 0x4029000000000000 ∷ []))
     × (cellsOf (jurikLine 5 1 plusOne) (prices (pos 1 ∷ pos 2 ∷ pos 4 ∷ pos 3 ∷ pos 7 ∷ []))
     ≡ bits (0 ∷ 0 ∷ 0x401c000000000000 ∷ 0xc040800000000000 ∷ 0x405cc00000000000 ∷ []))
-unfolding jurikLine jurikWith once twice lean leaned swings averaged copied firstDiffering change carried firstBar
+unfolding jurikLine jurikWith smooth1 smooth2 jvOf jv priceChange averaged copied firstDiffering change carried firstBar
     recur fromBar magnitudeOf isNan neg add sub mul div ofInt ofBits round eq
 jurik-cases = (refl, refl, refl, refl)
 
@@ -58,7 +59,7 @@ jurik-equal : (cellsOf (jurikLine 5 7 plusOne) (bits (0 ∷ 0x3fb999999999999a �
     ≡ (plusZero ∷ plusZero ∷ plusZero ∷ plusZero ∷ plusZero ∷ []))
     × (cellsOf (jurikLine 1 3 plusOne) (prices (pos 7 ∷ [])) ≡ (plusZero ∷ []))
     × (cellsOf (jurikLine 2 3 plusOne) (prices (pos 7 ∷ pos 9 ∷ [])) ≡ (plusZero ∷ plusZero ∷ []))
-unfolding jurikLine jurikWith once twice lean leaned swings averaged copied firstDiffering change carried firstBar
+unfolding jurikLine jurikWith smooth1 smooth2 jvOf jv priceChange averaged copied firstDiffering change carried firstBar
     recur fromBar magnitudeOf isNan neg add sub mul div ofInt ofBits round eq
 jurik-equal = (refl, refl, refl, refl, refl, refl, refl, refl)
 
@@ -69,17 +70,17 @@ jurik-zeros : (cellsOf (jurikLine 6 3 plusOne) (prices (pos 5 ∷ pos 5 ∷ pos 
     ≡ bits (0 ∷ 0 ∷ 0 ∷ 0x4018000000000000 ∷ 0xc041000000000000 ∷ 0x4053800000000000 ∷ 0xc061400000000000 ∷ []))
     × (cellsOf (jurikLine 5 4 (ofInt binary64 (negsuc 2))) (prices (pos 1 ∷ pos 2 ∷ pos 4 ∷ pos 3 ∷ pos 7 ∷ []))
     ≡ bits (0 ∷ 0 ∷ 0xc013ffffffffffff ∷ 0xc00d555555555556 ∷ 0xc02271c71c71c71c ∷ []))
-unfolding jurikLine jurikWith once twice lean leaned swings averaged copied firstDiffering change carried firstBar
+unfolding jurikLine jurikWith smooth1 smooth2 jvOf jv priceChange averaged copied firstDiffering change carried firstBar
     recur fromBar magnitudeOf isNan neg add sub mul div ofInt ofBits round eq
 jurik-zeros = (refl, refl, refl)
 
 -- one bar; a power that is not finite before a window too long; a window of 0; no bars
-jurik-answers : jurikAnswer (plusZero ∷ []) 4096 half 1 8
-    ∷ jurikAnswer (plusZero ∷ []) 4097 nan 1 8
-    ∷ jurikAnswer (plusZero ∷ []) 4097 half 1 8
-    ∷ jurikAnswer (plusZero ∷ []) 0 half 1 8
-    ∷ jurikAnswer [] 3 half 0 0
+jurik-answers : answeredWith accepted (plusZero ∷ []) (half ∷ []) (longestWindow ∷ []) 1 (8 ∷ [])
+    ∷ answeredWith accepted (plusZero ∷ []) (nan ∷ []) (suc longestWindow ∷ []) 1 (8 ∷ [])
+    ∷ answeredWith accepted (plusZero ∷ []) (half ∷ []) (suc longestWindow ∷ []) 1 (8 ∷ [])
+    ∷ answeredWith accepted (plusZero ∷ []) (half ∷ []) (0 ∷ []) 1 (8 ∷ [])
+    ∷ answeredWith accepted [] (half ∷ []) (3 ∷ []) 0 (0 ∷ [])
     ∷ []
     ≡ Cells 1 ∷ Refused ParameterNotFinite ∷ Refused WindowTooLong ∷ Cells 0 ∷ Cells 0 ∷ []
-unfolding jurikAnswer slices checked accepted finite lt eq le toBits
+unfolding answeredWith slices checked accepted finite lt eq le toBits
 jurik-answers = refl

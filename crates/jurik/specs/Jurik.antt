@@ -1,5 +1,5 @@
 -- jurik_volty: three averaging passes over the sizes of changes, each an average as pandas' ewm(span, adjust = False)
--- takes it. Before each pass the source looks through all bars whether the usable values are equal, and then leaves
+-- takes it. Before each pass the source looks through all bars whether the valid values are equal, and then leaves
 -- them as they are; so it looks ahead. Assumes nothing.
 use mathlib.Core.Bool.{Bool, not, cond, _&&_}
 use mathlib.Core.List.{List, [], _∷_}
@@ -8,8 +8,7 @@ use lib.Dec.{leb}
 use lib.ListN.{length}
 use lib.Ieee.{Float, nan, binary64, add, sub, mul, eq, isNan}
 use Rattle.calls.specs.declared.Answer.{Answer}
-use Rattle.calls.specs.declared.Answer.the-variants.{Cells}
-use Rattle.calls.specs.Answer.{andThen, checked, limited, unlessEmpty}
+use Rattle.calls.specs.Answer.{answeredWith}
 use Rattle.calls.specs.Call.{WorkCall}
 use Rattle.values.specs.Accepted.{accepted}
 use Rattle.cells.specs.Line.{Line, line, plusZero, fromBar}
@@ -22,30 +21,30 @@ use Rattle.averages.specs.Blend.{blend, emaAlpha}
 
 -- ---- a pass, and the test before it
 
--- The exponential average from the first usable value on, which is its first cell; `none` before it.
+-- The exponential average from the first valid value on, which is its first cell; `none` before it.
 unfoldable pub averaged : (Float → Bool) → Float → Float → Line → Line
-averaged usable none alpha f i =
-    let a = firstBar (λ j. usable (f j)) (suc i) in
+averaged valid none alpha f i =
+    let a = firstBar (λ j. valid (f j)) (suc i) in
     carried none (blend alpha) a (f a) f i
 
--- the usable values as they are, and `none` for the others
+-- the valid values as they are, and `none` for the others
 unfoldable pub copied : (Float → Bool) → Float → Line → Line
-copied usable none f i = cond (usable (f i)) (f i) none
+copied valid none f i = cond (valid (f i)) (f i) none
 
 -- a pass copies or averages
 abbrev pub passed : (Float → Bool) → Float → Float → Bool → Line → Line
-passed usable none alpha copy f i = cond copy (copied usable none f i) (averaged usable none alpha f i)
+passed valid none alpha copy f i = cond copy (copied valid none f i) (averaged valid none alpha f i)
 
--- The first of l bars whose value is usable and not equal to the first usable one, and l where there is none. A NaN
--- that is usable is not equal to itself.
+-- The first of l bars whose value is valid and not equal to the first valid one, and l where there is none. A NaN
+-- that is valid is not equal to itself.
 unfoldable pub firstDiffering : (Float → Bool) → ℕ → Line → ℕ
-firstDiffering usable l f =
-    let a = firstBar (λ j. usable (f j)) l in
-    firstBar (λ j. usable (f j) && not (eq (f j) (f a))) l
+firstDiffering valid l f =
+    let a = firstBar (λ j. valid (f j)) l in
+    firstBar (λ j. valid (f j) && not (eq (f j) (f a))) l
 
--- the usable values of l bars are equal
-abbrev pub alike : (Float → Bool) → ℕ → Line → Bool
-alike usable l f = leb l (firstDiffering usable l f)
+-- the valid values of l bars are equal
+abbrev pub allSame : (Float → Bool) → ℕ → Line → Bool
+allSame valid l f = leb l (firstDiffering valid l f)
 
 -- ---- the stages
 
@@ -53,50 +52,44 @@ abbrev pub isNumber : Float → Bool
 isNumber x = not (isNan x)
 
 -- the size of each change; bar 0 has none
-unfoldable pub swings : Line → Line
-swings f = fromBar 1 nan (λ i. magnitudeOf (change plusZero f i))
+unfoldable pub priceChange : Line → Line
+priceChange f = fromBar 1 nan (λ i. magnitudeOf (change plusZero f i))
 
--- the swings passed once with the span n / 2, and twice; each Bool says whether the pass copies
-unfoldable pub once : Bool → ℕ → Line → Line
-once first n f = passed isNumber nan (emaAlpha (n / 2)) first (swings f)
+-- these passed once with the span n / 2, and twice; each Bool says whether the pass copies
+unfoldable pub smooth1 : Bool → ℕ → Line → Line
+smooth1 first n f = passed isNumber nan (emaAlpha (n / 2)) first (priceChange f)
 
-unfoldable pub twice : Bool → Bool → ℕ → Line → Line
-twice first second n f = passed isNumber nan (emaAlpha (n / 2)) second (once first n f)
+unfoldable pub smooth2 : Bool → Bool → ℕ → Line → Line
+smooth2 first second n f = passed isNumber nan (emaAlpha (n / 2)) second (smooth1 first n f)
 
 -- (x + (x - last) · 0.5) · power, and 0.0 where one of the two is no number
-unfoldable pub lean : Float → Float → Float → Float
-lean power last x =
+unfoldable pub jvOf : Float → Float → Float → Float
+jvOf power last x =
     cond (isNumber x && isNumber last)
     (mul binary64 (add binary64 x (mul binary64 (sub binary64 x last) half)) power)
     plusZero
 
 -- of each cell and the one before it, from bar 2 on
-unfoldable pub leaned : Float → Line → Line
-leaned power f = fromBar 2 plusZero (λ i. lean power (f (i - 1)) (f i))
+unfoldable pub jv : Float → Line → Line
+jv power f = fromBar 2 plusZero (λ i. jvOf power (f (i - 1)) (f i))
 
 -- and a last pass with the span n / 3, from the first value that is not 0 on
 unfoldable pub jurikWith : Bool → Bool → Bool → ℕ → Float → Line → Line
 jurikWith first second third n power f =
-    passed nonZero plusZero (emaAlpha (n / 3)) third (leaned power (twice first second n f))
+    passed nonZero plusZero (emaAlpha (n / 3)) third (jv power (smooth2 first second n f))
 
 -- Of l bars: a pass copies where the values that it takes are equal, to the end of the series.
 unfoldable pub jurikLine : ℕ → ℕ → Float → Line → Line
 jurikLine l n power f =
-    let first = alike isNumber l (swings f) in
-    let second = alike isNumber l (once first n f) in
-    let third = alike nonZero l (leaned power (twice first second n f)) in
+    let first = allSame isNumber l (priceChange f) in
+    let second = allSame isNumber l (smooth1 first n f) in
+    let third = allSame nonZero l (jv power (smooth2 first second n f)) in
     jurikWith first second third n power f
 
 -- ---- the call
 
--- refusals 1 to 5, then 6 for the power, 7 for n, and the empty answer
-unfoldable pub jurikAnswer : List Float → ℕ → Float → ℕ → ℕ → Answer
-jurikAnswer s n power output work =
-    andThen (checked accepted (s ∷ []) (output ∷ []) (work ∷ []))
-    (limited (power ∷ []) (n ∷ []) [] (unlessEmpty (length s) (n ∷ []) [] (Cells (length s))))
-
 -- what a call of `jurik_volty` promises
 abbrev pub JurikCall : List Float → ℕ → Float → List Float → List Float → Answer → List Float → List Float → Type 0
 JurikCall s n power out₀ work₀ =
-    WorkCall (jurikAnswer s n power (length out₀) (length work₀)) (jurikLine (length s) n power (line s)) out₀
-    (length s) work₀
+    WorkCall (answeredWith accepted s (power ∷ []) (n ∷ []) (length out₀) (length work₀ ∷ []))
+    (jurikLine (length s) n power (line s)) out₀ (length s) work₀

@@ -3,40 +3,39 @@ pub mod bar;
 pub mod passes;
 
 use calls::Answer;
-use calls::Refusal;
 ghost use mathlib.Core.Path.{_≡_};
 ghost use mathlib.Core.Bool.{true};
 ghost use Prim.Native.Nat.{_<_, _≤_};
 ghost use lib.ListN.{length};
 ghost use Rattle.cells.specs.Line.{line};
 ghost use Rattle.cells.specs.Written.{Writing};
-ghost use Rattle.jurik.specs.Jurik.{isNumber, swings, lean, leaned, jurikLine, jurikAnswer, JurikCall};
-ghost use Rattle.jurik.specs.inner.Passes.{differs, leanAt, Ready, Differing, Leant, BothAverage};
+ghost use Rattle.jurik.specs.Jurik.{isNumber, priceChange, jvOf, jv, jurikLine, JurikCall};
+ghost use Rattle.jurik.specs.inner.Passes.{differs, jvAt, Ready, Differing, JvWritten, BothAverage};
 
 // The size of the change of bar i.
-fn swing_at(close: &[f64], i: usize) -> f64
+fn price_change_at(close: &[f64], i: usize) -> f64
     requires { ⌜ (0 < i) × (i < length (now close)) ⌝ }
-    ensures { λ r. ⌜ r ≡ swings (line (now (close .entry))) i ⌝ }
+    ensures { λ r. ⌜ r ≡ priceChange (line (now (close .entry))) i ⌝ }
 {
     rounding::magnitude(changes::change_at(close, i))
 }
 
 // Writes the size of each change, NaN at bar 0.
-fn write_swings(close: &[f64], out: &mut [f64])
+fn write_price_changes(close: &[f64], out: &mut [f64])
     requires { ⌜ length (now close) ≤ length (now out) ⌝ }
-    ensures { λ _. ⌜ Writing (length (now (close .entry))) (swings (line (now (close .entry)))) (now (out .entry))
+    ensures { λ _. ⌜ Writing (length (now (close .entry))) (priceChange (line (now (close .entry)))) (now (out .entry))
         (now (out .exit)) ⌝ }
 {
     let mut i = cells::fill_nan(out, 1, close.len());
     while i < close.len() {
-        out[i] = swing_at(close, i);
+        out[i] = price_change_at(close, i);
         i += 1;
     }
 }
 
 // (x + (x - last) * 0.5) * power, and 0.0 where one of the two is no number.
-fn leaned_by(power: f64, last: f64, x: f64) -> f64
-    ensures { λ r. ⌜ r ≡ lean power last x ⌝ }
+fn jv_of(power: f64, last: f64, x: f64) -> f64
+    ensures { λ r. ⌜ r ≡ jvOf power last x ⌝ }
 {
     if (x == x) & (last == last) {
         (x + (x - last) * 0.5) * power
@@ -46,27 +45,23 @@ fn leaned_by(power: f64, last: f64, x: f64) -> f64
 }
 
 // That cell from bar 2 on, and 0.0 before.
-fn leaned_at(i: usize, power: f64, last: f64, x: f64) -> f64
-    ensures { λ r. ⌜ r ≡ leanAt i power last x ⌝ }
+fn jv_at(i: usize, power: f64, last: f64, x: f64) -> f64
+    ensures { λ r. ⌜ r ≡ jvAt i power last x ⌝ }
 {
-    if i < 2 {
-        0.0
-    } else {
-        leaned_by(power, last, x)
-    }
+    if i < 2 { 0.0 } else { jv_of(power, last, x) }
 }
 
 // Writes over each value that of itself and the one before it.
-fn lean_on(cells: &mut [f64], bars: usize, power: f64)
+fn write_jv(cells: &mut [f64], bars: usize, power: f64)
     requires { ⌜ bars ≤ length (now cells) ⌝ }
-    ensures { λ _. ⌜ Writing bars (leaned power (line (now (cells .entry)))) (now (cells .entry))
+    ensures { λ _. ⌜ Writing bars (jv power (line (now (cells .entry)))) (now (cells .entry))
         (now (cells .exit)) ⌝ }
 {
     let mut last = 0.0;
     let mut i = 0;
     while i < bars {
         let x = cells[i];
-        cells[i] = leaned_at(i, power, last, x);
+        cells[i] = jv_at(i, power, last, x);
         last = x;
         i += 1;
     }
@@ -81,11 +76,11 @@ fn write_passes(close: &[f64], n: usize, power: f64, out: &mut [f64])
 {
     let bars = close.len();
     let none = bar::no_number();
-    let half = 2.0 / ((n / 2 + 1) as f64);
-    write_swings(close, out);
-    passes::pass(out, bars, false, none, half);
-    passes::pass(out, bars, false, none, half);
-    lean_on(out, bars, power);
+    let alpha1 = 2.0 / ((n / 2 + 1) as f64);
+    write_price_changes(close, out);
+    passes::pass(out, bars, false, none, alpha1);
+    passes::pass(out, bars, false, none, alpha1);
+    write_jv(out, bars, power);
     passes::third_pass(out, bars, n);
 }
 
@@ -93,21 +88,21 @@ fn write_passes(close: &[f64], n: usize, power: f64, out: &mut [f64])
 fn differing(first: f64, x: f64) -> bool
     ensures { λ r. ⌜ r ≡ differs isNumber first x ⌝ }
 {
-    bar::usable(false, x) & (x != first)
+    bar::valid(false, x) & (x != first)
 }
 
 // Whether the first pass averages: some change is of another size than the first.
-fn uneven(close: &[f64]) -> bool
-    ensures { λ r. ⌜ (r ≡ true → Differing (length (now (close .entry))) (swings (line (now (close .entry))))) ⌝ }
+fn changes_differ(close: &[f64]) -> bool
+    ensures { λ r. ⌜ (r ≡ true → Differing (length (now (close .entry))) (priceChange (line (now (close .entry))))) ⌝ }
 {
     let bars = close.len();
     if bars < 2 {
         return false;
     }
-    let first = swing_at(close, 1);
+    let first = price_change_at(close, 1);
     let mut i = 2;
     while i < bars {
-        if bar::usable(false, first) & differing(first, swing_at(close, i)) {
+        if bar::valid(false, first) & differing(first, price_change_at(close, i)) {
             return true;
         }
         i += 1;
@@ -115,38 +110,38 @@ fn uneven(close: &[f64]) -> bool
     false
 }
 
-// Writes the leaned cells where both passes average, and says whether the second one does, if the first does.
+// Writes `jv` where both passes average, and says whether the second one does, if the first does.
 fn average_twice(close: &[f64], alpha: f64, power: f64, out: &mut [f64]) -> bool
     requires { ⌜ (1 < length (now close)) × (length (now close) ≤ length (now out)) ⌝ }
-    ensures { λ r. ⌜ Leant r (length (now (close .entry))) alpha power (swings (line (now (close .entry))))
+    ensures { λ r. ⌜ JvWritten r (length (now (close .entry))) alpha power (priceChange (line (now (close .entry))))
         (now (out .entry)) (now (out .exit)) ⌝ }
 {
     let bars = close.len();
-    let first = swing_at(close, 1);
-    let mut once = first;
-    let mut twice = first;
+    let first = price_change_at(close, 1);
+    let mut smooth1 = first;
+    let mut smooth2 = first;
     let mut differ = false;
     let mut i = cells::fill_lead(out, 2, bars, 0.0);
     while i < bars {
-        let last = twice;
-        once = averages::blend::blended(alpha, once, swing_at(close, i));
-        twice = averages::blend::blended(alpha, twice, once);
-        differ = differ | differing(first, once);
-        out[i] = leaned_by(power, last, twice);
+        let last = smooth2;
+        smooth1 = averages::blend::blended(alpha, smooth1, price_change_at(close, i));
+        smooth2 = averages::blend::blended(alpha, smooth2, smooth1);
+        differ = differ | differing(first, smooth1);
+        out[i] = jv_of(power, last, smooth2);
         i += 1;
     }
     differ
 }
 
-// Writes the leaned cells, if both passes average, and says whether they do.
-fn lean_averages(close: &[f64], n: usize, power: f64, out: &mut [f64]) -> bool
+// Writes `jv`, if both passes average, and says whether they do.
+fn write_averaged_jv(close: &[f64], n: usize, power: f64, out: &mut [f64]) -> bool
     requires { ⌜ Ready n (length (now close)) (length (now out)) ⌝ }
     ensures { λ r. ⌜ BothAverage r n (length (now (close .entry))) power (line (now (close .entry))) (now (out .entry))
         (now (out .exit)) ⌝ }
 {
-    let half = 2.0 / ((n / 2 + 1) as f64);
-    if uneven(close) {
-        average_twice(close, half, power, out)
+    let alpha1 = 2.0 / ((n / 2 + 1) as f64);
+    if changes_differ(close) {
+        average_twice(close, alpha1, power, out)
     } else {
         false
     }
@@ -159,23 +154,11 @@ fn write_jurik(close: &[f64], n: usize, power: f64, out: &mut [f64])
         (jurikLine (length (now (close .entry))) n power (line (now (close .entry)))) (now (out .entry))
         (now (out .exit)) ⌝ }
 {
-    if lean_averages(close, n, power, out) {
+    if write_averaged_jv(close, n, power, out) {
         passes::third_pass(out, close.len(), n);
     } else {
         write_passes(close, n, power, out);
     }
-}
-
-// The answer of a call: refusal 6 for the power comes after the series' own refusals, and before those of the window.
-fn answer_jurik(close: &[f64], n: usize, power: f64, out: usize, work: usize) -> Answer
-    ensures { λ r. ⌜ r ≡ jurikAnswer (now (close .entry)) n power out work ⌝ }
-{
-    let due = checks::check_with_work(close, out, work);
-    let bars = close.len();
-    let window = checks::check_window(bars, n, Answer::Cells(bars));
-    let finite = values::is_finite(power);
-    let next = checks::unless_refused(finite, Refusal::ParameterNotFinite, window);
-    checks::and_then(due, next)
 }
 
 // The volatility smoothed three times: see `jurikLine`.
@@ -189,7 +172,7 @@ pub fn jurik_volty(
     ensures { λ r. ⌜ JurikCall (now (close .entry)) period power (now (out .entry)) (now (work .entry)) r
         (now (out .exit)) (now (work .exit)) ⌝ }
 {
-    let due = answer_jurik(close, period, power, out.len(), work.len());
+    let due = checks::answer_numbers_and_window(close, &[power], period, out.len(), work.len());
     if checks::cells_due(due, close.len(), work) {
         write_jurik(close, period, power, out);
         cells::clear(work, 8 * close.len());

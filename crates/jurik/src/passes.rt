@@ -8,29 +8,29 @@ ghost use Rattle.cells.specs.Written.{Writing};
 ghost use Rattle.cells.specs.Recur.{carried};
 ghost use Rattle.averages.specs.Blend.{blend, emaAlpha};
 ghost use Rattle.jurik.specs.Jurik.{copied};
-ghost use Rattle.jurik.specs.inner.Passes.{usableBy, noneBy, tested, Ready};
+ghost use Rattle.jurik.specs.inner.Passes.{validBy, noneBy, tested, Ready};
 
 // Writes 0.0 over every zero.
-fn keep_nonzero(cells: &mut [f64], bars: usize)
+fn copy_nonzero(cells: &mut [f64], bars: usize)
     requires { ⌜ bars ≤ length (now cells) ⌝ }
     ensures { λ _. ⌜ Writing bars (copied nonZero plusZero (line (now (cells .entry)))) (now (cells .entry))
         (now (cells .exit)) ⌝ }
 {
     let mut i = 0;
     while i < bars {
-        cells[i] = crate::bar::kept(cells[i]);
+        cells[i] = crate::bar::copied_nonzero(cells[i]);
         i += 1;
     }
 }
 
 // Copies the values where they stand: numbers stay as they are, and of values other than 0 a zero becomes 0.0.
-fn copy_usable(cells: &mut [f64], bars: usize, not_zero: bool)
+fn copy_valid(cells: &mut [f64], bars: usize, not_zero: bool)
     requires { ⌜ bars ≤ length (now cells) ⌝ }
-    ensures { λ _. ⌜ Writing bars (copied (usableBy «not_zero») (noneBy «not_zero») (line (now (cells .entry))))
+    ensures { λ _. ⌜ Writing bars (copied (validBy «not_zero») (noneBy «not_zero») (line (now (cells .entry))))
         (now (cells .entry)) (now (cells .exit)) ⌝ }
 {
     if not_zero {
-        keep_nonzero(cells, bars);
+        copy_nonzero(cells, bars);
     }
 }
 
@@ -51,17 +51,17 @@ fn average_from(cells: &mut [f64], bars: usize, first: usize, none: f64, alpha: 
     cells[i] = last;
 }
 
-// A pass over the first bars: the average, or the usable values as they are where all of them are equal.
+// A pass over the first bars: the average, or the valid values as they are where all of them are equal.
 pub fn pass(cells: &mut [f64], bars: usize, not_zero: bool, none: f64, alpha: f64)
     requires { ⌜ (bars ≤ length (now cells)) × (none ≡ noneBy «not_zero») ⌝ }
-    ensures { λ _. ⌜ Writing bars (tested (usableBy «not_zero») none alpha bars (line (now (cells .entry))))
+    ensures { λ _. ⌜ Writing bars (tested (validBy «not_zero») none alpha bars (line (now (cells .entry))))
         (now (cells .entry)) (now (cells .exit)) ⌝ }
 {
-    let first = crate::bar::first_usable(cells, bars, not_zero);
-    if crate::bar::unlike(cells, bars, not_zero, first) {
-        average_from(cells, bars, first, none, alpha);
+    let first = crate::bar::first_valid(cells, bars, not_zero);
+    if crate::bar::all_same(cells, bars, not_zero, first) {
+        copy_valid(cells, bars, not_zero);
     } else {
-        copy_usable(cells, bars, not_zero);
+        average_from(cells, bars, first, none, alpha);
     }
 }
 
@@ -71,6 +71,6 @@ pub fn third_pass(cells: &mut [f64], bars: usize, n: usize)
     ensures { λ _. ⌜ Writing bars (tested nonZero plusZero (emaAlpha (n / 3)) bars (line (now (cells .entry))))
         (now (cells .entry)) (now (cells .exit)) ⌝ }
 {
-    let third = 2.0 / ((n / 3 + 1) as f64);
-    pass(cells, bars, true, 0.0, third);
+    let alpha3 = 2.0 / ((n / 3 + 1) as f64);
+    pass(cells, bars, true, 0.0, alpha3);
 }

@@ -17,10 +17,10 @@ use Rattle.cells.specs.Line.{Line, plusZero}
 use Rattle.cells.proofs.Line.{from-bar, before-bar}
 use Rattle.windows.proofs.Window.{mean-of}
 use Rattle.windows.specs.Window.{windowSum, over, mean}
-use Rattle.windows.specs.inner.Runs.{runs}
-use Rattle.windows.specs.inner.Means.{runMeans}
+use Rattle.windows.specs.inner.RunningSums.{runningSums}
+use Rattle.windows.specs.inner.Means.{runningMeans}
 use Rattle.windows.proofs.Means.{zero-over}
-use Rattle.margins.proofs.Relative.{off-near, apart-near, near-apart, size-by, div-off, widest, mostBars}
+use Rattle.margins.proofs.Relative.{off-near, apart-near, near-apart, size-by, div-off, widest, longestSummed}
 use Rattle.margins.proofs.Sums.{
   Small,
   Windowed,
@@ -87,7 +87,7 @@ quotient-size x q n m N a c =
 -- ---- averages of sums that stand for a window's
 
 module _ {m n l : ℕ} {f : Line} (w : Windowed m n l f) {i c : ℕ} {x : Float} (r : Carried m n f i c x) (b : n ≤ i)
-    (h : i ≤ l) (C : c ≤ mostBars) where
+    (h : i ≤ l) (C : c ≤ longestSummed) where
   share : Number binary64 (over n x)
       × (natAbs (signedUnits binary64 (over n x) *ℤ pos n -ℤ signedUnits binary64 x) * 2 ^ 53
       ≤ 2 * (n * m) + n * 2 ^ 52)
@@ -114,7 +114,7 @@ spread m d = m * (2 ^ 18 + 4) + 2 ^ 53 + d
 -- g made afresh.
 module _ {m n l : ℕ} {g h : Line} (w : Windowed m n l g) (v : Windowed m n l h) (d : ℕ)
     (D : (j : ℕ) → j < l → natAbs (signedUnits binary64 (h j) -ℤ signedUnits binary64 (g j)) * 2 ^ 53 ≤ d) where
-  pub average-near : {c : ℕ} {y : Float} (i : ℕ) → Carried m n h (i + 1) c y → n ≤ i + 1 → i < l → n + c ≤ mostBars
+  pub average-near : {c : ℕ} {y : Float} (i : ℕ) → Carried m n h (i + 1) c y → n ≤ i + 1 → i < l → n + c ≤ longestSummed
       → natAbs (signedUnits binary64 (over n y) -ℤ signedUnits binary64 (over n (windowSum n g i))) * 2 ^ 53
       ≤ spread m d
   average-near {c} {y} i r b H L =
@@ -141,26 +141,27 @@ module _ {m n l : ℕ} {g h : Line} (w : Windowed m n l g) (v : Windowed m n l h
 
 -- ---- a mean at every bar
 
-module _ {m n l : ℕ} {f : Line} (w : Windowed m n l f) (B : l ≤ mostBars) where
+module _ {m n l : ℕ} {f : Line} (w : Windowed m n l f) (B : l ≤ longestSummed) where
   -- the running sum at bar i
-  pub run-carried : (i : ℕ) → n ≤ i + 1 → i < l → Carried m n f (i + 1) (i + 1 - n) (runs n f i)
-  unfolding runs
-  run-carried i b h =
+  pub running-sum-carried : (i : ℕ) → n ≤ i + 1 → i < l → Carried m n f (i + 1) (i + 1 - n) (runningSums n f i)
+  unfolding runningSums
+  running-sum-carried i b h =
       let bar : n + (i + 1 - n) ≡ i + 1 = omega arith in
       let r = running w (i + 1 - n) (omega arith) (omega arith) in
       rw (from-bar (n - 1) plusZero _ i (omega arith)) (rw bar at r)
 
 -- before the first whole window a running sum and a mean are 0.0
-before : (n i : ℕ) (g h : Line) → i < n - 1 → (runs n h i ≡ plusZero) × (mean n g i ≡ plusZero)
-unfolding runs mean
+before : (n i : ℕ) (g h : Line) → i < n - 1 → (runningSums n h i ≡ plusZero) × (mean n g i ≡ plusZero)
+unfolding runningSums mean
 before n i g h l = (before-bar (n - 1) plusZero _ i l, before-bar (n - 1) plusZero _ i l)
 
 -- what holds of 0.0 and of the averages of whole windows holds of both means at every bar
 at-every-bar : (P : Float → Float → Type 0) (n i : ℕ) (g h : Line) → 0 < n → n ≤ widest → P plusZero plusZero
-    → (n ≤ i + 1 → P (over n (runs n h i)) (over n (windowSum n g i))) → P (over n (runs n h i)) (mean n g i)
+    → (n ≤ i + 1 → P (over n (runningSums n h i)) (over n (windowSum n g i)))
+    → P (over n (runningSums n h i)) (mean n g i)
 at-every-bar P n i g h N M z a = go (ltb i (n - 1)) (ltb→lt i (n - 1)) (nltb→le i (n - 1))
   where
-    go : (t : Bool) → (T t → i < n - 1) → (T (not t) → n - 1 ≤ i) → P (over n (runs n h i)) (mean n g i)
+    go : (t : Bool) → (T t → i < n - 1) → (T (not t) → n - 1 ≤ i) → P (over n (runningSums n h i)) (mean n g i)
     go true p q = let zero = before n i g h (p tt) in rw (zero .0, zero .1, zero-over n N (omega arith)) z
     go false p q =
         let l = q tt in
@@ -168,16 +169,16 @@ at-every-bar P n i g h N M z a = go (ltb i (n - 1)) (ltb→lt i (n - 1)) (nltb�
         rw (← mean-of n i g refl full) (a full)
 
 -- both means are small
-module _ {m n l : ℕ} {g h : Line} (w : Windowed m n l g) (v : Windowed m n l h) (B : l ≤ mostBars) (m' : ℕ)
+module _ {m n l : ℕ} {g h : Line} (w : Windowed m n l g) (v : Windowed m n l h) (B : l ≤ longestSummed) (m' : ℕ)
     (M : m * (2 ^ 33 + 1) + 2 ^ 33 ≤ m' * 2 ^ 33) where
   both-small : (i : ℕ) → i < l
       → let small : Float → Type 0 = λ x. Number binary64 x × (natAbs (signedUnits binary64 x) ≤ m') in
-      small (over n (runs n h i)) × small (mean n g i)
+      small (over n (runningSums n h i)) × small (mean n g i)
   both-small i H =
       let small : Float → Type 0 = λ x. Number binary64 x × (natAbs (signedUnits binary64 x) ≤ m') in
       let zero : small plusZero = (zero-number, rw zero-units (omega arith)) in
       at-every-bar (λ x y. small x × small y) n i g h (w .some) (w .narrow) (zero, zero)
-      (λ b. let r = run-carried v B i b H in
+      (λ b. let r = running-sum-carried v B i b H in
       let o = fresh w i b H in (
         (average-number v r b (omega arith) (omega arith), fewer (average-size v r b (omega arith) (omega arith))),
         (average-number w o b (omega arith) (omega arith), fewer (average-size w o b (omega arith) (omega arith))),
@@ -186,19 +187,19 @@ module _ {m n l : ℕ} {g h : Line} (w : Windowed m n l g) (v : Windowed m n l h
       fewer : {k : ℕ} → k * 2 ^ 33 ≤ m * (2 ^ 33 + 1) + 2 ^ 33 → k ≤ m'
       fewer h = le-of-mul-le-mul-right {k = 2 ^ 33} (le-trans h M) (pow-pos 33)
 
-  pub run-means-small : Small m' l (runMeans n h)
-  run-means-small = record { number = λ i H. both-small i H .0 .0; size = λ i H. both-small i H .0 .1 }
+  pub running-means-small : Small m' l (runningMeans n h)
+  running-means-small = record { number = λ i H. both-small i H .0 .0; size = λ i H. both-small i H .0 .1 }
 
   pub means-small : Small m' l (mean n g)
   means-small = record { number = λ i H. both-small i H .1 .0; size = λ i H. both-small i H .1 .1 }
 
 -- and close to each other
-module _ {m n l : ℕ} {g h : Line} (w : Windowed m n l g) (v : Windowed m n l h) (B : l ≤ mostBars) where
-  pub run-means-near : (d : ℕ)
+module _ {m n l : ℕ} {g h : Line} (w : Windowed m n l g) (v : Windowed m n l h) (B : l ≤ longestSummed) where
+  pub running-means-near : (d : ℕ)
       → ((j : ℕ) → j < l → natAbs (signedUnits binary64 (h j) -ℤ signedUnits binary64 (g j)) * 2 ^ 53 ≤ d)
       → (i : ℕ) → i < l
-      → natAbs (signedUnits binary64 (runMeans n h i) -ℤ signedUnits binary64 (mean n g i)) * 2 ^ 53 ≤ spread m d
-  run-means-near d D i H =
+      → natAbs (signedUnits binary64 (runningMeans n h i) -ℤ signedUnits binary64 (mean n g i)) * 2 ^ 53 ≤ spread m d
+  running-means-near d D i H =
       at-every-bar (λ x y. natAbs (signedUnits binary64 x -ℤ signedUnits binary64 y) * 2 ^ 53 ≤ spread m d) n i g h
       (w .some) (w .narrow) (rw zero-units (omega arith))
-      (λ b. average-near w v d D i (run-carried v B i b H) b H (omega arith))
+      (λ b. average-near w v d D i (running-sum-carried v B i b H) b H (omega arith))

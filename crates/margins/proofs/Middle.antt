@@ -33,14 +33,14 @@ use Rattle.cells.specs.Line.{Line, line, plusZero}
 use Rattle.cells.proofs.Line.{from-bar}
 use Rattle.windows.specs.Window.{mean}
 use Rattle.extremes.specs.Extreme.{larger, smaller, pickOf, pickFrom, extreme}
-use Rattle.windows.specs.inner.Means.{runMeans}
+use Rattle.windows.specs.inner.Means.{runningMeans}
 use Rattle.margins.specs.inner.Margin.{largestOf, marginOf, farFromMiddle}
 use Rattle.margins.proofs.Relative.{apart-near, size-by, rounds-off, add-rounds, div-off, roof}
 use Rattle.margins.proofs.Means.{spread}
 use Rattle.margins.proofs.Shares.{Close}
 use Rattle.margins.proofs.Signs.{near-signs, near-some}
 use Rattle.margins.proofs.Bound.{room-for, margin-wide}
-use Rattle.margins.proofs.Twice.{known, runs-small, means-windowed, once-near}
+use Rattle.margins.proofs.Twice.{known, running-windowed, means-windowed, once-near}
 
 -- ---- near lines have near extremes
 
@@ -250,9 +250,9 @@ module _ (s : List Float) (n : ℕ) (ok : all accepted s ≡ true) (floats : (j 
   m = inUnits binary64 most
 
   means-close : (i : ℕ) → i < length s
-      → Close (3 * m + 1) (8 * spread m 0) (runMeans n (line s) i) (mean n (line s) i)
+      → Close (3 * m + 1) (8 * spread m 0) (runningMeans n (line s) i) (mean n (line s) i)
   means-close i h =
-      let a = runs-small s n ok floats w B .small in
+      let a = running-windowed s n ok floats w B .small in
       let b = means-windowed s n ok floats w B .small in
       let c = once-near s n ok floats w B i h in
       record {
@@ -265,7 +265,7 @@ module _ (s : List Float) (n : ℕ) (ok : all accepted s ≡ true) (floats : (j 
 
   -- where mean and middle are farther apart than the margin, and so are each of highest and lowest and 0
   pub decided-middle : (i : ℕ) → n ≤ i + 1 → i < length s
-      → let g = runMeans n (line s) in
+      → let g = runningMeans n (line s) in
       let g' = mean n (line s) in
       let high = extreme larger n g i in
       let high' = extreme larger n g' i in
@@ -280,12 +280,12 @@ module _ (s : List Float) (n : ℕ) (ok : all accepted s ≡ true) (floats : (j 
       let (apart, both) = and-parts (lt (marginOf most) _) _ e in
       let (high-some, low-some) = and-parts (lt (marginOf most) _) _ both in
       let (u, g, k) = margin-wide (known s n ok floats w B .plus) (known s n ok floats w B .low) in
-      let r = room-for m n (known s n ok floats w B .low) (w .narrow) in
+      let r = room-for m n (known s n ok floats w B .low) (omega (arith, w .narrow)) in
       let one = mul-le-mul-right (m + 1) (w .some) in
       let close = means-close i h in
-      let high = extreme-close true n (runMeans n (line s)) (mean n (line s)) i (w .some) full
+      let high = extreme-close true n (runningMeans n (line s)) (mean n (line s)) i (w .some) full
       (λ j l. means-close j (omega arith)) in
-      let low = extreme-close false n (runMeans n (line s)) (mean n (line s)) i (w .some) full
+      let low = extreme-close false n (runningMeans n (line s)) (mean n (line s)) i (w .some) full
       (λ j l. means-close j (omega arith)) in
       let half = middle-close high low (omega arith) in (
         near-signs g (close .first) (close .second) (half .first) (half .second)

@@ -53,13 +53,18 @@ pub use Rattle.rounding_laws.proofs.About.{Rounds, add-rounds, sub-rounds}
 use Rattle.rounding_laws.proofs.About.{signed-back, near-over}
 use Rattle.rounding_laws.proofs.Error.{places, grid-near, grid-range, grid-relative}
 
--- ---- how far the laws of running sums reach: a window's cells, and a series' bars
+-- ---- how far the laws of running sums reach
 
+-- Bounds of their own: a running sum is off by more with each bar and with each cell of its window, and the margin is
+-- wide enough up to these numbers. The limits of a call are no larger; a smaller limit leaves the laws as they are.
+
+-- the cells of a window
 abbrev pub widest : ℕ
 widest = 4096
 
-abbrev pub mostBars : ℕ
-mostBars = 65536
+-- the bars of a series
+abbrev pub longestSummed : ℕ
+longestSummed = 65536
 
 -- ---- a fraction rounded
 

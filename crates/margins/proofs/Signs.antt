@@ -11,7 +11,7 @@ use lib.Ieee.{Float, nan, inf, fin, binary64, sub, lt, eq, fits}
 use Rattle.rounding.specs.Leaves.{one, negative, magnitudeOf, signOf}
 use Rattle.rounding.specs.Nearest.{inUnits, signedUnits, Number}
 use Rattle.rounding.specs.Whole.{isNegative}
-use Rattle.rounding_laws.proofs.Integers.{above, below, Near, near-abs, abs-near, abs-minus, parts-minus, parts-less}
+use Rattle.rounding_laws.proofs.Integers.{above, below, Near, near-abs, abs-same, abs-minus, parts-minus, parts-less}
 use Rattle.rounding_laws.proofs.Value.{not-zero}
 use Rattle.rounding_laws.proofs.Units.{worth, worth-zero, abs-units}
 use Rattle.rounding_laws.proofs.About.{number-lt}
@@ -99,7 +99,7 @@ module _ {u : ℕ} {t q q' : Float} (m : Margin u t) (b : Number binary64 q) (b'
       → lt t (magnitudeOf (sub binary64 p q)) ≡ true → signOf (sub binary64 p q) ≡ signOf (sub binary64 p q')
   near-sign {p} a r e =
       let x = signedUnits binary64 p in
-      let none = abs-near x x {e = 0} (omega arith) in
+      let none = abs-same x in
       near-signs m a a b b' (omega arith) r e
 
   -- beyond the margin neither is 0

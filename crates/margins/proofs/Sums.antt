@@ -24,7 +24,7 @@ use Rattle.margins.proofs.Relative.{
   size-by,
   roof,
   widest,
-  mostBars,
+  longestSummed,
 }
 
 -- the first l cells of f are numbers of at most m units
@@ -66,13 +66,13 @@ module _ {m l : ℕ} {f : Line} (w : Small m l f) (q : ℕ) (Q : q < roof) where
       let t = rw e at (window-units (k + 1) n (omega arith)) in
       rw e (add-off q s d (omega arith) Q)
 
--- ---- windows of 1 to `widest` cells, on at most `mostBars` bars
+-- ---- windows of 1 to `widest` cells, on at most `longestSummed` bars
 
 -- what c steps are off by, in parts of 2 ^ 53 of a unit: twice the largest sum, n * m, bounds every sum on the way
 abbrev pub slack : ℕ → ℕ → ℕ → ℕ
 slack m n c = n * (2 * (n * m)) + c * (2 * m + 2 * (n * m))
 
-roomy : (m n c : ℕ) → 0 < n → n ≤ widest → c ≤ mostBars → n * m * 2 ^ 53 + slack m n c ≤ 2 * (n * m) * 2 ^ 53
+roomy : (m n c : ℕ) → 0 < n → n ≤ widest → c ≤ longestSummed → n * m * 2 ^ 53 + slack m n c ≤ 2 * (n * m) * 2 ^ 53
 roomy m n c N M C =
     let a = mul-le-mul-right (n * m) M in
     let b = mul-le-mul-right (n * m) C in
@@ -81,7 +81,7 @@ roomy m n c N M C =
     omega arith
 
 -- with those of a sum afresh: 2 ^ 18 · n · m at most
-pub slacks : (m n c : ℕ) → 0 < n → n ≤ widest → n + c ≤ mostBars → slack m n c + slack m n 0 ≤ n * m * 2 ^ 18
+pub slacks : (m n c : ℕ) → 0 < n → n ≤ widest → n + c ≤ longestSummed → slack m n c + slack m n 0 ≤ n * m * 2 ^ 18
 slacks m zero c N M C = absurd (not-suc-le-zero N)
 slacks m (suc p) c N M C =
     let a = mul-le-mul-right m C in
@@ -89,7 +89,7 @@ slacks m (suc p) c N M C =
     let d = mul-le-mul-right (p * m) M in
     omega arith
 
-slack-most : (m n c : ℕ) → 0 < n → n ≤ widest → c ≤ mostBars → slack m n c ≤ n * m * 2 ^ 19
+slack-most : (m n c : ℕ) → 0 < n → n ≤ widest → c ≤ longestSummed → slack m n c ≤ n * m * 2 ^ 19
 slack-most m n c N M C =
     let a = mul-le-mul-right (n * m) M in
     let b = mul-le-mul-right (n * m) C in
@@ -121,7 +121,7 @@ module _ {m n l : ℕ} {f : Line} (w : Windowed m n l f) where
   }
 
   -- bar i comes in, and bar i - n goes out
-  pub carry : {i c : ℕ} {x : Float} → Carried m n f i c x → n ≤ i → i < l → c < mostBars
+  pub carry : {i c : ℕ} {x : Float} → Carried m n f i c x → n ≤ i → i < l → c < longestSummed
       → Carried m n f (i + 1) (c + 1) (addDifference x (f i) (f (i - n)))
   carry {i} {c} {x} r b h C =
       let start : i + 1 - n ≡ i - n + 1 = omega arith in
@@ -132,7 +132,7 @@ module _ {m n l : ℕ} {f : Line} (w : Windowed m n l f) where
       record { off = rw start (off-weaken (slack m n (c + 1)) (rw bar at s) (omega arith)) }
 
   -- so the running sum of the definitions is carried
-  pub running : (k : ℕ) → n + k ≤ l → k ≤ mostBars → Carried m n f (n + k) k (runningSum addDifference n f k)
+  pub running : (k : ℕ) → n + k ≤ l → k ≤ longestSummed → Carried m n f (n + k) k (runningSum addDifference n f k)
   unfolding runningSum recur windowSum
   running zero h K =
       let N = w .some in
@@ -147,14 +147,14 @@ module _ {m n l : ℕ} {f : Line} (w : Windowed m n l f) where
       rw (suc-eq-add-one k) (rw (out, bar) at r)
 
   -- the sizes of such sums
-  pub carried-size : {i c : ℕ} {x : Float} → Carried m n f i c x → n ≤ i → i ≤ l → c ≤ mostBars
+  pub carried-size : {i c : ℕ} {x : Float} → Carried m n f i c x → n ≤ i → i ≤ l → c ≤ longestSummed
       → natAbs (signedUnits binary64 x) ≤ 2 * (n * m)
   carried-size {i} {c} r b h C =
       let t = window-units (w .small) (2 * (n * m)) (w .room) (i - n) n (omega arith) in
       off-size (2 * (n * m)) (r .off) (omega (arith, roomy m n c (w .some) (w .narrow) C))
 
   -- which is hardly more than n * m
-  pub carried-most : {i c : ℕ} {x : Float} → Carried m n f i c x → n ≤ i → i ≤ l → c ≤ mostBars
+  pub carried-most : {i c : ℕ} {x : Float} → Carried m n f i c x → n ≤ i → i ≤ l → c ≤ longestSummed
       → natAbs (signedUnits binary64 x) * 2 ^ 53 ≤ n * m * (2 ^ 53 + 2 ^ 19)
   carried-most {i} {c} {x} r b h C =
       let v = signedUnits binary64 x in

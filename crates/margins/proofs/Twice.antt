@@ -6,22 +6,22 @@ use Prim.Native.Nat.{ℕ, _+_, _*_, _^_, _<_, _≤_}
 use native.Mathlib.Nat.{le-refl, le-trans, mul-le-mul-left, mul-le-mul-right}
 use native.Mathlib.Omega.{arith}
 use lib.Dec.{T}
-use lib.IntN.{ℤ, natAbs, _-ℤ_}
+use lib.IntN.{natAbs, _-ℤ_}
 use lib.ListN.{length}
 use lib.Ieee.{Float, binary64, sub, lt, eq, fits}
 use Rattle.rounding.specs.Leaves.{signOf}
 use Rattle.rounding.specs.Nearest.{inUnits, signedUnits}
-use Rattle.rounding_laws.proofs.Integers.{abs-near}
+use Rattle.rounding_laws.proofs.Integers.{abs-same}
 use Rattle.limits.specs.Limits.{Window, longestSeries}
 use Rattle.values.specs.Accepted.{accepted, all}
 use Rattle.values.proofs.All.{and-parts}
 use Rattle.cells.specs.Line.{line, plusZero}
 use Rattle.windows.specs.Window.{mean}
-use Rattle.windows.specs.inner.Means.{runMeans}
+use Rattle.windows.specs.inner.Means.{runningMeans}
 use Rattle.margins.specs.inner.Margin.{largestOf, marginOf, far}
-use Rattle.margins.proofs.Relative.{roof}
+use Rattle.margins.proofs.Relative.{roof, widest, longestSummed}
 use Rattle.margins.proofs.Sums.{Windowed}
-use Rattle.margins.proofs.Means.{spread, run-means-small, means-small, run-means-near}
+use Rattle.margins.proofs.Means.{spread, running-means-small, means-small, running-means-near}
 use Rattle.margins.proofs.Signs.{near-sign, near-some}
 use Rattle.margins.proofs.Bound.{Largest, largest-is, room-for, margin-wide}
 
@@ -50,52 +50,56 @@ module _ (s : List Float) (n : ℕ) (ok : all accepted s ≡ true) (floats : (j 
   pub known : Largest (line s) (length s) most
   known = largest-is s ok floats (length s) (le-refl _)
 
+  -- the laws of running sums reach as far as the limits
+  narrow : n ≤ widest
+  narrow = omega (arith, w .narrow)
+
+  short : length s ≤ longestSummed
+  short = omega (arith, B)
+
   pub prices : Windowed m n (length s) (line s)
   prices =
-      let r = room-for m n (known .low) (w .narrow) in
+      let r = room-for m n (known .low) narrow in
       let k : m ≤ m + 1 = omega arith in
-      record { small = known .small; some = w .some; narrow = w .narrow; room = omega (arith, mul-le-mul-left n k) }
+      record { small = known .small; some = w .some; narrow = narrow; room = omega (arith, mul-le-mul-left n k) }
 
   room-twice : 2 * (n * (3 * m + 1)) < roof
   room-twice =
-      let r = room-for m n (known .low) (w .narrow) in
+      let r = room-for m n (known .low) narrow in
       let k : 3 * m + 1 ≤ 3 * (m + 1) = omega arith in
       omega (arith, mul-le-mul-left n k)
 
-  pub runs-small : Windowed (3 * m + 1) n (length s) (runMeans n (line s))
-  runs-small = record {
-    small = run-means-small prices prices B (3 * m + 1) (thrice m);
+  pub running-windowed : Windowed (3 * m + 1) n (length s) (runningMeans n (line s))
+  running-windowed = record {
+    small = running-means-small prices prices short (3 * m + 1) (thrice m);
     some = w .some;
-    narrow = w .narrow;
+    narrow = narrow;
     room = room-twice;
   }
 
   pub means-windowed : Windowed (3 * m + 1) n (length s) (mean n (line s))
   means-windowed = record {
-    small = means-small prices prices B (3 * m + 1) (thrice m);
+    small = means-small prices prices short (3 * m + 1) (thrice m);
     some = w .some;
-    narrow = w .narrow;
+    narrow = narrow;
     room = room-twice;
   }
 
   -- the means are close
   pub once-near : (i : ℕ) → i < length s
-      → natAbs (signedUnits binary64 (runMeans n (line s) i) -ℤ signedUnits binary64 (mean n (line s) i)) * 2 ^ 53
+      → natAbs (signedUnits binary64 (runningMeans n (line s) i) -ℤ signedUnits binary64 (mean n (line s) i)) * 2 ^ 53
       ≤ spread m 0
-  once-near = run-means-near prices prices B 0 (λ j l. same (signedUnits binary64 (line s j)))
-    where
-      same : (z : ℤ) → natAbs (z -ℤ z) * 2 ^ 53 ≤ 0
-      same z = let e = abs-near z z {e = 0} (omega arith) in omega arith
+  once-near = running-means-near prices prices short 0 (λ j l. omega (arith, abs-same (signedUnits binary64 (line s j))))
 
   -- the law: so are their averages
   twice-near : (i : ℕ) → i < length s
-      → natAbs (signedUnits binary64 (runMeans n (runMeans n (line s)) i)
+      → natAbs (signedUnits binary64 (runningMeans n (runningMeans n (line s)) i)
       -ℤ signedUnits binary64 (mean n (mean n (line s)) i)) * 2 ^ 53 ≤ spread (3 * m + 1) (spread m 0)
-  twice-near = run-means-near means-windowed runs-small B (spread m 0) once-near
+  twice-near = running-means-near means-windowed running-windowed short (spread m 0) once-near
 
   -- where price and average are farther apart than the margin, and the average and 0
   pub decided-twice : (i : ℕ) → i < length s
-      → let q = runMeans n (runMeans n (line s)) i in
+      → let q = runningMeans n (runningMeans n (line s)) i in
       let q' = mean n (mean n (line s)) i in
       far (marginOf most) (line s i) q ≡ true
       → (signOf (sub binary64 (line s i) q) ≡ signOf (sub binary64 (line s i) q'))
@@ -103,15 +107,15 @@ module _ (s : List Float) (n : ℕ) (ok : all accepted s ≡ true) (floats : (j 
   decided-twice i h e =
       let (apart, some) = and-parts (lt (marginOf most) _) (lt (marginOf most) _) e in
       let (u, g, k) = margin-wide (known .plus) (known .low) in
-      let a = run-means-small means-windowed runs-small B (3 * (3 * m + 1) + 1) (thrice (3 * m + 1)) in
-      let b = means-small means-windowed runs-small B (3 * (3 * m + 1) + 1) (thrice (3 * m + 1)) in
+      let a = running-means-small means-windowed running-windowed short (3 * (3 * m + 1) + 1) (thrice (3 * m + 1)) in
+      let b = means-small means-windowed running-windowed short (3 * (3 * m + 1) + 1) (thrice (3 * m + 1)) in
       let near = twice-near i h in
       let size = a .size i h in
       let price = known .small .size i h in
       let N = w .some in
-      let r = room-for m n (known .low) (w .narrow) in
+      let r = room-for m n (known .low) narrow in
       let one : m + 1 ≤ n * (m + 1) = omega (arith, mul-le-mul-right (m + 1) N) in
-      let half : natAbs (signedUnits binary64 (runMeans n (runMeans n (line s)) i)
+      let half : natAbs (signedUnits binary64 (runningMeans n (runningMeans n (line s)) i)
       -ℤ signedUnits binary64 (mean n (mean n (line s)) i)) * 2 ≤ u = omega (arith, wide-enough m u k) in
       let zeros = near-some g (a .number i h) (b .number i h) half some in (
         near-sign g (a .number i h) (b .number i h) half (known .small .number i h) (omega arith) apart,

@@ -18,11 +18,17 @@ fn largest(series: &[f64]) -> f64
     most
 }
 
-// How far price and average have to be apart: 2^-31 of the largest price, and 2^-1000 more.
+// The share of the largest price in the margin, 2^-31: above the error of two averages by running sums.
+const MARGIN_SHARE: f64 = 4.656612873077393e-10;
+
+// What is added to it, 2^-1000: prices among the smallest numbers have errors of whole units.
+const MARGIN_LEAST: f64 = 9.332636185032189e-302;
+
+// How far price and average have to be apart.
 pub fn margin(series: &[f64]) -> f64
     ensures { λ r. ⌜ r ≡ marginOf (largestOf (line (now (series .entry))) (length (now (series .entry)))) ⌝ }
 {
-    largest(series) * 4.656612873077393e-10 + 9.332636185032189e-302
+    largest(series) * MARGIN_SHARE + MARGIN_LEAST
 }
 
 // Whether price and average, and average and 0, are farther apart than d.

@@ -55,9 +55,9 @@ module _ (high low close : List Float) (n m k out work : ℕ) where
         lows = p .0 .second;
         closes = p .0 .third;
         values = p .0 .values;
-        short = a .each .0;
-        medium = a .each .1 .0;
-        long = a .each .1 .1 .0;
+        short-window = a .each .0;
+        medium-window = a .each .1 .0;
+        long-window = a .each .1 .1 .0;
         out-long = p .0 .out-long;
         work-long = p .0 .work-long .0;
       }
@@ -85,4 +85,5 @@ oscillator-cells high low close {n} {m} {k} r x y z rows h w =
     writing-same (from-rows n m k (length high) _ _ rows h w)
     (λ i l.
     shares-either _ _ i (λ j s. either-pressures hs ls cs j (omega arith))
-    (λ j s. either-ranges hs ls cs j (omega arith)) n m k (r .short .some, r .medium .some, r .long .some))
+    (λ j s. either-ranges hs ls cs j (omega arith)) n m k
+    (r .short-window .some, r .medium-window .some, r .long-window .some))

@@ -4,7 +4,7 @@ use mathlib.Core.List.{List}
 use Prim.Native.Nat.{ℕ, _+_, _-_, _*_, _<_, _≤_, max}
 use native.Mathlib.Nat.{le-refl}
 use native.Mathlib.Omega.{arith}
-use lib.ListN.{length, take, length-take}
+use lib.ListN.{length}
 use lib.Ieee.{Float, nan}
 use Rattle.cells.specs.Line.{Line, line, plusZero, minusZero, Same}
 use Rattle.cells.proofs.Carried.{from-same}
@@ -13,8 +13,8 @@ use Rattle.cells.proofs.Written.{read-back, ends, writing-same}
 use Rattle.cells.specs.inner.Rows.{beside}
 use Rattle.cells.proofs.RowWrites.{beside-first, beside-second}
 use Rattle.window_means.specs.inner.Row.{rowAt}
-use Rattle.windows.specs.declared.Lanes.{Lanes}
-use Rattle.windows.specs.inner.Eight.{Eight}
+use Rattle.windows.specs.declared.Eight.{Eight}
+use Rattle.windows.specs.inner.Eight.{EightOf}
 use Rattle.windows.specs.Window.{windowSum}
 use Rattle.windows.proofs.Window.{sumFrom-same}
 use Rattle.windows.proofs.Zeros.{EitherZero, sums-from-either}
@@ -66,8 +66,8 @@ pub pressure-at : (low close : Line) (i : ℕ) {x : Float} {before : CloseBefore
 unfolding pressures
 pressure-at low close i e h = rw (e, h)
 
-pub eight-shares : (n i : ℕ) (f g : Line) {x y : Lanes} → Eight (windowSum n f) i x → Eight (windowSum n g) i y
-    → Eight (share minusZero n f g) i (eachRatio x y)
+pub eight-shares : (n i : ℕ) (f g : Line) {x y : Eight} → EightOf (windowSum n f) i x → EightOf (windowSum n g) i y
+    → EightOf (share minusZero n f g) i (eachRatio x y)
 unfolding share windowSum
 eight-shares n i f g p q =
     record {
@@ -81,9 +81,9 @@ eight-shares n i f g p q =
       lane7 = rw (p .lane7, q .lane7);
     }
 
-pub eight-cells : (z : Float) (n m k i : ℕ) (f g : Line) {x y w : Lanes} → Eight (share z n f g) i x
-    → Eight (share z m f g) i y
-    → Eight (share z k f g) i w → max n (max m k) ≤ i + 1 → Eight (weighedShares z n m k f g) i (eachWeighed x y w)
+pub eight-cells : (z : Float) (n m k i : ℕ) (f g : Line) {x y w : Eight} → EightOf (share z n f g) i x
+    → EightOf (share z m f g) i y
+    → EightOf (share z k f g) i w → max n (max m k) ≤ i + 1 → EightOf (weighedShares z n m k f g) i (eachWeighed x y w)
 eight-cells z n m k i f g a b c h =
     record {
       lane0 = cell-is z n m k i f g (a .lane0) (b .lane0) (c .lane0) h;
@@ -97,9 +97,6 @@ eight-cells z n m k i f g a b c h =
     }
 
 -- ---- from slices to lines
-
-pub taken-long : (k : ℕ) (s : List Float) → k ≤ length s → length (take k s) ≡ k
-taken-long k s h = rw length-take (omega arith)
 
 -- the rows are parts of slices that hold f and g
 pub from-parts : (n m k b : ℕ) (f g : Line) (p q : List Float) {old now : List Float}

@@ -1,10 +1,11 @@
 -- ultimate_oscillator at small series, with the cells that pure.rs gave, and its answers. Assumes nothing.
 use mathlib.Core.Path.{_≡_, refl}
 use mathlib.Core.List.{List, [], _∷_}
-use Prim.Native.Nat.{ℕ}
+use Prim.Native.Nat.{ℕ, suc}
 use lib.IntN.{pos}
 use lib.ListN.{length}
 use lib.Ieee.{Float, nan, round, neg, add, sub, mul, div, lt, eq, le, ofInt, ofBits, toBits}
+use Rattle.limits.specs.Limits.{longestWindow}
 use Rattle.calls.specs.declared.Refusal.the-variants.{LengthsDiffer, WindowTooLong}
 use Rattle.calls.specs.declared.Answer.{Answer}
 use Rattle.calls.specs.declared.Answer.the-variants.{Cells, Refused}
@@ -65,8 +66,8 @@ oscillator-edges = (refl, refl, refl, refl, refl, refl)
 abbrev oneBar : ℕ → ℕ → ℕ → Answer
 oneBar n m k = oscillatorAnswer (plusZero ∷ []) (plusZero ∷ []) (plusZero ∷ []) n m k 1 8
 
--- one bar; any window of 0; a window of 4,096 and one of 4,097; series of unequal length; no bars
-oscillator-answers : oneBar 1 2 3 ∷ oneBar 1 0 3 ∷ oneBar 4096 1 4096 ∷ oneBar 1 0 4097
+-- one bar; any window of 0; the longest window and one longer; series of unequal length; no bars
+oscillator-answers : oneBar 1 2 3 ∷ oneBar 1 0 3 ∷ oneBar longestWindow 1 longestWindow ∷ oneBar 1 0 (suc longestWindow)
     ∷ oscillatorAnswer (plusZero ∷ []) [] (plusZero ∷ []) 1 2 3 1 8
     ∷ oscillatorAnswer [] [] [] 1 2 3 0 0
     ∷ []

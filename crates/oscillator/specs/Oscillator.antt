@@ -51,22 +51,22 @@ weighed short medium long =
 
 -- three shares weighed, and NaN before the longest window is whole
 unfoldable pub weighedShares : Float → ℕ → ℕ → ℕ → Line → Line → Line
-weighedShares z n m k f g = fromBar (max n (max m k) - 1) nan
-    (λ i. weighed (share z n f g i) (share z m f g i) (share z k f g i))
+weighedShares z short medium long f g = fromBar (max short (max medium long) - 1) nan
+    (λ i. weighed (share z short f g i) (share z medium f g i) (share z long f g i))
 
--- the shares of pressure in true range, with windows n, m and k and sums from 0.0
+-- the shares of pressure in true range, with a short, a medium and a long window and sums from 0.0
 unfoldable pub oscillatorLine : ℕ → ℕ → ℕ → Line → Line → Line → Line
-oscillatorLine n m k high low close =
-    weighedShares plusZero n m k (pressures low close) (trueRanges high low (closeBefore close))
+oscillatorLine short medium long high low close =
+    weighedShares plusZero short medium long (pressures low close) (trueRanges high low (closeBefore close))
 
 unfoldable pub oscillatorAnswer : List Float → List Float → List Float → ℕ → ℕ → ℕ → ℕ → ℕ → Answer
-oscillatorAnswer high low close n m k output work =
+oscillatorAnswer high low close short medium long output work =
     andThen (checked accepted (high ∷ low ∷ close ∷ []) (output ∷ []) (work ∷ []))
-    (windowed (length high) (n ∷ m ∷ k ∷ []) (Cells (length high)))
+    (windowed (length high) (short ∷ medium ∷ long ∷ []) (Cells (length high)))
 
 -- what a call of `ultimate_oscillator` promises
 abbrev pub OscillatorCall : List Float → List Float → List Float → ℕ → ℕ → ℕ → List Float → List Float → Answer
     → List Float → List Float → Type 0
-OscillatorCall high low close n m k out₀ work₀ =
-    WorkCall (oscillatorAnswer high low close n m k (length out₀) (length work₀))
-    (oscillatorLine n m k (line high) (line low) (line close)) out₀ (length high) work₀
+OscillatorCall high low close short medium long out₀ work₀ =
+    WorkCall (oscillatorAnswer high low close short medium long (length out₀) (length work₀))
+    (oscillatorLine short medium long (line high) (line low) (line close)) out₀ (length high) work₀

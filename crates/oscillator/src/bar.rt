@@ -49,13 +49,13 @@ pub struct Sums {
 }
 
 // The sums up to bar i of whole ticks, from those up to the bar before: exact, so that they are those summed afresh.
-pub fn slid(f: &[f64], g: &[f64], n: usize, i: usize, last: Sums) -> Sums
-    requires { ⌜ TickRows n (now f) (now g) i ⌝ }
-    requires { ⌜ SumsOf n (line (now f)) (line (now g)) (i - 1) last ⌝ }
-    ensures { λ r. ⌜ SumsOf n (line (now (f .entry))) (line (now (g .entry))) i r ⌝ }
+pub fn slid(pressures: &[f64], ranges: &[f64], n: usize, i: usize, last: Sums) -> Sums
+    requires { ⌜ TickRows n (now pressures) (now ranges) i ⌝ }
+    requires { ⌜ SumsOf n (line (now pressures)) (line (now ranges)) (i - 1) last ⌝ }
+    ensures { λ r. ⌜ SumsOf n (line (now (pressures .entry))) (line (now (ranges .entry))) i r ⌝ }
 {
     Sums {
-        over: last.over + (f[i] - f[i - n]),
-        under: last.under + (g[i] - g[i - n]),
+        over: last.over + (pressures[i] - pressures[i - n]),
+        under: last.under + (ranges[i] - ranges[i - n]),
     }
 }

@@ -3,7 +3,7 @@ pub mod bar;
 pub mod ticks;
 
 use calls::Answer;
-use windows::Lanes;
+use windows::Eight;
 use windows::Sixteen;
 ghost use mathlib.Core.Path.{_≡_};
 ghost use Prim.Native.Nat.{_*_, _≤_, max};
@@ -12,7 +12,7 @@ ghost use Rattle.cells.specs.Line.{line, minusZero};
 ghost use Rattle.cells.specs.Written.{Writing};
 ghost use Rattle.cells.specs.inner.Touched.{Touched};
 ghost use Rattle.windows.specs.inner.Eight.{Windows, SixteenOf};
-ghost use Rattle.oscillator.specs.Oscillator.{pressure, pressures, share, weighedShares, oscillatorLine, oscillatorAnswer, OscillatorCall};
+ghost use Rattle.oscillator.specs.Oscillator.{pressures, share, weighedShares, oscillatorLine, oscillatorAnswer, OscillatorCall};
 ghost use Rattle.oscillator.specs.inner.Begun.{Windows₃, Begun, afresh};
 ghost use Rattle.oscillator.specs.inner.Rows.{Ready, Whole₃, TwoRows, Reached, eachRatio, eachWeighed};
 ghost use Rattle.window_means.specs.inner.Row.{rowAt};
@@ -31,26 +31,29 @@ fn write_pressures(low: &[f64], close: &[f64], out: &mut [f64])
 }
 
 // The longest of three windows.
-fn longest(n: usize, m: usize, k: usize) -> usize
-    ensures { λ r. ⌜ r ≡ max n (max m k) ⌝ }
+fn longest(short: usize, medium: usize, long: usize) -> usize
+    ensures { λ r. ⌜ r ≡ max short (max medium long) ⌝ }
 {
-    let later = if m < k { k } else { m };
-    if n < later { later } else { n }
+    let later = if medium < long { long } else { medium };
+    if short < later { later } else { short }
 }
 
 // The share of one window at bar i.
-fn share_at(f: &[f64], g: &[f64], n: usize, i: usize) -> f64
-    requires { ⌜ Windows n i 1 (length (now f)) × (length (now g) ≡ length (now f)) ⌝ }
-    ensures { λ r. ⌜ r ≡ share minusZero n (line (now (f .entry))) (line (now (g .entry))) i ⌝ }
+fn share_at(pressures: &[f64], ranges: &[f64], n: usize, i: usize) -> f64
+    requires { ⌜ Windows n i 1 (length (now pressures)) × (length (now ranges) ≡ length (now pressures)) ⌝ }
+    ensures { λ r. ⌜ r ≡ share minusZero n (line (now (pressures .entry))) (line (now (ranges .entry))) i ⌝ }
 {
-    bar::ratio_of(windows::sum_at(f, n, i), windows::sum_at(g, n, i))
+    bar::ratio_of(
+        windows::sum_at(pressures, n, i),
+        windows::sum_at(ranges, n, i),
+    )
 }
 
 // Each lane of x over that of y.
-fn ratios(x: Lanes, y: Lanes) -> Lanes
+fn ratios(x: Eight, y: Eight) -> Eight
     ensures { λ r. ⌜ r ≡ eachRatio x y ⌝ }
 {
-    Lanes {
+    Eight {
         lane0: bar::ratio_of(x.lane0, y.lane0),
         lane1: bar::ratio_of(x.lane1, y.lane1),
         lane2: bar::ratio_of(x.lane2, y.lane2),
@@ -63,10 +66,10 @@ fn ratios(x: Lanes, y: Lanes) -> Lanes
 }
 
 // The lanes of three shares, weighed.
-fn weigh_lanes(x: Lanes, y: Lanes, z: Lanes) -> Lanes
+fn weigh_lanes(x: Eight, y: Eight, z: Eight) -> Eight
     ensures { λ r. ⌜ r ≡ eachWeighed x y z ⌝ }
 {
-    Lanes {
+    Eight {
         lane0: bar::weigh(x.lane0, y.lane0, z.lane0),
         lane1: bar::weigh(x.lane1, y.lane1, z.lane1),
         lane2: bar::weigh(x.lane2, y.lane2, z.lane2),
@@ -79,12 +82,12 @@ fn weigh_lanes(x: Lanes, y: Lanes, z: Lanes) -> Lanes
 }
 
 // The shares of one window at the sixteen bars from i on.
-fn shares_of_sixteen(f: &[f64], g: &[f64], n: usize, i: usize) -> Sixteen
-    requires { ⌜ Windows n i 16 (length (now f)) × (length (now g) ≡ length (now f)) ⌝ }
-    ensures { λ r. ⌜ SixteenOf (share minusZero n (line (now (f .entry))) (line (now (g .entry)))) i r ⌝ }
+fn shares_of_sixteen(pressures: &[f64], ranges: &[f64], n: usize, i: usize) -> Sixteen
+    requires { ⌜ Windows n i 16 (length (now pressures)) × (length (now ranges) ≡ length (now pressures)) ⌝ }
+    ensures { λ r. ⌜ SixteenOf (share minusZero n (line (now (pressures .entry))) (line (now (ranges .entry)))) i r ⌝ }
 {
-    let x = windows::sums_of_sixteen(f, n, i);
-    let y = windows::sums_of_sixteen(g, n, i);
+    let x = windows::sums_of_sixteen(pressures, n, i);
+    let y = windows::sums_of_sixteen(ranges, n, i);
     Sixteen {
         low: ratios(x.low, y.low),
         high: ratios(x.high, y.high),
@@ -92,46 +95,61 @@ fn shares_of_sixteen(f: &[f64], g: &[f64], n: usize, i: usize) -> Sixteen
 }
 
 // The cell of bar i.
-fn cell_at(f: &[f64], g: &[f64], n: usize, m: usize, k: usize, i: usize) -> f64
-    requires { ⌜ Whole₃ n m k (now f) (now g) i 1 ⌝ }
-    ensures { λ r. ⌜ r ≡ afresh n m k (now (f .entry)) (now (g .entry)) i ⌝ }
+fn cell_at(
+    pressures: &[f64],
+    ranges: &[f64],
+    short: usize,
+    medium: usize,
+    long: usize,
+    i: usize,
+) -> f64
+    requires { ⌜ Whole₃ short medium long (now pressures) (now ranges) i 1 ⌝ }
+    ensures { λ r. ⌜ r ≡ afresh short medium long (now (pressures .entry)) (now (ranges .entry)) i ⌝ }
 {
-    let short = share_at(f, g, n, i);
-    let medium = share_at(f, g, m, i);
-    let long = share_at(f, g, k, i);
-    bar::weigh(short, medium, long)
+    let short_share = share_at(pressures, ranges, short, i);
+    let medium_share = share_at(pressures, ranges, medium, i);
+    let long_share = share_at(pressures, ranges, long, i);
+    bar::weigh(short_share, medium_share, long_share)
 }
 
 // The cells of the sixteen bars from i on.
-fn cells_of_sixteen(f: &[f64], g: &[f64], n: usize, m: usize, k: usize, i: usize) -> Sixteen
-    requires { ⌜ Whole₃ n m k (now f) (now g) i 16 ⌝ }
-    ensures { λ r. ⌜ SixteenOf (afresh n m k (now (f .entry)) (now (g .entry))) i r ⌝ }
+fn cells_of_sixteen(
+    pressures: &[f64],
+    ranges: &[f64],
+    short: usize,
+    medium: usize,
+    long: usize,
+    i: usize,
+) -> Sixteen
+    requires { ⌜ Whole₃ short medium long (now pressures) (now ranges) i 16 ⌝ }
+    ensures { λ r. ⌜ SixteenOf (afresh short medium long (now (pressures .entry)) (now (ranges .entry))) i r ⌝ }
 {
-    let short = shares_of_sixteen(f, g, n, i);
-    let medium = shares_of_sixteen(f, g, m, i);
-    let long = shares_of_sixteen(f, g, k, i);
+    let short_shares = shares_of_sixteen(pressures, ranges, short, i);
+    let medium_shares = shares_of_sixteen(pressures, ranges, medium, i);
+    let long_shares = shares_of_sixteen(pressures, ranges, long, i);
     Sixteen {
-        low: weigh_lanes(short.low, medium.low, long.low),
-        high: weigh_lanes(short.high, medium.high, long.high),
+        low: weigh_lanes(short_shares.low, medium_shares.low, long_shares.low),
+        high: weigh_lanes(short_shares.high, medium_shares.high, long_shares.high),
     }
 }
 
 // Writes the cells from bar `from` on, sixteen at a time, and gives the bar where fewer than sixteen are left.
 fn cells_by_sixteen(
-    f: &[f64],
-    g: &[f64],
-    n: usize,
-    m: usize,
-    k: usize,
+    pressures: &[f64],
+    ranges: &[f64],
+    short: usize,
+    medium: usize,
+    long: usize,
     from: usize,
     out: &mut [f64],
 ) -> usize
-    requires { ⌜ Begun n m k (now f) (now g) from (now out) ⌝ }
-    ensures { λ r. ⌜ Reached n m k (now (f .entry)) (now (g .entry)) from r (now (out .entry)) (now (out .exit)) ⌝ }
+    requires { ⌜ Begun short medium long (now pressures) (now ranges) from (now out) ⌝ }
+    ensures { λ r. ⌜ Reached short medium long (now (pressures .entry)) (now (ranges .entry)) from r
+        (now (out .entry)) (now (out .exit)) ⌝ }
 {
     let mut i = from;
-    while i + 16 <= f.len() {
-        let sixteen = cells_of_sixteen(f, g, n, m, k, i);
+    while i + 16 <= pressures.len() {
+        let sixteen = cells_of_sixteen(pressures, ranges, short, medium, long, i);
         window_means::store_eight(out, i, sixteen.low);
         window_means::store_eight(out, i + 8, sixteen.high);
         i += 16;
@@ -140,63 +158,106 @@ fn cells_by_sixteen(
 }
 
 // Writes the cells from bar `from` to the last.
-fn cells_by_one(f: &[f64], g: &[f64], n: usize, m: usize, k: usize, from: usize, out: &mut [f64])
-    requires { ⌜ Begun n m k (now f) (now g) from (now out) ⌝ }
-    ensures { λ _. ⌜ Writing (length (now (f .entry))) (afresh n m k (now (f .entry)) (now (g .entry)))
-        (now (out .entry)) (now (out .exit)) ⌝ }
+fn cells_by_one(
+    pressures: &[f64],
+    ranges: &[f64],
+    short: usize,
+    medium: usize,
+    long: usize,
+    from: usize,
+    out: &mut [f64],
+)
+    requires { ⌜ Begun short medium long (now pressures) (now ranges) from (now out) ⌝ }
+    ensures { λ _. ⌜ Writing (length (now (pressures .entry)))
+        (afresh short medium long (now (pressures .entry)) (now (ranges .entry))) (now (out .entry))
+        (now (out .exit)) ⌝ }
 {
     let mut i = from;
-    while i < f.len() {
-        out[i] = cell_at(f, g, n, m, k, i);
+    while i < pressures.len() {
+        out[i] = cell_at(pressures, ranges, short, medium, long, i);
         i += 1;
     }
 }
 
 // Writes the cells from bar `from` to the last, each window summed afresh.
-fn cells_afresh(f: &[f64], g: &[f64], n: usize, m: usize, k: usize, from: usize, out: &mut [f64])
-    requires { ⌜ Begun n m k (now f) (now g) from (now out) ⌝ }
-    ensures { λ _. ⌜ Writing (length (now (f .entry))) (afresh n m k (now (f .entry)) (now (g .entry)))
-        (now (out .entry)) (now (out .exit)) ⌝ }
+fn cells_afresh(
+    pressures: &[f64],
+    ranges: &[f64],
+    short: usize,
+    medium: usize,
+    long: usize,
+    from: usize,
+    out: &mut [f64],
+)
+    requires { ⌜ Begun short medium long (now pressures) (now ranges) from (now out) ⌝ }
+    ensures { λ _. ⌜ Writing (length (now (pressures .entry)))
+        (afresh short medium long (now (pressures .entry)) (now (ranges .entry))) (now (out .entry))
+        (now (out .exit)) ⌝ }
 {
-    let few = cells_by_sixteen(f, g, n, m, k, from, out);
-    cells_by_one(f, g, n, m, k, few, out);
+    let few = cells_by_sixteen(pressures, ranges, short, medium, long, from, out);
+    cells_by_one(pressures, ranges, short, medium, long, few, out);
 }
 
 // Writes the cells from bar `from` to the last: by running sums where both rows are whole ticks and a window is long.
-fn cells_from(f: &[f64], g: &[f64], n: usize, m: usize, k: usize, from: usize, out: &mut [f64])
-    requires { ⌜ Begun n m k (now f) (now g) from (now out) ⌝ }
-    ensures { λ _. ⌜ Writing (length (now (f .entry))) (afresh n m k (now (f .entry)) (now (g .entry)))
-        (now (out .entry)) (now (out .exit)) ⌝ }
+fn cells_from(
+    pressures: &[f64],
+    ranges: &[f64],
+    short: usize,
+    medium: usize,
+    long: usize,
+    from: usize,
+    out: &mut [f64],
+)
+    requires { ⌜ Begun short medium long (now pressures) (now ranges) from (now out) ⌝ }
+    ensures { λ _. ⌜ Writing (length (now (pressures .entry)))
+        (afresh short medium long (now (pressures .entry)) (now (ranges .entry))) (now (out .entry))
+        (now (out .exit)) ⌝ }
 {
-    if from < f.len() {
-        if window_means::are_long_ticks(f, from) {
-            if window_means::are_long_ticks(g, from) {
-                ticks::cells_of_ticks(f, g, n, m, k, from, out);
+    if from < pressures.len() {
+        if window_means::are_long_ticks(pressures, from) {
+            if window_means::are_long_ticks(ranges, from) {
+                ticks::cells_of_ticks(pressures, ranges, short, medium, long, from, out);
                 return;
             }
         }
     }
-    cells_afresh(f, g, n, m, k, from, out);
+    cells_afresh(pressures, ranges, short, medium, long, from, out);
 }
 
 // Writes the cells of every bar from a row of pressures and one of ranges.
-fn write_shares(f: &[f64], g: &[f64], n: usize, m: usize, k: usize, out: &mut [f64])
-    requires { ⌜ Windows₃ n m k (now f) (now g) × (length (now f) ≤ length (now out)) ⌝ }
-    ensures { λ _. ⌜ Writing (length (now (f .entry))) (afresh n m k (now (f .entry)) (now (g .entry)))
-        (now (out .entry)) (now (out .exit)) ⌝ }
+fn write_shares(
+    pressures: &[f64],
+    ranges: &[f64],
+    short: usize,
+    medium: usize,
+    long: usize,
+    out: &mut [f64],
+)
+    requires { ⌜ Windows₃ short medium long (now pressures) (now ranges)
+        × (length (now pressures) ≤ length (now out)) ⌝ }
+    ensures { λ _. ⌜ Writing (length (now (pressures .entry)))
+        (afresh short medium long (now (pressures .entry)) (now (ranges .entry))) (now (out .entry))
+        (now (out .exit)) ⌝ }
 {
-    let first = cells::fill_nan(out, longest(n, m, k) - 1, f.len());
-    cells_from(f, g, n, m, k, first, out);
+    let first = cells::fill_nan(out, longest(short, medium, long) - 1, pressures.len());
+    cells_from(pressures, ranges, short, medium, long, first, out);
 }
 
 // The same where the two rows of `bars` cells stand one after the other.
-fn write_from_rows(rows: &[f64], bars: usize, n: usize, m: usize, k: usize, out: &mut [f64])
-    requires { ⌜ TwoRows n m k bars (length (now rows)) (length (now out)) ⌝ }
-    ensures { λ _. ⌜ Writing bars (weighedShares minusZero n m k (line (now (rows .entry)))
+fn write_from_rows(
+    rows: &[f64],
+    bars: usize,
+    short: usize,
+    medium: usize,
+    long: usize,
+    out: &mut [f64],
+)
+    requires { ⌜ TwoRows short medium long bars (length (now rows)) (length (now out)) ⌝ }
+    ensures { λ _. ⌜ Writing bars (weighedShares minusZero short medium long (line (now (rows .entry)))
         (rowAt bars (now (rows .entry)))) (now (out .entry)) (now (out .exit)) ⌝ }
 {
     let end = bars + bars;
-    write_shares(&rows[..bars], &rows[bars..end], n, m, k, out);
+    write_shares(&rows[..bars], &rows[bars..end], short, medium, long, out);
 }
 
 // Writes the cells of every bar. The first two rows of `work` are used.
@@ -204,21 +265,21 @@ fn write_oscillator(
     high: &[f64],
     low: &[f64],
     close: &[f64],
-    n: usize,
-    m: usize,
-    k: usize,
+    short: usize,
+    medium: usize,
+    long: usize,
     out: &mut [f64],
     work: &mut [f64],
 )
-    requires { ⌜ Ready (now high) (now low) (now close) n m k (length (now out)) (length (now work)) ⌝ }
-    ensures { λ _. ⌜ Writing (length (now (high .entry))) (oscillatorLine n m k (line (now (high .entry)))
+    requires { ⌜ Ready (now high) (now low) (now close) short medium long (length (now out)) (length (now work)) ⌝ }
+    ensures { λ _. ⌜ Writing (length (now (high .entry))) (oscillatorLine short medium long (line (now (high .entry)))
         (line (now (low .entry))) (line (now (close .entry)))) (now (out .entry)) (now (out .exit))
         × Touched (2 * length (now (high .entry))) (now (work .entry)) (now (work .exit)) ⌝ }
 {
     let bars = high.len();
     write_pressures(low, close, work);
     true_range::write_ranges(high, low, close, 1, &mut work[bars..]);
-    write_from_rows(work, bars, n, m, k, out);
+    write_from_rows(work, bars, short, medium, long, out);
 }
 
 // The answer of a call with three windows.
@@ -226,17 +287,18 @@ fn answer_oscillator(
     high: &[f64],
     low: &[f64],
     close: &[f64],
-    n: usize,
-    m: usize,
-    k: usize,
+    short: usize,
+    medium: usize,
+    long: usize,
     out: usize,
     work: usize,
 ) -> Answer
-    ensures { λ r. ⌜ r ≡ oscillatorAnswer (now (high .entry)) (now (low .entry)) (now (close .entry)) n m k out work ⌝ }
+    ensures { λ r. ⌜ r ≡ oscillatorAnswer (now (high .entry)) (now (low .entry)) (now (close .entry)) short medium
+        long out work ⌝ }
 {
     let due = checks::check_three_with_work(high, low, close, out, work);
     let bars = high.len();
-    let next = checks::check_three_windows(bars, n, m, k, Answer::Cells(bars));
+    let next = checks::check_three_windows(bars, short, medium, long, Answer::Cells(bars));
     checks::and_then(due, next)
 }
 

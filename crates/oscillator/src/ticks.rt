@@ -13,13 +13,13 @@ ghost use Rattle.oscillator.specs.inner.Sliding.{SumsOf};
 ghost use Rattle.oscillator.specs.inner.Begun.{Begun, afresh};
 
 // The sums of the n cells up to bar i.
-fn sums_at(f: &[f64], g: &[f64], n: usize, i: usize) -> Sums
-    requires { ⌜ Windows n i 1 (length (now f)) × (length (now g) ≡ length (now f)) ⌝ }
-    ensures { λ r. ⌜ SumsOf n (line (now (f .entry))) (line (now (g .entry))) i r ⌝ }
+fn sums_at(pressures: &[f64], ranges: &[f64], n: usize, i: usize) -> Sums
+    requires { ⌜ Windows n i 1 (length (now pressures)) × (length (now ranges) ≡ length (now pressures)) ⌝ }
+    ensures { λ r. ⌜ SumsOf n (line (now (pressures .entry))) (line (now (ranges .entry))) i r ⌝ }
 {
     Sums {
-        over: windows::sum_at(f, n, i),
-        under: windows::sum_at(g, n, i),
+        over: windows::sum_at(pressures, n, i),
+        under: windows::sum_at(ranges, n, i),
     }
 }
 
@@ -35,29 +35,31 @@ fn cell_of(short: Sums, medium: Sums, long: Sums) -> f64
 
 // Writes the cells of whole ticks from bar `from` to the last, by running sums.
 pub fn cells_of_ticks(
-    f: &[f64],
-    g: &[f64],
-    n: usize,
-    m: usize,
-    k: usize,
+    pressures: &[f64],
+    ranges: &[f64],
+    short: usize,
+    medium: usize,
+    long: usize,
     from: usize,
     out: &mut [f64],
 )
-    requires { ⌜ Begun n m k (now f) (now g) from (now out) × (from < length (now f)) ⌝ }
-    requires { ⌜ (all tick (now f) ≡ true) × (all tick (now g) ≡ true) ⌝ }
-    ensures { λ _. ⌜ Writing (length (now (f .entry))) (afresh n m k (now (f .entry)) (now (g .entry)))
-        (now (out .entry)) (now (out .exit)) ⌝ }
+    requires { ⌜ Begun short medium long (now pressures) (now ranges) from (now out)
+        × (from < length (now pressures)) ⌝ }
+    requires { ⌜ (all tick (now pressures) ≡ true) × (all tick (now ranges) ≡ true) ⌝ }
+    ensures { λ _. ⌜ Writing (length (now (pressures .entry)))
+        (afresh short medium long (now (pressures .entry)) (now (ranges .entry))) (now (out .entry))
+        (now (out .exit)) ⌝ }
 {
     let mut i = from;
-    let mut short = sums_at(f, g, n, i);
-    let mut medium = sums_at(f, g, m, i);
-    let mut long = sums_at(f, g, k, i);
-    while i + 1 < f.len() {
-        out[i] = cell_of(short, medium, long);
+    let mut short_sums = sums_at(pressures, ranges, short, i);
+    let mut medium_sums = sums_at(pressures, ranges, medium, i);
+    let mut long_sums = sums_at(pressures, ranges, long, i);
+    while i + 1 < pressures.len() {
+        out[i] = cell_of(short_sums, medium_sums, long_sums);
         i += 1;
-        short = crate::bar::slid(f, g, n, i, short);
-        medium = crate::bar::slid(f, g, m, i, medium);
-        long = crate::bar::slid(f, g, k, i, long);
+        short_sums = crate::bar::slid(pressures, ranges, short, i, short_sums);
+        medium_sums = crate::bar::slid(pressures, ranges, medium, i, medium_sums);
+        long_sums = crate::bar::slid(pressures, ranges, long, i, long_sums);
     }
-    out[i] = cell_of(short, medium, long);
+    out[i] = cell_of(short_sums, medium_sums, long_sums);
 }

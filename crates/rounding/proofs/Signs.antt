@@ -6,11 +6,12 @@ use native.Mathlib.Nat.{le-of-lt, lt-of-lt-of-le, le-add-right, mul-pos}
 use native.Mathlib.Omega.{arith}
 use borrow.Author.Tests.{ltb-true, lt-ltb, le-ltb}
 use lib.Dec.{T, ltb}
-use lib.IntN.{pos}
-use lib.Ieee.{Float, nan, inf, fin, binary64, up, down, odd, units, round, sum, sub, lt, isNan}
+use lib.IntN.{ℤ, pos}
+use lib.Ieee.{Float, nan, inf, fin, Format, binary64, prec, emax, low}
+use lib.Ieee.{up, down, odd, units, round, neg, sum, sub, lt, isNan}
 use lib.Ieee.Fits.{round-is, down-pos}
 use lib.Ieee.Scale.{finite}
-use Rattle.rounding.specs.Leaves.{one, plusOne, minusOne, negative, signOf}
+use Rattle.rounding.specs.Leaves.{one, plusOne, minusOne, negative, magnitudeOf, signOf}
 
 -- the sign of a number
 pub sign-is : (x : Float) → isNan x ≡ false → signOf x ≡ one (negative x)
@@ -34,22 +35,57 @@ finite-number (fin s m e) f = refl
 
 -- ---- what is rounded has its own sign, and is a number
 
-odd-plain : (s : Bool) (q k : ℕ) → (negative (odd 54 s q k 1074) ≡ s) × (isNan (odd 54 s q k 1074) ≡ false)
-unfolding odd negative isNan
-odd-plain s zero k = (refl, refl)
-odd-plain s (suc q) k = (refl, refl)
+-- the size of what is rounded: beyond the format's numbers, or digits at a place
+data Size : Type 0 where
+  infinite : Size
+  digits : ℕ → ℤ → Size
 
-units-plain : (s : Bool) (q k : ℕ) → (negative (units binary64 s q k) ≡ s) × (isNan (units binary64 s q k) ≡ false)
-unfolding units negative isNan
-units-plain s q k = go (ltb (q * 2 ^ k) (2 ^ 2098))
+abbrev ofSize : Bool → Size → Float
+ofSize s infinite = inf s
+ofSize s (digits m e) = fin s m e
+
+odd-size : (d q k l : ℕ) → (z : Size) × ((s : Bool) → odd d s q k l ≡ ofSize s z)
+unfolding odd
+odd-size d zero k l = (digits 0 (pos 0), λ s. refl)
+odd-size d (suc q) k l = (digits _ _, λ s. refl)
+
+units-size : (f : Format) (q k : ℕ) → (z : Size) × ((s : Bool) → units f s q k ≡ ofSize s z)
+unfolding units
+units-size f q k = go (ltb (q * 2 ^ k) (2 ^ (low f + suc (emax f))))
   where
-    go : (t : Bool) → (negative (cond t (odd 54 s q k 1074) (inf s)) ≡ s)
-        × (isNan (cond t (odd 54 s q k 1074) (inf s)) ≡ false)
-    go true = odd-plain s q k
-    go false = (refl, refl)
+    go : (t : Bool) → (z : Size) × ((s : Bool) → cond t (odd (suc (prec f)) s q k (low f)) (inf s) ≡ ofSize s z)
+    go true = odd-size (suc (prec f)) q k (low f)
+    go false = (infinite, λ s. refl)
+
+-- a fraction is rounded to the same size with either sign
+round-size : (f : Format) (a c : ℕ) → (z : Size) × ((s : Bool) → round f s a c ≡ ofSize s z)
+round-size f a c = let (z, e) = units-size f _ _ in (z, λ s. round-is f s a c ∙ e s)
 
 pub round-plain : (s : Bool) (a c : ℕ) → (negative (round binary64 s a c) ≡ s) × (isNan (round binary64 s a c) ≡ false)
-round-plain s a c = rw (round-is binary64 s a c) (units-plain s _ _)
+unfolding negative isNan
+round-plain s a c = let (z, e) = round-size binary64 a c in rw (e s) (go z)
+  where
+    go : (z : Size) → (negative (ofSize s z) ≡ s) × (isNan (ofSize s z) ≡ false)
+    go infinite = (refl, refl)
+    go (digits m e) = (refl, refl)
+
+-- with the other sign it is the opposite
+pub round-turned : (f : Format) (a c : ℕ) → round f true a c ≡ neg (round f false a c)
+unfolding neg
+round-turned f a c = let (z, e) = round-size f a c in rw (e true, e false) (go z)
+  where
+    go : (z : Size) → ofSize true z ≡ neg (ofSize false z)
+    go infinite = refl
+    go (digits m e) = refl
+
+-- and without its sign it is what is rounded without one
+pub round-magnitude : (f : Format) (s : Bool) (a c : ℕ) → magnitudeOf (round f s a c) ≡ round f false a c
+unfolding magnitudeOf
+round-magnitude f s a c = let (z, e) = round-size f a c in rw (e s, e false) (go z)
+  where
+    go : (z : Size) → magnitudeOf (ofSize s z) ≡ ofSize false z
+    go infinite = refl
+    go (digits m e) = refl
 
 sum-number : (s : Bool) (a : ℕ) (t : Bool) (b c : ℕ) → isNan (sum binary64 s a t b c) ≡ false
 unfolding sum
@@ -75,22 +111,9 @@ difference-number (fin s m e) (fin t n d) p q = sum-number s (m * up e * down d)
 
 -- ---- the sign of a difference
 
-odd-sign : (s : Bool) (q k : ℕ) → signOf (odd 54 s q k 1074) ≡ one s
-unfolding odd signOf
-odd-sign s zero k = refl
-odd-sign s (suc q) k = refl
-
-units-sign : (s : Bool) (q k : ℕ) → signOf (units binary64 s q k) ≡ one s
-unfolding units signOf
-units-sign s q k = go (ltb (q * 2 ^ k) (2 ^ 2098))
-  where
-    go : (t : Bool) → signOf (cond t (odd 54 s q k 1074) (inf s)) ≡ one s
-    go true = odd-sign s q k
-    go false = refl
-
 -- what is rounded keeps its sign
 pub sign-round : (s : Bool) (a b : ℕ) → signOf (round binary64 s a b) ≡ one s
-sign-round s a b = ap signOf (round-is binary64 s a b) ∙ units-sign s _ _
+sign-round s a b = let (sign, number) = round-plain s a b in sign-is _ number ∙ ap one sign
 
 -- a / c - b / c, and b / c - a / c
 sign-less : (a b c : ℕ) → signOf (sum binary64 false a true b c) ≡ cond (ltb a b) minusOne plusOne

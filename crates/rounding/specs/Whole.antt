@@ -1,4 +1,4 @@
--- Whole numbers: their sign, and sums of runs of them. Assumes nothing.
+-- Whole numbers: their sign, and sums of neighbouring ones. Assumes nothing.
 use mathlib.Core.Bool.{Bool, true, false}
 use Prim.Native.Nat.{ℕ, zero, suc, _+_}
 use lib.IntN.{ℤ, pos, negsuc, _+ℤ_}

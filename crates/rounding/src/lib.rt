@@ -27,17 +27,23 @@ pub fn magnitude_of_number(x: f64) -> f64
     f64::from_bits(f64::to_bits(x) % 0x8000_0000_0000_0000)
 }
 
-// 1.0 with the sign of x, and NaN for NaN.
-pub fn sign(x: f64) -> f64
+// 1.0 with the sign of a number, by its bits: the highest is the sign.
+pub fn sign_of_number(x: f64) -> f64
+    requires { ⌜ isNan x ≡ false ⌝ }
     ensures { λ r. ⌜ r ≡ signOf x ⌝ }
 {
-    if is_nan(x) {
-        x
-    } else if f64::to_bits(x) >= 0x8000_0000_0000_0000 {
+    if f64::to_bits(x) >= 0x8000_0000_0000_0000 {
         -1.0
     } else {
         1.0
     }
+}
+
+// 1.0 with the sign of x, and NaN for NaN.
+pub fn sign(x: f64) -> f64
+    ensures { λ r. ⌜ r ≡ signOf x ⌝ }
+{
+    if is_nan(x) { x } else { sign_of_number(x) }
 }
 
 // The whole number nearest x, a half away from zero. From 2^52 on every number is whole.

@@ -1,28 +1,18 @@
 -- Magnitudes stay within whole bounds, which rounding does not cross. Assumes nothing.
 use mathlib.Core.Path.{_≡_, refl, sym}
 use mathlib.Core.Bool.{Bool, true, false, not, _&&_, _||_, Bool·beq, cond}
-use Prim.Native.Nat.{ℕ, suc, _+_, _-_, _*_, _^_, _<_, _≤_}
-use native.Mathlib.Nat.{
-  mul-one,
-  mul-pos,
-  mul-le-mul-right,
-  mul-lt-mul-of-pos-right,
-  le-of-mul-le-mul-right,
-  zero-lt-suc,
-  pow-suc,
-}
+use Prim.Native.Nat.{ℕ, _+_, _-_, _*_, _^_, _<_, _≤_}
+use native.Mathlib.Nat.{mul-one, mul-pos, mul-le-mul-right, le-of-mul-le-mul-right, zero-lt-suc}
 use native.Mathlib.Omega.{arith}
-use lib.Dec.{T, ltb, eqb, ltb→lt, eqb→eq, lit≤}
+use lib.Dec.{T, ltb, eqb, ltb→lt, eqb→eq}
 use lib.IntN.{ℤ, pos}
-use lib.Pow.{pow-add, pow-pos}
+use lib.Pow.{pow-pos}
 use lib.Ieee.{
   Float,
   fin,
   Format,
-  binary32,
   binary64,
   prec,
-  emax,
   low,
   up,
   down,
@@ -44,7 +34,7 @@ use lib.Ieee.Exact.{HasValue}
 use lib.Ieee.Fits.{down-pos}
 use lib.Ieee.Order.{transfer, round-mono}
 use lib.Ieee.Scale.{grid, overflow, round-val}
-use Rattle.rounding_laws.proofs.Error.{grid-range}
+use Rattle.rounding_laws.proofs.Error.{bounded-in-range}
 use Rattle.rounding_laws.proofs.Units.{round-worth}
 use Rattle.rounding_laws.proofs.Value.{shape, div-at}
 
@@ -83,33 +73,25 @@ le-minus m e n d l =
     let b = n * up d * down e in
     not-more a b (eqb b a) (λ t. sym (eqb→eq b a t)) l
 
-values : (x y : Float) (a c b : ℕ) → HasValue x false a c → HasValue y false b 1 → T (le x y) → a ≤ b * c
-values x y a c b v w l =
+-- the order of two numbers without a sign is that of their values
+pub values : (x y : Float) (a c b d : ℕ) → HasValue x false a c → HasValue y false b d → T (le x y) → a * d ≤ b * c
+values x y a c b d v w l =
     let (m, e, p, v') = shape x false a c v in
-    let (n, d, q, w') = shape y false b 1 w in
-    rw mul-one at
-    (transfer a b c 1 (m * up e) (n * up d) (down e) (down d) (down-pos e) (down-pos d) (sym v') (sym w')
-    (le-plus m e n d (rw (p, q) at l)))
-
-roomy : (f : Format) → low f + suc (prec f) ≤ low f + emax f
-roomy binary32 = lit≤ tt
-roomy binary64 = lit≤ tt
+    let (n, g, q, w') = shape y false b d w in
+    transfer a b c d (m * up e) (n * up g) (down e) (down g) (down-pos e) (down-pos g) (sym v') (sym w')
+    (le-plus m e n g (rw (p, q) at l))
 
 -- a fraction of at most b is rounded to at most b
 module _ (f : Format) (s : Bool) (a c b : ℕ) (C : 0 < c) (B : b ≤ 2 ^ prec f) (h : a ≤ b * c) where
   in-range : grid f a c < overflow f
-  in-range =
-      let l = mul-le-mul-right c B in
-      let g : a < 2 ^ suc (prec f) * c = rw (pow-suc 2 (prec f)) (omega (arith, mul-pos (pow-pos (prec f)) C)) in
-      let k : a * 2 ^ low f < 2 ^ (low f + suc (prec f)) * c = rw (pow-add 2 (low f) (suc (prec f)))
-      (omega (arith, mul-lt-mul-of-pos-right g (pow-pos (low f)))) in
-      grid-range f a c C (low f + suc (prec f)) k (roomy f)
+  in-range = bounded-in-range f a c b C B h
 
   few : grid f a c ≤ b * 2 ^ low f
   few =
-      values (round f false a c) (round f false b 1) (grid f a c) (2 ^ low f) b (round-val f a c in-range)
+      rw mul-one at
+      (values (round f false a c) (round f false b 1) (grid f a c) (2 ^ low f) b 1 (round-val f a c in-range)
       (round-whole f false b B)
-      (round-mono f a c b 1 C (zero-lt-suc 0) (rw mul-one h))
+      (round-mono f a c b 1 C (zero-lt-suc 0) (rw mul-one h)))
 
   round-at-most : AtMost b (round f s a c)
   round-at-most =

@@ -28,11 +28,13 @@ use native.Mathlib.Nat.{
   lt-of-mul-lt-mul-right,
   sub-le,
   le-div-iff-mul-le,
+  mul-lt-mul-of-pos-right,
+  pow-suc,
 }
 use native.Mathlib.Omega.{arith}
-use lib.Dec.{T, isLe, isEq, leb→le, nleb→lt, eqb→eq}
+use lib.Dec.{T, isLe, isEq, leb→le, nleb→lt, eqb→eq, lit≤}
 use lib.Pow.{pow-add, pow-pos, pow-mono}
-use lib.Ieee.{Format, prec, emax, low, size, nearest}
+use lib.Ieee.{Format, binary32, binary64, prec, emax, low, size, nearest}
 use lib.Ieee.Digits.{size-le, size-reaches}
 use lib.Ieee.Fits.{two}
 use lib.Ieee.Nearest.{closest}
@@ -96,3 +98,17 @@ module _ (f : Format) (a c : ℕ) (C : 0 < c) where
       let r : 2 ^ (prec f - 1) * 2 ^ k * c ≤ a * 2 ^ low f =
       rw (← pow-add 2 (prec f - 1) k) (le-div-iff-mul-le C .0 (size-reaches w (prec f - 1 + k) (omega arith))) in
       omega arith
+
+-- ---- a fraction of at most a number that the format counts without a gap
+
+room : (f : Format) → low f + suc (prec f) ≤ low f + emax f
+room binary32 = lit≤ tt
+room binary64 = lit≤ tt
+
+pub bounded-in-range : (f : Format) (a c b : ℕ) → 0 < c → b ≤ 2 ^ prec f → a ≤ b * c → grid f a c < overflow f
+bounded-in-range f a c b C B h =
+    let l = mul-le-mul-right c B in
+    let g : a < 2 ^ suc (prec f) * c = rw (pow-suc 2 (prec f)) (omega (arith, mul-pos (pow-pos (prec f)) C)) in
+    let k : a * 2 ^ low f < 2 ^ (low f + suc (prec f)) * c = rw (pow-add 2 (low f) (suc (prec f)))
+    (omega (arith, mul-lt-mul-of-pos-right g (pow-pos (low f)))) in
+    grid-range f a c C (low f + suc (prec f)) k (room f)

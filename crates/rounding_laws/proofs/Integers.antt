@@ -1,5 +1,5 @@
 -- Integers as differences of natural numbers: z is `above z` - `below z`, one of which is 0. What is linear in the
--- parts is then plain arithmetic. Beside them the sum of a run of integers. Assumes nothing.
+-- parts is then plain arithmetic. Beside them the sum of neighbouring integers. Assumes nothing.
 use mathlib.Core.Path.{_≡_, refl, sym, _∙_}
 use mathlib.Core.Logic.{_⊎_, inl, inr}
 use mathlib.Core.Bool.{Bool, true, false, not, cond}
@@ -159,6 +159,9 @@ module _ (a b : ℤ) {e : ℕ} where
       go (pos k) m = omega arith
       go (negsuc k) m = omega arith
 
+pub abs-same : (a : ℤ) → natAbs (a -ℤ a) ≡ 0
+abs-same a = let l = abs-near a a {e = 0} (omega arith) in omega arith
+
 -- how far apart two natural numbers are, and two integers
 abbrev pub gap : ℕ → ℕ → ℕ
 gap a b = (a - b) + (b - a)
@@ -171,18 +174,18 @@ abs-gap a b = go (a -ℤ b) (parts-minus a b)
     go (pos k) m = omega arith
     go (negsuc k) m = omega arith
 
--- ---- runs
+-- ---- sums of neighbouring integers
 
 regroup : (x y z w : ℤ) → x +ℤ (y -ℤ z) +ℤ w ≡ x +ℤ y +ℤ (w -ℤ z)
 regroup x y z w = simp (+ℤ-assoc, +ℤ-comm)
 
--- runs of the same numbers
+-- of the same numbers
 pub total-same : (t u : ℕ → ℤ) (a k : ℕ) → ((j : ℕ) → j < k → t (a + j) ≡ u (a + j)) → total t a k ≡ total u a k
 unfolding total
 total-same t u a zero h = refl
 total-same t u a (suc k) h = rw (total-same t u a k (λ j l. h j (omega arith)), h k (le-refl (suc k)))
 
--- a run of numbers of magnitude at most b
+-- of numbers of magnitude at most b
 pub total-size : (t : ℕ → ℤ) (a k b : ℕ) → ((j : ℕ) → j < k → natAbs (t (a + j)) ≤ b) → natAbs (total t a k) ≤ k * b
 unfolding total
 total-size t a zero b h = zero-le

@@ -5,8 +5,6 @@ use Prim.Native.Nat.{ℕ, zero, suc, _+_, _-_, _*_, _/_, _%_, _^_, _≤_, _<_}
 use native.Mathlib.Nat.{
   le-refl,
   lt-of-le-of-lt,
-  lt-of-not-le,
-  not-le-of-lt,
   zero-mul,
   zero-div,
   mul-one,
@@ -27,6 +25,7 @@ use lib.Ieee.Exact.{HasValue}
 use lib.Ieee.Fits.{and-l, and-r, down-pos, odd-fits}
 use lib.Ieee.Scale.{finite, overflow}
 use Rattle.rounding.specs.Nearest.{inUnits}
+use Rattle.rounding.proofs.ToWhole.{pow-le-back}
 
 -- ---- by the value
 
@@ -57,9 +56,6 @@ pub record Made (f : Format) (x : Float) (m : ℕ) : Type 0 where
   pub is : inUnits f x ≡ m * 2 ^ j
   pub short : m < 2 ^ prec f
   pub under : m * 2 ^ j < overflow f
-
-pow-le-back : (a l : ℕ) → 2 ^ a ≤ 2 ^ l → a ≤ l
-pow-le-back a l h = let g : a < suc l = lt-of-not-le (λ (g : l < a). not-le-of-lt (pow-lt g) h) in omega arith
 
 place : (l : ℕ) (e : ℤ) → down e ≤ 2 ^ l → (j : ℕ) × ((m : ℕ) → m * up e * 2 ^ l ≡ m * 2 ^ j * down e)
 place l (pos a) h = (

@@ -1,5 +1,5 @@
--- Products of integers with sums and differences, the sign of a difference, and the sum of a run in two parts. Assumes
--- nothing.
+-- Products of integers with sums and differences, the sign of a difference, and the sum of neighbouring integers in two
+-- parts. Assumes nothing.
 use mathlib.Core.Path.{_≡_, sym, ap}
 use Prim.Native.Nat.{ℕ, zero, suc, _+_, _*_}
 use native.Mathlib.Nat.{add-zero}
@@ -68,7 +68,7 @@ minus-negative a b = rw (parts-lt a b) (go (a -ℤ b) (parts-minus a b))
     go (pos k) e = sym (le-ltb (above a + below b) (above b + below a) (omega arith))
     go (negsuc k) e = sym (lt-ltb (above a + below b) (above b + below a) (omega arith))
 
--- a run in two parts
+-- a sum in two parts
 pub total-parts : (t : ℕ → ℤ) (a j k : ℕ) → total t a (j + k) ≡ total t a j +ℤ total t (a + j) k
 unfolding total
 total-parts t a j zero = rw add-zero (sym (+ℤ-idr (total t a j)))

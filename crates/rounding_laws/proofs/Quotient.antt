@@ -3,7 +3,7 @@
 use mathlib.Core.Path.{_≡_, refl, sym, ap, _∙_}
 use mathlib.Core.Logic.{_⊎_, inl, inr}
 use mathlib.Core.Bool.{Bool, false, cond}
-use Prim.Native.Nat.{ℕ, suc, _+_, _-_, _*_, _^_, _<_, _≤_}
+use Prim.Native.Nat.{ℕ, _+_, _-_, _*_, _^_, _<_, _≤_}
 use native.Mathlib.Nat.{
   le-trans,
   mul-one,
@@ -14,15 +14,14 @@ use native.Mathlib.Nat.{
   eq-zero-or-pos,
   le-of-mul-le-mul-right,
   zero-lt-suc,
-  pow-suc,
   le-mul-of-pos-right,
 }
 use native.Mathlib.Omega.{arith}
 use lib.Dec.{lit≤}
 use lib.IntN.{ℤ, pos, negsuc, natAbs, _*ℤ_, ℤ-discrete}
 use lib.Signed.{ltZ}
-use lib.Pow.{pow-add, pow-pos}
-use lib.Ieee.{Float, fin, Format, binary32, binary64, prec, emax, low, round, sub, div, lt, ofInt}
+use lib.Pow.{pow-pos}
+use lib.Ieee.{Float, fin, Format, binary32, binary64, prec, low, round, sub, div, lt, ofInt}
 use lib.Ieee.Order.{kept, drop}
 use lib.Ieee.Scale.{grid, overflow, round-same, normal-of-fraction}
 use Rattle.rounding.specs.Leaves.{plusOne, minusOne, signOf}
@@ -33,7 +32,7 @@ use Rattle.rounding.specs.Whole.{isNegative}
 use Rattle.rounding_laws.proofs.Whole.{whole-value}
 use Rattle.rounding_laws.proofs.Units.{Worth, unlike-plus, round-worth, worth-negative}
 use Rattle.rounding_laws.proofs.Nearest.{round-nearest}
-use Rattle.rounding_laws.proofs.Error.{places, closest-near, grid-near, grid-range, grid-relative}
+use Rattle.rounding_laws.proofs.Error.{places, closest-near, grid-near, grid-relative, bounded-in-range}
 use Rattle.rounding_laws.proofs.About.{
   fine,
   About,
@@ -79,10 +78,6 @@ fine-wide : (f : Format) → 2 ^ prec f ≤ 2 * fine f
 fine-wide binary32 = lit≤ tt
 fine-wide binary64 = lit≤ tt
 
-room : (f : Format) → low f + suc (prec f) ≤ low f + emax f
-room binary32 = lit≤ tt
-room binary64 = lit≤ tt
-
 grid-zero : (f : Format) (c : ℕ) → 0 < c → grid f 0 c ≡ 0
 grid-zero f c C =
     let k = drop (prec f) (0 * 2 ^ low f) c in
@@ -112,14 +107,7 @@ module _ (f : Format) (a n : ℕ) (N : 0 < n) (d : n ≤ 2 ^ prec f) where
           omega (arith, grid-near f a n N)
 
   grid-inside : a ≤ 2 ^ prec f → grid f a n < overflow f
-  grid-inside h =
-      let j = low f + suc (prec f) in
-      let l = mul-le-mul-right (2 ^ low f) h in
-      let p : 0 < 2 ^ low f * 2 ^ prec f = mul-pos (pow-pos (low f)) (pow-pos (prec f)) in
-      let m : 2 ^ j ≤ 2 ^ j * n = le-mul-of-pos-right (2 ^ j) N in
-      let e : 2 ^ j ≡ 2 ^ low f * 2 ^ suc (prec f) = pow-add 2 (low f) (suc (prec f)) in
-      let g = pow-suc 2 (prec f) in
-      grid-range f a n N j (omega (arith, ap (λ (z : ℕ). 2 ^ low f * z) g)) (room f)
+  grid-inside h = bounded-in-range f a n a N h (le-mul-of-pos-right a N)
 
 module _ {f : Format} {z : ℤ} {n : ℕ} (w : Whole f z n) where
   pub quotient-worth : Worth f (quotient f z n) (isNegative z) (grid f (natAbs z) n)

@@ -8,9 +8,6 @@ use native.Mathlib.Nat.{
   mul-one,
   mul-assoc,
   mul-div-cancel,
-  lt-of-not-le,
-  not-le-of-lt,
-  le-of-suc-le-suc,
   sub-add-cancel,
   add-zero,
   zero-add,
@@ -23,7 +20,7 @@ use native.Mathlib.Omega.{arith}
 use borrow.Author.Tests.{le-ltb}
 use lib.Dec.{T, ltb, leb, eqb, leb→le, eqb·suc-zero}
 use lib.IntN.{ℤ, pos, negsuc, natAbs}
-use lib.Pow.{pow-add, pow-pos, pow-lt}
+use lib.Pow.{pow-add, pow-pos}
 use lib.Ieee.{
   Float,
   nan,
@@ -53,6 +50,7 @@ use lib.Ieee.Order.{kept, drop}
 use lib.Ieee.Scale.{grid, overflow}
 use lib.Signed.{ltZ}
 use Rattle.rounding.specs.Nearest.{inUnits, signed, Number, signedUnits}
+use Rattle.rounding.proofs.ToWhole.{pow-le-back}
 use Rattle.rounding_laws.proofs.Multiples.{value-units}
 use Rattle.rounding.specs.Leaves.{negative}
 use Rattle.rounding.specs.Whole.{isNegative}
@@ -64,9 +62,6 @@ use Rattle.rounding_laws.proofs.Value.{shape, add-at, lt-at, div-at}
 pub record Worth (f : Format) (x : Float) (s : Bool) (u : ℕ) : Type 0 where
   pub fit : T (fits f x)
   pub value : HasValue x s u (2 ^ low f)
-
-le-of-pow : (i j : ℕ) → 2 ^ i ≤ 2 ^ j → i ≤ j
-le-of-pow i j h = le-of-suc-le-suc (lt-of-not-le (λ (l : suc j ≤ i). not-le-of-lt (pow-lt l) h))
 
 down-low : (f : Format) (s : Bool) (m : ℕ) (e : ℤ) → T (fits f (fin s (suc m) e)) → down e ≤ 2 ^ low f
 unfolding fits
@@ -81,7 +76,7 @@ in-low : (f : Format) (s : Bool) (m : ℕ) (e : ℤ) → T (fits f (fin s m e)) 
 in-low f s zero e t = (0, simp zero-mul)
 in-low f s (suc m) (pos k) t = (k + low f, rw (pow-add, mul-one, mul-assoc))
 in-low f s (suc m) (negsuc k) t =
-    let h : suc k ≤ low f = le-of-pow (suc k) (low f) (down-low f s m (negsuc k) t) in
+    let h : suc k ≤ low f = pow-le-back (suc k) (low f) (down-low f s m (negsuc k) t) in
     let e : 2 ^ low f ≡ 2 ^ (low f - suc k) * 2 ^ suc k = ap (λ (z : ℕ). 2 ^ z) (sym (sub-add-cancel h))
     ∙ pow-add 2 (low f - suc k) (suc k) in
     (low f - suc k, rw (mul-one, e) (sym (mul-assoc (suc m) (2 ^ (low f - suc k)) (2 ^ suc k))))

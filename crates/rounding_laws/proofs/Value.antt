@@ -33,6 +33,7 @@ use lib.Ieee.{
   mul,
   div,
   lt,
+  isNan,
   below as isBelow,
 }
 use lib.IntN.{ℤ}
@@ -86,6 +87,11 @@ pub shape : (x : Float) (s : Bool) (a c : ℕ) → HasValue x s a c → (m : ℕ
 shape nan s a c v = absurd v
 shape (inf t) s a c v = absurd v
 shape (fin t m e) s a c (p, v) = (m, e, ap (λ (r : Bool). fin r m e) p, v)
+
+-- and is a number
+pub value-number : (x : Float) (s : Bool) (a c : ℕ) → HasValue x s a c → isNan x ≡ false
+unfolding isNan
+value-number x s a c v = let (m, e, p, w) = shape x s a c v in ap isNan p
 
 -- a fraction brought to a denominator that is a multiple of its own
 wider : (m a c e d : ℕ) → m * c ≡ a * e → m * d * c ≡ a * (e * d)

@@ -9,11 +9,12 @@ use native.Mathlib.Omega.{arith}
 use borrow.Author.Tests.{le-ltb, ltb-false}
 use lib.Dec.{eqb}
 use lib.IntN.{ℤ, pos}
-use lib.Ieee.{Float, nan, inf, fin, binary64, up, down, neg, sum, add, sub, mul, lt, isNan}
+use lib.Ieee.{Float, nan, inf, fin, Format, binary64, up, down, neg, sum, add, sub, mul, lt, isNan}
 use lib.Ieee.Fits.{up-pos}
 use Rattle.rounding_laws.proofs.Whole.{sum-turned}
 use Rattle.extremes.proofs.Order.{lt-between}
 use Rattle.cells.specs.Line.{plusZero}
+use Rattle.rounding_order.proofs.Compared.{either-way}
 use Rattle.rounding_order.proofs.Rounded.{
   neg-order,
   add-order,
@@ -88,10 +89,6 @@ inside-bottom true (fin s m e) = refl
 
 -- ---- what is outside of a bound is outside of one farther in
 
-either-way : (p : Bool) → (p ≡ false → ⊥) → p ≡ true
-either-way true h = refl
-either-way false h = absurd (h refl)
-
 pub far-above : (x s : Float) → lt (far false x) s ≡ lt x s
 unfolding lt
 far-above nan nan = refl
@@ -137,28 +134,28 @@ neg-inside true x y h = rw (far-turned true x, far-turned true y, neg-order) h
 
 -- ---- sums and differences
 
-sum-comm : (s t : Bool) (a b c : ℕ) → sum binary64 s a t b c ≡ sum binary64 t b s a c
+sum-comm : (f : Format) (s t : Bool) (a b c : ℕ) → sum f s a t b c ≡ sum f t b s a c
 unfolding sum
-sum-comm false false a b c = rw (add-comm a b)
-sum-comm true true a b c = rw (add-comm a b)
-sum-comm true false a b c = sum-turned binary64 a b c
-sum-comm false true a b c = sym (sum-turned binary64 b a c)
+sum-comm f false false a b c = rw (add-comm a b)
+sum-comm f true true a b c = rw (add-comm a b)
+sum-comm f true false a b c = sum-turned f a b c
+sum-comm f false true a b c = sym (sum-turned f b a c)
 
-pub add-swap : (x y : Float) → add binary64 x y ≡ add binary64 y x
+pub add-swap : (f : Format) (x y : Float) → add f x y ≡ add f y x
 unfolding add
-add-swap nan nan = refl
-add-swap nan (inf t) = refl
-add-swap nan (fin t n d) = refl
-add-swap (inf s) nan = refl
-add-swap (inf false) (inf false) = refl
-add-swap (inf false) (inf true) = refl
-add-swap (inf true) (inf false) = refl
-add-swap (inf true) (inf true) = refl
-add-swap (inf s) (fin t n d) = refl
-add-swap (fin s m e) nan = refl
-add-swap (fin s m e) (inf t) = refl
-add-swap (fin s m e) (fin t n d) =
-    rw (mul-comm (down d) (down e)) (sum-comm s t (m * up e * down d) (n * up d * down e) (down e * down d))
+add-swap f nan nan = refl
+add-swap f nan (inf t) = refl
+add-swap f nan (fin t n d) = refl
+add-swap f (inf s) nan = refl
+add-swap f (inf false) (inf false) = refl
+add-swap f (inf false) (inf true) = refl
+add-swap f (inf true) (inf false) = refl
+add-swap f (inf true) (inf true) = refl
+add-swap f (inf s) (fin t n d) = refl
+add-swap f (fin s m e) nan = refl
+add-swap f (fin s m e) (inf t) = refl
+add-swap f (fin s m e) (fin t n d) =
+    rw (mul-comm (down d) (down e)) (sum-comm f s t (m * up e * down d) (n * up d * down e) (down e * down d))
 
 pub add-inside : (u : Bool) (c x y : Float) → Inside u x y → Inside u (add binary64 c x) (add binary64 c y)
 unfolding add lt
@@ -216,7 +213,7 @@ add-inside true (fin r l b) (fin s m e) (fin t n d) h =
     (add-order r t s l n m b d e h)
 
 pub add-inside-first : (u : Bool) (c x y : Float) → Inside u x y → Inside u (add binary64 x c) (add binary64 y c)
-add-inside-first u c x y h = rw (add-swap x c, add-swap y c) (add-inside u c x y h)
+add-inside-first u c x y h = rw (add-swap binary64 x c, add-swap binary64 y c) (add-inside u c x y h)
 
 pub sub-inside : (u : Bool) (c x y : Float) → Inside u x y → Inside (not u) (sub binary64 c x) (sub binary64 c y)
 unfolding sub

@@ -1,7 +1,7 @@
 -- A rounded sum and a rounded product keep the order of what they are made from. Assumes nothing.
-use mathlib.Core.Path.{_≡_, refl, sym, ap, _∙_}
+use mathlib.Core.Path.{_≡_, refl, sym, _∙_}
 use mathlib.Core.Bool.{Bool, true, false, _&&_, _||_, cond, true≢false}
-use Prim.Native.Nat.{ℕ, zero, suc, _+_, _-_, _*_, _^_, _<_, _≤_}
+use Prim.Native.Nat.{ℕ, _+_, _-_, _*_, _<_, _≤_}
 use native.Mathlib.Nat.{
   zero-lt-suc,
   zero-mul,
@@ -21,56 +21,19 @@ use native.Mathlib.Omega.{arith}
 use borrow.Author.Tests.{ltb-true, ltb-false, le-ltb, eqb-true}
 use lib.Dec.{T, ltb, eqb}
 use lib.IntN.{ℤ}
-use lib.Ieee.{
-  Float,
-  nan,
-  inf,
-  fin,
-  binary64,
-  up,
-  down,
-  unlike,
-  odd,
-  units,
-  level,
-  round,
-  neg,
-  sum,
-  add,
-  mul,
-  lt,
-  eq,
-  le,
-  isNan,
-}
+use lib.Ieee.{Float, nan, inf, fin, binary64, up, down, unlike, level, round, neg, sum, add, mul, lt, eq, le, isNan}
 use lib.Ieee.{below as isBelow}
 use lib.Ieee.Exact.{HasValue}
-use lib.Ieee.Fits.{round-is, down-pos}
+use lib.Ieee.Fits.{down-pos}
 use lib.Ieee.Order.{round-mono}
 use lib.Ieee.Scale.{round-same}
 use Rattle.rounding_laws.proofs.Value.{add-at, mul-at, lt-at}
 use Rattle.rounding_laws.proofs.Whole.{sum-turned}
 use Rattle.rounding.specs.Leaves.{negative}
-use Rattle.rounding.proofs.Signs.{round-plain}
+use Rattle.rounding.proofs.Signs.{round-plain, round-turned}
 use Rattle.cells.specs.Line.{plusZero}
 
 -- ---- the opposite number
-
-odd-turned : (q k : ℕ) → odd 54 true q k 1074 ≡ neg (odd 54 false q k 1074)
-unfolding odd neg
-odd-turned zero k = refl
-odd-turned (suc q) k = refl
-
-units-turned : (q k : ℕ) → units binary64 true q k ≡ neg (units binary64 false q k)
-unfolding units neg
-units-turned q k = go (ltb (q * 2 ^ k) (2 ^ 2098))
-  where
-    go : (t : Bool) → cond t (odd 54 true q k 1074) (inf true) ≡ neg (cond t (odd 54 false q k 1074) (inf false))
-    go true = odd-turned q k
-    go false = refl
-
-round-turned : (a c : ℕ) → round binary64 true a c ≡ neg (round binary64 false a c)
-round-turned a c = round-is binary64 true a c ∙ units-turned _ _ ∙ ap neg (sym (round-is binary64 false a c))
 
 -- opposites have the opposite order
 pub neg-order : (x y : Float) → lt (neg x) (neg y) ≡ lt y x
@@ -173,19 +136,19 @@ round-order false true a b c C h =
     )
     zero-order
 round-order true true a b c C h =
-    rw (round-turned a c, round-turned b c, neg-order)
+    rw (round-turned binary64 a c, round-turned binary64 b c, neg-order)
     (not-below _ _ (round-mono binary64 b c a c C C (mul-le-mul-right c (ltb-false a b h))))
 
 -- ---- sums
 
 -- what a number a with the sign s has above 0, and below it
-abbrev plus : Bool → ℕ → ℕ
+abbrev pub plus : Bool → ℕ → ℕ
 plus s a = cond s 0 a
 
-abbrev minus : Bool → ℕ → ℕ
+abbrev pub minus : Bool → ℕ → ℕ
 minus s a = cond s a 0
 
-below-parts : (s t : Bool) (a b : ℕ) → isBelow s a t b ≡ ltb (plus s a + minus t b) (plus t b + minus s a)
+pub below-parts : (s t : Bool) (a b : ℕ) → isBelow s a t b ≡ ltb (plus s a + minus t b) (plus t b + minus s a)
 below-parts false false a b = simp add-zero
 below-parts false true a b = sym (le-ltb (a + b) (0 + 0) (omega arith))
 below-parts true false a b = rw (add-comm a b)
@@ -262,12 +225,12 @@ product-above false false k a p h = le-ltb (k * a) 0 (omega arith)
 -- ---- numbers on one scale
 
 -- x as a number of parts with a sign, of which c make 1
-record Parts (x : Float) (c : ℕ) : Type 0 where
-  sign : Bool
-  count : ℕ
-  value : HasValue x sign count c
+pub record Parts (x : Float) (c : ℕ) : Type 0 where
+  pub sign : Bool
+  pub count : ℕ
+  pub value : HasValue x sign count c
 
-parts : (s : Bool) (m : ℕ) (e : ℤ) (k c : ℕ) → down e * k ≡ c → Parts (fin s m e) c
+pub parts : (s : Bool) (m : ℕ) (e : ℤ) (k c : ℕ) → down e * k ≡ c → Parts (fin s m e) c
 parts s m e k c h =
     record { sign = s; count = m * up e * k; value = (refl, rw (← h) (simp (mul-assoc, mul-comm, mul-left-comm))) }
 

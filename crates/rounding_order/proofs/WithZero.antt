@@ -1,31 +1,25 @@
 -- A number of the format plus 0, or less 0, compares as the number itself. Assumes nothing.
 use mathlib.Core.Path.{_≡_, refl, sym, _∙_}
 use mathlib.Core.Bool.{Bool, true, false}
-use Prim.Native.Nat.{ℕ, zero, suc, _+_, _*_, _^_, _<_}
+use Prim.Native.Nat.{ℕ, zero, suc, _^_, _<_}
 use native.Mathlib.Nat.{add-zero, sub-zero, zero-mul}
 use native.Mathlib.Omega.{arith}
 use borrow.Author.Tests.{lt-ltb, le-ltb}
 use lib.Dec.{T}
-use lib.IntN.{ℤ, pos}
+use lib.IntN.{ℤ}
 use lib.Pow.{pow-pos}
 use lib.Ieee.{Float, nan, inf, fin, binary64, low, neg, sum, round, add, sub, lt, isNan, fits}
 use lib.Ieee.{below as isBelow}
 use lib.Ieee.Exact.{HasValue, round-exact}
 use Rattle.rounding.specs.Leaves.{negative}
 use Rattle.rounding.specs.Nearest.{inUnits}
-use Rattle.rounding_laws.proofs.Value.{add-at, sub-at, lt-at}
+use Rattle.rounding_laws.proofs.Value.{value-number, add-at, sub-at, lt-at}
 use Rattle.rounding_laws.proofs.Multiples.{made}
 use Rattle.rounding_laws.proofs.Units.{worth}
 use Rattle.extremes.proofs.Order.{lt-between}
 use Rattle.cells.specs.Line.{plusZero}
 
 -- ---- numbers of one size
-
-value-number : (x : Float) (s : Bool) (a c : ℕ) → HasValue x s a c → isNan x ≡ false
-unfolding isNan
-value-number nan s a c v = absurd v
-value-number (inf t) s a c v = absurd v
-value-number (fin t m e) s a c v = refl
 
 both-ways : (p q : Bool) → (p ≡ false → q ≡ false) → (q ≡ false → p ≡ false) → p ≡ q
 both-ways true true f g = refl

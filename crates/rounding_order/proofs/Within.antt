@@ -1,25 +1,25 @@
 -- Numbers within a bound that rounding does not cross: a fraction of at most p / q, where that is a number of its own,
 -- is rounded to at most p / q. Assumes nothing.
-use mathlib.Core.Path.{_≡_, refl, sym, ap, _∙_}
+use mathlib.Core.Path.{_≡_, refl, ap, _∙_}
 use mathlib.Core.Bool.{Bool, true, false, not}
-use Prim.Native.Nat.{ℕ, suc, _+_, _-_, _*_, _^_, _<_, _≤_}
+use Prim.Native.Nat.{ℕ, _-_, _*_, _^_, _<_, _≤_}
 use native.Mathlib.Nat.{mul-one, mul-pos, mul-left-comm, mul-le-mul-left, mul-le-mul-right}
-use native.Mathlib.Nat.{mul-lt-mul-of-pos-right, le-of-mul-le-mul-right, le-trans, pow-suc}
+use native.Mathlib.Nat.{le-mul-of-pos-right, le-of-mul-le-mul-right, le-trans}
 use native.Mathlib.Omega.{arith}
 use borrow.Author.Tests.{le-ltb}
-use lib.Dec.{T, lit≤, lit<}
-use lib.Pow.{pow-add, pow-pos}
-use lib.Ieee.{Float, Format, binary32, binary64, prec, emax, low, up, down, unlike, round, sum, sub, mul, le, isNan}
+use lib.Dec.{lit≤, lit<}
+use lib.Pow.{pow-pos}
+use lib.Ieee.{Float, Format, binary64, prec, low, up, down, unlike, round, sum, sub, mul, le, isNan}
 use lib.Ieee.{below as isBelow}
 use lib.Ieee.Back.{round-whole}
 use lib.Ieee.Exact.{HasValue}
 use lib.Ieee.Fits.{down-pos}
-use lib.Ieee.Order.{transfer, round-mono}
+use lib.Ieee.Order.{round-mono}
 use lib.Ieee.Scale.{grid, overflow, round-val}
-use Rattle.rounding_laws.proofs.Error.{grid-range}
+use Rattle.rounding_laws.proofs.Error.{bounded-in-range}
 use Rattle.rounding_laws.proofs.Units.{round-worth}
-use Rattle.rounding_laws.proofs.Bounds.{le-plus, AtMost}
-use Rattle.rounding_laws.proofs.Value.{shape, lt-at, sub-at, mul-at}
+use Rattle.rounding_laws.proofs.Bounds.{values, AtMost}
+use Rattle.rounding_laws.proofs.Value.{shape, value-number, lt-at, sub-at, mul-at}
 use Rattle.rounding.specs.Leaves.{one, plusOne, minusOne}
 use Rattle.rounding_order.proofs.Compared.{le-is}
 
@@ -31,29 +31,11 @@ pub record Within (s : Bool) (p q : ℕ) (x : Float) : Type 0 where
   pub value : HasValue x s count parts
   pub size : count * q ≤ p * parts
 
--- the order of two numbers without a sign is that of their values
-values : (x y : Float) (a c b d : ℕ) → HasValue x false a c → HasValue y false b d → T (le x y) → a * d ≤ b * c
-values x y a c b d v w l =
-    let (m, e, p, v') = shape x false a c v in
-    let (n, g, q, w') = shape y false b d w in
-    transfer a b c d (m * up e) (n * up g) (down e) (down g) (down-pos e) (down-pos g) (sym v') (sym w')
-    (le-plus m e n g (rw (p, q) at l))
-
-roomy : (f : Format) → low f + suc (prec f) ≤ low f + emax f
-roomy binary32 = lit≤ tt
-roomy binary64 = lit≤ tt
-
 -- a fraction of at most p / q, which is a number of its own, is rounded to at most that
 module _ (f : Format) (s : Bool) (a c p q : ℕ) (C : 0 < c) (Q : 0 < q) (P : p ≤ 2 ^ prec f)
     (v : HasValue (round f false p q) false p q) (h : a * q ≤ p * c) where
   in-range : grid f a c < overflow f
-  in-range =
-      let l = mul-le-mul-right c P in
-      let m : a * 1 ≤ a * q = mul-le-mul-left a Q in
-      let g : a < 2 ^ suc (prec f) * c = rw (pow-suc 2 (prec f)) (omega (arith, mul-pos (pow-pos (prec f)) C)) in
-      let k : a * 2 ^ low f < 2 ^ (low f + suc (prec f)) * c =
-      rw (pow-add 2 (low f) (suc (prec f))) (omega (arith, mul-lt-mul-of-pos-right g (pow-pos (low f)))) in
-      grid-range f a c C (low f + suc (prec f)) k (roomy f)
+  in-range = bounded-in-range f a c p C P (le-trans (le-mul-of-pos-right a Q) h)
 
   round-within : Within s p q (round f s a c)
   round-within =
@@ -104,10 +86,6 @@ pub record FromMinusOneToOne (x : Float) : Type 0 where
   pub least : le minusOne x ≡ true
   pub most : le x plusOne ≡ true
 
-signed-number : {s : Bool} {p q : ℕ} {x : Float} → Within s p q x → isNan x ≡ false
-unfolding isNan
-signed-number {s} {x = x} w = let (m, e, p, v) = shape x s (w .count) (w .parts) (w .value) in ap isNan p
-
 one-number : (s : Bool) → isNan (one s) ≡ false
 unfolding isNan
 one-number s = refl
@@ -124,7 +102,7 @@ in-unit {s} {x} w =
     let inside = not-beyond s a c (let l = w .size in omega arith) in
     let above = lt-at plusOne x false c s a c (w .some) (refl, omega arith) (w .value) ∙ inside .0 in
     let under = lt-at x minusOne s a true c c (w .some) (w .value) (refl, omega arith) ∙ inside .1 in
-    let n = signed-number w in
+    let n = value-number x s a c (w .value) in
     record {
       number = n;
       least = le-is minusOne x (one-number true) n ∙ ap not under;

@@ -32,10 +32,6 @@ square-lt {a} {b} h =
 pub square-lt-back : {a b : ℕ} → a * a < b * b → a < b
 square-lt-back {a} {b} h = lt-of-not-le (λ (g : b ≤ a). not-le-of-lt h (square-le g))
 
-pub square-le-back : {a b : ℕ} → a * a ≤ b * b → a ≤ b
-square-le-back {a} {b} h = let l : a < suc b = lt-of-not-le (λ (g : suc b ≤ a). not-le-of-lt (square-lt g) h) in omega
-    arith
-
 -- (2 * a + 1) * (2 * a + 1), written out
 pub square-odd : (a : ℕ) → (2 * a + 1) * (2 * a + 1) ≡ 4 * (a * a) + 4 * a + 1
 square-odd a =

@@ -27,7 +27,7 @@ use Rattle.averages.specs.ExponentialSmoothing.{exponentialLine}
 use Rattle.changes.specs.declared.Averages.{Averages}
 use Rattle.changes.specs.Changes.{change, gains, losses, rsi}
 use Rattle.rsx.specs.Rsx.{rsxUnsmoothed, rsxAnswer}
-use Rattle.rsx.specs.inner.Averaged.{Averaged, Ready}
+use Rattle.rsx.specs.inner.Averaged.{Averaged, RsxRoom}
 
 -- ---- the averages
 
@@ -73,7 +73,7 @@ module _ (s : List Float) (n m out work : ℕ) where
       sym (same-count _ _ (asked (length s) [] (n ∷ []) (m ∷ []) (Cells (length s)) k next h .rest))
 
   -- and where they are due, all is in order
-  pub rsx-ready : {r : Answer} → r ≡ rsxAnswer s n m out work → 0 < countOf r → Ready n m s out work
+  pub rsx-ready : {r : Answer} → r ≡ rsxAnswer s n m out work → 0 < countOf r → RsxRoom n m s out work
   unfolding rsxAnswer
   rsx-ready {r} e h =
       let p = one-passed s out work rest e h in

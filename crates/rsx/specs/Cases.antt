@@ -1,9 +1,10 @@
 -- rsx_ss2 at small series, with the cells that pure.rs gave, and its answers. Assumes nothing.
 use mathlib.Core.Path.{_≡_, refl}
 use mathlib.Core.List.{[], _∷_}
-use Prim.Native.Nat.{ℕ}
+use Prim.Native.Nat.{ℕ, suc}
 use lib.IntN.{pos}
 use lib.Ieee.{nan, round, neg, add, sub, mul, div, lt, eq, le, ofInt, ofBits, toBits}
+use Rattle.limits.specs.Limits.{longestWindow, longestPeriod}
 use Rattle.rounding.specs.Literals.{hundred}
 use Rattle.values.specs.Accepted.{accepted, finite}
 use Rattle.calls.specs.declared.Refusal.the-variants.{WindowTooLong}
@@ -44,8 +45,9 @@ rsx-edges = (refl, refl, refl, refl)
 abbrev oneBar : ℕ → ℕ → Answer
 oneBar n m = rsxAnswer (plusZero ∷ []) n m 1 8
 
--- a window of 4,096 and one of 4,097; a period of 512 and one of 513; either of 0; no bars
-rsx-answers : oneBar 4096 512 ∷ oneBar 4097 0 ∷ oneBar 0 513 ∷ oneBar 0 5 ∷ oneBar 5 0 ∷ rsxAnswer [] 5 5 0 0 ∷ []
+-- the longest window and one longer; the longest period and one longer; either of 0; no bars
+rsx-answers : oneBar longestWindow longestPeriod ∷ oneBar (suc longestWindow) 0 ∷ oneBar 0 (suc longestPeriod)
+    ∷ oneBar 0 5 ∷ oneBar 5 0 ∷ rsxAnswer [] 5 5 0 0 ∷ []
     ≡ Cells 1 ∷ Refused WindowTooLong ∷ Refused WindowTooLong ∷ Cells 0 ∷ Cells 0 ∷ Cells 0 ∷ []
 unfolding rsxAnswer slices checked accepted finite lt eq le toBits
 rsx-answers = refl

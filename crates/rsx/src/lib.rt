@@ -12,7 +12,7 @@ ghost use Rattle.cells.specs.Line.{line};
 ghost use Rattle.cells.specs.Written.{Writing};
 ghost use Rattle.cells.specs.inner.Touched.{Touched};
 ghost use Rattle.rsx.specs.Rsx.{rsxUnsmoothed, rsxLine, rsxAnswer, RsxCall};
-ghost use Rattle.rsx.specs.inner.Averaged.{Averaged, Ready};
+ghost use Rattle.rsx.specs.inner.Averaged.{Averaged, RsxRoom};
 
 // The averages of bar i, from those of the bar before.
 fn next(close: &[f64], alpha: f64, i: usize, last: Averages) -> Averages
@@ -48,7 +48,7 @@ fn write_index(close: &[f64], n: usize, index: &mut [f64])
 
 // Writes the smoothed index of every bar. The first row of `work` is used.
 fn write_rsx(close: &[f64], n: usize, m: usize, out: &mut [f64], work: &mut [f64])
-    requires { ⌜ Ready n m (now close) (length (now out)) (length (now work)) ⌝ }
+    requires { ⌜ RsxRoom n m (now close) (length (now out)) (length (now work)) ⌝ }
     ensures { λ _. ⌜ Writing (length (now (close .entry))) (rsxLine n m (line (now (close .entry))))
         (now (out .entry)) (now (out .exit))
         × Touched (length (now (close .entry))) (now (work .entry)) (now (work .exit)) ⌝ }

@@ -149,7 +149,7 @@ fn band_positions(
     ensures { λ r. ⌜ BandsCall reverse (now (series .entry)) n k (now (out .entry)) (now (work .entry)) r
         (now (out .exit)) (now (work .exit)) ⌝ }
 {
-    let due = rules_bands::answer_bands(series, n, k, out.len(), work.len());
+    let due = checks::answer_numbers_and_window(series, &[k], n, out.len(), work.len());
     if checks::cells_due(due, series.len(), work) {
         rules_bands::write_bands(series, reverse, n, k, out, work);
         cells::clear(work, 8 * series.len());
@@ -192,15 +192,8 @@ pub fn rsi_reverse_positions(
     ensures { λ r. ⌜ RsiReverseCall (now (series .entry)) n «rsi_upper» «rsi_lower» «rsi_exit» (now (out .entry))
         (now (work .entry)) r (now (out .exit)) (now (work .exit)) ⌝ }
 {
-    let due = rules_rsi::answer_rsi_reverse(
-        series,
-        n,
-        rsi_upper,
-        rsi_lower,
-        rsi_exit,
-        out.len(),
-        work.len(),
-    );
+    let levels = [rsi_upper, rsi_lower, rsi_exit];
+    let due = checks::answer_numbers_and_window(series, &levels, n, out.len(), work.len());
     if checks::cells_due(due, series.len(), work) {
         rules_rsi::write_rsi_reverse(series, n, rsi_upper, rsi_lower, rsi_exit, out, work);
         cells::clear(work, 8 * series.len());

@@ -2,4 +2,3 @@ pub mod Bands
 pub mod Guess
 pub mod Narrow
 pub mod Stages
-pub mod Open

@@ -6,21 +6,14 @@ use lib.ListN.{length}
 use lib.Ieee.{Float, binary64, add, sub, lt}
 use lib.IntN.{ℤ}
 use Rattle.calls.specs.declared.Answer.{Answer}
-use Rattle.calls.specs.declared.Answer.the-variants.{Cells}
 use Rattle.values.specs.Accepted.{accepted}
-use Rattle.calls.specs.Answer.{andThen, checked, limited, unlessEmpty}
+use Rattle.calls.specs.Answer.{answeredWith}
 use Rattle.rounding.specs.Literals.{tenToMinus}
 use Rattle.cells.specs.Line.{Line, line, minusZero, fromBar}
 use Rattle.windows.specs.Window.{mean}
 use Rattle.deviations.specs.Deviation.{deviation, upperBand, lowerBand}
 use Rattle.rules_held.specs.Held.{flat, long, short}
 use Rattle.calls.specs.Call.{WorkCall}
-
--- refusals 1 to 5, then 6 for k, 7 for n, and the empty answer
-unfoldable pub bandAnswer : List Float → ℕ → Float → ℕ → ℕ → Answer
-bandAnswer s n k output work =
-    andThen (checked accepted (s ∷ []) (output ∷ []) (work ∷ []))
-    (limited (k ∷ []) (n ∷ []) [] (unlessEmpty (length s) (n ∷ []) [] (Cells (length s))))
 
 -- +1 above the band of a middle and a width, -1 below it, each by more than a margin, and else 0; a NaN in the band
 -- gives 0
@@ -45,4 +38,5 @@ bollLine n k f = outsideBands n k (mean n f)
 -- what a call of `boll_positions` promises
 abbrev pub BollCall : List Float → ℕ → Float → List ℤ → List Float → Answer → List ℤ → List Float → Type 0
 BollCall s n k out₀ work₀ =
-    WorkCall (bandAnswer s n k (length out₀) (length work₀)) (bollLine n k (line s)) out₀ (length s) work₀
+    WorkCall (answeredWith accepted s (k ∷ []) (n ∷ []) (length out₀) (length work₀ ∷ [])) (bollLine n k (line s)) out₀
+    (length s) work₀

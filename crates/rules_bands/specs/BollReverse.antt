@@ -1,6 +1,6 @@
 -- boll_reverse_positions: against Bollinger's bands of the means of prices, held to the middle. Assumes nothing.
 use mathlib.Core.Bool.{cond}
-use mathlib.Core.List.{List}
+use mathlib.Core.List.{List, [], _∷_}
 use Prim.Native.Nat.{ℕ, _-_, _*_}
 use lib.IntN.{ℤ}
 use lib.ListN.{length}
@@ -11,7 +11,8 @@ use Rattle.deviations.specs.Deviation.{deviation, upperBand, lowerBand}
 use Rattle.rules_held.specs.Held.{flat, long, short, Signal, silent, hold}
 use Rattle.calls.specs.declared.Answer.{Answer}
 use Rattle.calls.specs.Call.{WorkCall}
-use Rattle.rules_bands.specs.Boll.{bandAnswer}
+use Rattle.calls.specs.Answer.{answeredWith}
+use Rattle.values.specs.Accepted.{accepted}
 
 -- above the upper band a flat position opens short, else below the lower one it opens long
 abbrev pub opensAt : Float → Float → Float → Float → ℤ
@@ -41,4 +42,5 @@ bollReverseLine n k f = turnedBands n k (mean n f)
 -- what a call of `boll_reverse_positions` promises
 abbrev pub BollReverseCall : List Float → ℕ → Float → List ℤ → List Float → Answer → List ℤ → List Float → Type 0
 BollReverseCall s n k out₀ work₀ =
-    WorkCall (bandAnswer s n k (length out₀) (length work₀)) (bollReverseLine n k (line s)) out₀ (length s) work₀
+    WorkCall (answeredWith accepted s (k ∷ []) (n ∷ []) (length out₀) (length work₀ ∷ []))
+    (bollReverseLine n k (line s)) out₀ (length s) work₀

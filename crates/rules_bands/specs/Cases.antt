@@ -2,23 +2,24 @@
 use mathlib.Core.Path.{_≡_, refl}
 use mathlib.Core.Bool.{true, false}
 use mathlib.Core.List.{[], _∷_}
-use Prim.Native.Nat.{ℕ}
+use Prim.Native.Nat.{ℕ, suc}
 use lib.IntN.{pos, negsuc}
 use lib.Ieee.{Float, nan, inf, binary64, round, add, sub, mul, div, lt, eq, le, ofInt, ofBits, toBits}
+use Rattle.limits.specs.Limits.{longestWindow}
 use Rattle.rounding.specs.Leaves.{plusOne}
 use Rattle.rounding.specs.Literals.{half, tenToMinus}
 use Rattle.rounding_root.specs.Root.{sqrtOf}
 use Rattle.calls.specs.declared.Refusal.the-variants.{ParameterNotFinite, WindowTooLong}
 use Rattle.calls.specs.declared.Answer.the-variants.{Cells, Refused}
 use Rattle.values.specs.Accepted.{accepted, finite}
-use Rattle.calls.specs.Answer.{slices, checked}
+use Rattle.calls.specs.Answer.{slices, checked, answeredWith}
 use Rattle.cells.specs.Line.{plusZero, fromBar}
 use Rattle.cells.specs.Recur.{recur}
 use Rattle.cells.specs.Shown.{prices, bits, cellsOf}
 use Rattle.windows.specs.Window.{sumFrom, windowSum, mean}
 use Rattle.deviations.specs.Deviation.{deviation}
 use Rattle.rules_held.specs.Held.{flat, long, short, moved, hold}
-use Rattle.rules_bands.specs.Boll.{bandAnswer, outsideBands, bollLine}
+use Rattle.rules_bands.specs.Boll.{outsideBands, bollLine}
 use Rattle.rules_bands.specs.BollReverse.{bandSignals, turnedBands, bollReverseLine}
 
 abbrev tenths : ℕ → Float
@@ -78,13 +79,13 @@ unfolding bandSignals turnedBands hold moved recur deviation mean windowSum sumF
 reverse-edges = (refl, refl, refl, refl, refl, refl)
 
 -- one bar; a k that is not finite comes before a window too long; a window of 0 after both; no bars
-band-answers : bandAnswer (plusZero ∷ []) 1 half 1 8
-    ∷ bandAnswer (plusZero ∷ []) 4097 nan 1 8
-    ∷ bandAnswer (plusZero ∷ []) 4097 half 1 8
-    ∷ bandAnswer (plusZero ∷ []) 0 (inf true) 1 8
-    ∷ bandAnswer (plusZero ∷ []) 0 half 1 8
-    ∷ bandAnswer [] 1 half 0 0
+band-answers : answeredWith accepted (plusZero ∷ []) (half ∷ []) (1 ∷ []) 1 (8 ∷ [])
+    ∷ answeredWith accepted (plusZero ∷ []) (nan ∷ []) (suc longestWindow ∷ []) 1 (8 ∷ [])
+    ∷ answeredWith accepted (plusZero ∷ []) (half ∷ []) (suc longestWindow ∷ []) 1 (8 ∷ [])
+    ∷ answeredWith accepted (plusZero ∷ []) ((inf true) ∷ []) (0 ∷ []) 1 (8 ∷ [])
+    ∷ answeredWith accepted (plusZero ∷ []) (half ∷ []) (0 ∷ []) 1 (8 ∷ [])
+    ∷ answeredWith accepted [] (half ∷ []) (1 ∷ []) 0 (0 ∷ [])
     ∷ []
     ≡ Cells 1 ∷ Refused ParameterNotFinite ∷ Refused WindowTooLong ∷ Refused ParameterNotFinite ∷ Cells 0 ∷ Cells 0 ∷ []
-unfolding bandAnswer slices checked accepted finite lt eq le toBits
+unfolding answeredWith slices checked accepted finite lt eq le toBits
 band-answers = refl

@@ -1,29 +1,14 @@
-// Both Bollinger rules: what they answer, and how their cells are written.
+// Both Bollinger rules: how their cells are written.
 pub mod bar;
 
-use calls::Answer;
-use calls::Refusal;
-ghost use mathlib.Core.Path.{_≡_};
 ghost use lib.ListN.{length};
 ghost use Rattle.cells.specs.Line.{line};
 ghost use Rattle.cells.specs.Written.{Writing};
+ghost use Rattle.cells.specs.inner.MoreWritten.{MoreWritten};
 ghost use Rattle.cells.specs.inner.Touched.{Touched};
 ghost use Rattle.windows.specs.inner.Eight.{WindowRoom};
 ghost use Rattle.checks.specs.inner.Due.{Priced};
-ghost use Rattle.rules_bands.specs.Boll.{bandAnswer};
-ghost use Rattle.rules_bands.specs.inner.Stages.{bandPositions, bandsLine, Begun, Further};
-
-// The answer of both: refusal 6 for k comes after the series' own refusals, and before those of the window.
-pub fn answer_bands(series: &[f64], n: usize, k: f64, out: usize, work: usize) -> Answer
-    ensures { λ r. ⌜ r ≡ bandAnswer (now (series .entry)) n k out work ⌝ }
-{
-    let due = checks::check_with_work(series, out, work);
-    let bars = series.len();
-    let window = checks::check_window(bars, n, Answer::Cells(bars));
-    let finite = values::is_finite(k);
-    let next = checks::unless_refused(finite, Refusal::ParameterNotFinite, window);
-    checks::and_then(due, next)
-}
+ghost use Rattle.rules_bands.specs.inner.Stages.{bandPositions, bandsLine, PositionsBefore};
 
 // Writes the positions of a few bars from bar i on, and gives how many they are.
 fn write_some_positions(
@@ -34,9 +19,9 @@ fn write_some_positions(
     i: usize,
     out: &mut [i32],
 ) -> usize
-    requires { ⌜ Begun n (now means) i (bandPositions reverse n k (line (now means))) (now out) ⌝ }
-    ensures { λ r. ⌜ Further (now (means .entry)) i (bandPositions reverse n k (line (now (means .entry)))) r
-        (now (out .entry)) (now (out .exit)) ⌝ }
+    requires { ⌜ PositionsBefore n (now means) i (bandPositions reverse n k (line (now means))) (now out) ⌝ }
+    ensures { λ r. ⌜ MoreWritten (bandPositions reverse n k (line (now (means .entry)))) (length (now (means .entry)))
+        i r (now (out .entry)) (now (out .exit)) ⌝ }
 {
     let mut middles = [0.0; 8];
     let mut variances = [0.0; 8];

@@ -1,15 +1,14 @@
 -- The spread of whole ticks: n · m times the short average less the long one. Each bar changes it by three products,
 -- all of it is exact, and its sign is the position. Assumes nothing.
-use mathlib.Core.Path.{_≡_, refl, sym, ap, _∙_}
-use mathlib.Core.Bool.{Bool, true, false, cond}
+use mathlib.Core.Path.{_≡_, sym, ap, _∙_}
+use mathlib.Core.Bool.{true, false, cond}
 use mathlib.Core.List.{List}
-use Prim.Native.Nat.{ℕ, zero, suc, _+_, _-_, _*_, _^_, _<_, _≤_, zero-le}
+use Prim.Native.Nat.{ℕ, suc, _+_, _-_, _*_, _^_, _<_, _≤_, zero-le}
 use native.Mathlib.Nat.{zero-add, mul-le-mul}
 use native.Mathlib.Omega.{arith}
 use lib.IntN.{ℤ, pos, negsuc, natAbs, _+ℤ_, _-ℤ_, _*ℤ_, +ℤ-assoc, +ℤ-idr}
 use lib.ListN.{length, set}
-use lib.Ieee.{Float, nan, inf, fin, binary64, add, sub, mul, ofInt, isNan}
-use lib.Ieee.Exact.{HasValue}
+use lib.Ieee.{Float, binary64, add, sub, mul, ofInt, isNan}
 use Rattle.rounding.specs.Leaves.{plusOne, minusOne, signOf}
 use Rattle.rounding.specs.Whole.{total, isNegative}
 use Rattle.rounding.proofs.Signs.{sign-round}
@@ -24,6 +23,7 @@ use Rattle.rounding_laws.proofs.Integers.{
 }
 use Rattle.rounding_laws.proofs.Products.{times, times-add, times-minus, add-times, minus-negative, total-parts}
 use Rattle.rounding_laws.proofs.About.{zero-is}
+use Rattle.rounding_laws.proofs.Value.{value-number}
 use Rattle.rounding_laws.proofs.Whole.{whole-value, add-whole, sub-whole, mul-whole}
 use Rattle.cells.specs.Line.{Line, plusZero, minusZero}
 use Rattle.cells.specs.Written.{Writing}
@@ -32,7 +32,7 @@ use Rattle.cells.proofs.Leads.{up-to-bar}
 use Rattle.cells.proofs.Written.{one-more, ends}
 use Rattle.exact_ticks.proofs.Errors.{products}
 use Rattle.exact_ticks.proofs.Exact.{sum-whole, window-size}
-use Rattle.exact_ticks.proofs.Runs.{size-times}
+use Rattle.exact_ticks.proofs.RunningSums.{size-times}
 use Rattle.windows.specs.Window.{sumFrom, windowSum}
 use Rattle.rules_double.specs.Double.{doubleLine}
 use Rattle.rules_double.specs.inner.Ticks.{spread, change, BothFull}
@@ -93,12 +93,6 @@ unfolding ofInt
 sign-whole (pos a) = sign-round false a 1
 sign-whole (negsuc a) = sign-round true (suc a) 1
 
-valued : (x : Float) (s : Bool) (a b : ℕ) → HasValue x s a b → isNan x ≡ false
-unfolding isNan
-valued nan s a b v = absurd v
-valued (inf s) s′ a b v = refl
-valued (fin s m e) s′ a b v = refl
-
 added : {x y : Float} (a b : ℤ) → x ≡ ofInt binary64 a → y ≡ ofInt binary64 b → natAbs a ≤ 2 ^ 53 → natAbs b ≤ 2 ^ 53
     → add binary64 x y ≡ ofInt binary64 (a +ℤ b)
 added a b p q h k = rw (p, q) (add-whole binary64 a b h k)
@@ -121,6 +115,13 @@ module _ {n m l : ℕ} {f : Line} {t : ℕ → ℤ} (o : BothFull n m l f t) whe
   gap : n + (m - n) ≡ m
   gap = let l = o .order in omega arith
 
+  -- the laws of exactness reach as far as the longest window
+  short-narrow : n ≤ 2 ^ 12
+  short-narrow = omega (arith, o .short .narrow)
+
+  long-narrow : m ≤ 2 ^ 12
+  long-narrow = omega (arith, o .long .narrow)
+
   pub spread-small : (i : ℕ) → m ≤ i → i ≤ l → natAbs (spread n m t i) ≤ 2 ^ 53
   unfolding spread
   spread-small i h u =
@@ -128,7 +129,7 @@ module _ {n m l : ℕ} {f : Line} {t : ℕ → ℤ} (o : BothFull n m l f t) whe
       let b = total t (i - m) m in
       let x = window-size (o .ticks) (i - n) n (let r = o .order in omega arith) in
       let y = window-size (o .ticks) (i - m) m (omega arith) in
-      let p = products (natAbs a) (natAbs b) n m x y (o .short .narrow) (o .long .narrow) in
+      let p = products (natAbs a) (natAbs b) n m x y short-narrow long-narrow in
       omega (
         arith,
         p,
@@ -139,7 +140,7 @@ module _ {n m l : ℕ} {f : Line} {t : ℕ → ℤ} (o : BothFull n m l f t) whe
 
   pub spread-number : (i : ℕ) {x : Float} → m ≤ i → i ≤ l → x ≡ ofInt binary64 (spread n m t i)
       → isNan x ≡ false
-  spread-number i h u e = rw e (valued _ _ _ _ (whole-value binary64 (spread n m t i) (spread-small i h u)))
+  spread-number i h u e = rw e (value-number _ _ _ _ (whole-value binary64 (spread n m t i) (spread-small i h u)))
 
   pub spread-next : (i : ℕ) → m ≤ i → spread n m t (i + 1) ≡ spread n m t i +ℤ change n m t i
   unfolding spread change
@@ -165,7 +166,7 @@ module _ {n m l : ℕ} {f : Line} {t : ℕ → ℤ} (o : BothFull n m l f t) whe
         sign-whole (a *ℤ pos m -ℤ b *ℤ pos n),
         minus-negative (a *ℤ pos m) (b *ℤ pos n),
       )
-      (sym (double-exact (o .ticks) n m i (o .short .some) (o .order) (o .long .narrow) (omega arith) (omega arith)))
+      (sym (double-exact (o .ticks) n m i (o .short .some) (o .order) long-narrow (omega arith) (omega arith)))
 
   -- the lead, and after it the position of bar m - 1
   pub first-position : {r : ℕ} {old mid : List Float} {x y : Float} → Led (m - 1) l plusZero r old mid → l ≤ length mid
@@ -197,13 +198,13 @@ module _ {n m l : ℕ} {f : Line} {t : ℕ → ℤ} (o : BothFull n m l f t) whe
     z = t (i - m) *ℤ pos n
 
     x-small : natAbs x ≤ 2 ^ 36
-    x-small = product-small i (m - n) u (let k = o .long .narrow in omega arith)
+    x-small = product-small i (m - n) u (let k = long-narrow in omega arith)
 
     y-small : natAbs y ≤ 2 ^ 36
-    y-small = product-small (i - n) m (omega arith) (o .long .narrow)
+    y-small = product-small (i - n) m (omega arith) long-narrow
 
     z-small : natAbs z ≤ 2 ^ 36
-    z-small = product-small (i - m) n (omega arith) (o .short .narrow)
+    z-small = product-small (i - m) n (omega arith) short-narrow
 
     pub change-small : natAbs (change n m t i) ≤ 2 ^ 38
     unfolding change
@@ -217,11 +218,11 @@ module _ {n m l : ℕ} {f : Line} {t : ℕ → ℤ} (o : BothFull n m l f t) whe
     unfolding change
     change-exact =
         let r = o .order in
-        let k = o .long .narrow in
+        let k = long-narrow in
         rw (
           product-exact i (m - n) u (omega arith) (omega arith),
-          product-exact (i - n) m (omega arith) (o .long .some) (o .long .narrow),
-          product-exact (i - m) n (omega arith) (o .short .some) (o .short .narrow),
+          product-exact (i - n) m (omega arith) (o .long .some) long-narrow,
+          product-exact (i - m) n (omega arith) (o .short .some) short-narrow,
           sub-whole binary64 x y (omega (arith, x-small)) (omega (arith, y-small)),
         )
         (add-whole binary64 (x -ℤ y) z (omega (arith, abs-minus x y, x-small, y-small)) (omega (arith, z-small)))
@@ -246,16 +247,16 @@ module _ {n m l : ℕ} {f : Line} {t : ℕ → ℤ} (o : BothFull n m l f t) whe
   unfolding spread windowSum
   first-exact {a} {r} p q =
       let g = o .order in
-      let w = o .long .narrow in
+      let w = long-narrow in
       let u = o .full in
       let s₁ : m - 1 + 1 - n ≡ m - n = omega arith in
       let s₂ : m - n - 1 + 1 - (m - n) ≡ 0 = omega arith in
       let none : m - m ≡ 0 = omega arith in
       let whole : m - n + n ≡ m = omega arith in
-      let short = scaled (m - n) n (m - n) (rw s₁ at p) (o .short .some) (o .short .narrow) (omega arith) (omega arith)
+      let short = scaled (m - n) n (m - n) (rw s₁ at p) (o .short .some) short-narrow (omega arith) (omega arith)
       (omega arith) in
       let rest = scaled 0 (m - n) n (rw s₂ at q) (omega arith) (omega arith) (omega arith) (o .short .some)
-      (o .short .narrow) in
+      short-narrow in
       let sum = total t (m - n) n in
       let old = total t 0 (m - n) in
       let long : total t 0 m ≡ old +ℤ sum = rw (whole, zero-add) at (total-parts t 0 (m - n) n) in

@@ -2,9 +2,11 @@
 use mathlib.Core.Bool.{true, false}
 use mathlib.Core.List.{[], _∷_, map}
 use mathlib.Core.Path.{_≡_, refl}
+use Prim.Native.Nat.{suc}
 use lib.IntN.{pos, negsuc}
 use lib.ListN.{replicate}
 use lib.Ieee.{Float, nan, fin, round, add, sub, div, ofInt, lt, eq, le, toBits}
+use Rattle.limits.specs.Limits.{longestWindow}
 use Rattle.rounding.specs.Leaves.{one, signOf}
 use Rattle.calls.specs.declared.Refusal.the-variants.{
   OutputTooShort,
@@ -54,8 +56,8 @@ double-answers : doubleAnswer (plusZero ∷ []) 1 2 1
     ∷ doubleAnswer (plusZero ∷ []) 3 0 1
     ∷ doubleAnswer (plusZero ∷ []) 0 0 1
     ∷ doubleAnswer [] 2 1 0
-    ∷ doubleAnswer [] 4097 0 0
-    ∷ doubleAnswer (plusZero ∷ []) 2 4097 1
+    ∷ doubleAnswer [] (suc longestWindow) 0 0
+    ∷ doubleAnswer (plusZero ∷ []) 2 (suc longestWindow) 1
     ∷ doubleAnswer (plusZero ∷ []) 2 2 0
     ∷ doubleAnswer (nan ∷ []) 2 2 1
     ∷ []

@@ -2,13 +2,11 @@
 use calls::Answer;
 use calls::Refusal;
 ghost use mathlib.Core.Path.{_≡_};
-ghost use mathlib.Core.Bool.{false};
 ghost use Prim.Native.Nat.{_<_, _≤_, _-_};
 ghost use lib.ListN.{length};
-ghost use lib.Ieee.{binary64, ofInt, isNan};
+ghost use lib.Ieee.{binary64, ofInt};
 ghost use Rattle.rules_double.specs.inner.Stages.{crossing, Started};
 ghost use Rattle.rules_double.specs.inner.Ticks.{ticksOf, spread, change, OverTicks, tickCells, TickRoom, Spread};
-ghost use Rattle.rounding.specs.Leaves.{signOf};
 ghost use Rattle.limits.specs.Limits.{Window};
 ghost use Rattle.cells.specs.Line.{line};
 ghost use Rattle.windows.specs.Window.{addThenSubtract};
@@ -22,18 +20,6 @@ pub fn cross(short: f64, n: usize, long: f64, m: usize) -> f64
     ensures { λ r. ⌜ r ≡ crossing n m short long ⌝ }
 {
     rounding::sign(short / (n as f64) - long / (m as f64))
-}
-
-// 1.0 with the sign of a number.
-pub fn side(x: f64) -> f64
-    requires { ⌜ isNan «x» ≡ false ⌝ }
-    ensures { λ r. ⌜ r ≡ signOf «x» ⌝ }
-{
-    if f64::to_bits(x) >= 0x8000_0000_0000_0000 {
-        -1.0
-    } else {
-        1.0
-    }
 }
 
 // What bar i adds to the spread of whole ticks.
@@ -124,12 +110,12 @@ fn slide_spreads(series: &[f64], n: usize, m: usize, first: f64, out: &mut [f64]
         even = even + (last + one);
         odd = odd + (one + two);
         last = two;
-        out[i] = side(even);
-        out[i + 1] = side(odd);
+        out[i] = rounding::sign_of_number(even);
+        out[i + 1] = rounding::sign_of_number(odd);
         i += 2;
     }
     if i < series.len() {
-        out[i] = side(odd + change_at(series, n, m, i));
+        out[i] = rounding::sign_of_number(odd + change_at(series, n, m, i));
     }
 }
 
@@ -142,7 +128,7 @@ pub fn write_double_of_ticks(series: &[f64], n: usize, m: usize, out: &mut [f64]
 {
     cells::fill_lead(out, m - 1, series.len(), 0.0);
     let first = first_spread(series, n, m);
-    out[m - 1] = side(first);
+    out[m - 1] = rounding::sign_of_number(first);
     slide_spreads(series, n, m, first, out);
 }
 

@@ -18,23 +18,23 @@ use Rattle.checks.specs.inner.Due.{Priced}
 use Rattle.windows.specs.Window.{over, windowSum, mean, addDifference}
 use Rattle.windows.specs.inner.Sums.{Running}
 use Rattle.windows.proofs.Window.{causal-mean, next-running}
-use Rattle.windows.proofs.Runs.{run-at}
+use Rattle.windows.proofs.RunningSums.{running-sum-at}
 use Rattle.exact_ticks.proofs.Exact.{sum-whole, running-whole, difference-slides}
 use Rattle.exact_ticks.proofs.TickMeans.{tick-line}
 use Rattle.averages.specs.Blend.{blend, emaAlpha}
-use Rattle.windows.specs.inner.Means.{runMeans}
+use Rattle.windows.specs.inner.Means.{runningMeans}
 use Rattle.margins.specs.inner.Margin.{largestOf, marginOf}
 use Rattle.margins.proofs.Relative.{roof}
 use Rattle.margins.proofs.Sums.{Windowed}
 use Rattle.margins.proofs.Bound.{Largest, room-for, margin-wide}
 use Rattle.margins.proofs.Twice.{known, prices}
 use Rattle.window_means.specs.inner.Ticks.{longTicks}
-use Rattle.window_means.proofs.Ticks.{run-mean, known-ticks}
+use Rattle.window_means.proofs.Ticks.{running-mean, known-ticks}
 use Rattle.rules_ema.specs.SingleEma.{emaOfMeans, singleEmaFrom}
 use Rattle.rules_ema.specs.inner.Far.{distanceOf, decided}
 use Rattle.rules_ema.proofs.SingleEma.{first-average, next-average, position-at}
-use Rattle.rules_ema.specs.inner.Runs.{slidFrom, runEma, Decides}
-use Rattle.rules_ema.proofs.Runs.{Beside, begins, goes-on, decides}
+use Rattle.rules_ema.specs.inner.ByMargins.{slidFrom, runningEma, Decides}
+use Rattle.rules_ema.proofs.ByMargins.{Beside, begins, goes-on, decides}
 
 -- ---- the sum and the average, bar by bar
 
@@ -52,21 +52,21 @@ module _ (start n : ℕ) (f : Line) where
       (λ j. sub binary64 (f j) (f (j - n))) (i + 1) (omega arith) in
       e ∙ rw p (sym (rw last at next))
 
-  pub first-run : {x : Float} → x ≡ mean n (runMeans n f) start → x ≡ runEma start n f start
-  unfolding runEma
-  first-run e = e ∙ sym (carried-seed _ _ start _ _)
+  pub first-running-average : {x : Float} → x ≡ mean n (runningMeans n f) start → x ≡ runningEma start n f start
+  unfolding runningEma
+  first-running-average e = e ∙ sym (carried-seed _ _ start _ _)
 
-  pub next-run : (i : ℕ) {x y sum : Float} → x ≡ runEma start n f i → sum ≡ slidFrom start n f (i + 1)
-      → y ≡ blend (emaAlpha n) x (over n sum) → start ≤ i → y ≡ runEma start n f (i + 1)
-  unfolding runEma
-  next-run i p q e h =
+  pub next-running-average : (i : ℕ) {x y sum : Float} → x ≡ runningEma start n f i → sum ≡ slidFrom start n f (i + 1)
+      → y ≡ blend (emaAlpha n) x (over n sum) → start ≤ i → y ≡ runningEma start n f (i + 1)
+  unfolding runningEma
+  next-running-average i p q e h =
       let last : i + 1 - 1 ≡ i = omega arith in
-      let next = carried-next plusZero (blend (emaAlpha n)) start (mean n (runMeans n f) start)
+      let next = carried-next plusZero (blend (emaAlpha n)) start (mean n (runningMeans n f) start)
       (λ j. over n (slidFrom start n f j)) (i + 1) (omega arith) in
       e ∙ rw (p, q) (sym (rw last at next))
 
 -- the position of a bar that is decided
-pub decided-at : (start n : ℕ) (f : Line) {d x : Float} {i l : ℕ} → Decides d start n f l → x ≡ runEma start n f i
+pub decided-at : (start n : ℕ) (f : Line) {d x : Float} {i l : ℕ} → Decides d start n f l → x ≡ runningEma start n f i
     → decided d (f i) x ≡ true → (start ≤ i) × (i < l) → signOf (sub binary64 (f i) x) ≡ singleEmaFrom start n f i
 decided-at start n f {i = i} p e far m = rw e (p .position i m (rw e at far))
 
@@ -94,17 +94,17 @@ module _ (s : List Float) (n : ℕ) {out work : ℕ} (p : Priced 8 n s out work)
   largest = known s n (p .values) floats (p .window) (p .short)
 
   room : 16 * (n * (inUnits binary64 (largestOf (line s) (length s)) + 1)) < roof
-  room = room-for _ n (largest .low) (p .window .narrow)
+  room = room-for _ n (largest .low) (omega (arith, p .window .narrow))
 
   beside : (i : ℕ) → (start ≤ i) × (i < length s)
       → Beside (inUnits binary64 (largestOf (line s) (length s))) n (line s) start i (slidFrom start n (line s) i)
-      (runEma start n (line s) i)
+      (runningEma start n (line s) i)
   beside i (h, k) =
       each-bar start (length s)
       (begins window (p .short) room start full (sym (first-slid start n (line s) refl))
-      (sym (first-run start n (line s) refl)) (omega arith))
+      (sym (first-running-average start n (line s) refl)) (omega arith))
       (λ j m b. goes-on window (p .short) room start full b (sym (next-slid start n (line s) j refl refl (m .0)))
-      (sym (next-run start n (line s) j refl refl refl (m .0))) m)
+      (sym (next-running-average start n (line s) j refl refl refl (m .0))) m)
       i (h, k)
 
   -- the margin decides
@@ -142,19 +142,20 @@ module _ (s : List Float) (n : ℕ) (floats : (j : ℕ) → T (fits binary64 (li
       i (h, k)
 
   -- and over n it is the mean, so that the average is the rule's own
-  same-average : (i : ℕ) → (start ≤ i) × (i < length s) → runEma start n (line s) i ≡ emaOfMeans start n (line s) i
+  same-average : (i : ℕ) → (start ≤ i) × (i < length s) → runningEma start n (line s) i ≡ emaOfMeans start n (line s) i
   same-average i (h, k) =
       each-bar start (length s)
-      (sym (first-run start n (line s) refl)
+      (sym (first-running-average start n (line s) refl)
       ∙ first-average start n (line s)
-      (causal-mean n _ _ start (λ j m. run-mean s n j floats ticks window (omega arith))))
-      (λ j m e. sym (next-run start n (line s) j refl refl refl (m .0))
+      (causal-mean n _ _ start (λ j m. running-mean s n j floats ticks window (omega arith))))
+      (λ j m e. sym (next-running-average start n (line s) j refl refl refl (m .0))
       ∙ next-average start n (line s) j e (sum-mean (j + 1) (omega arith)) refl (m .0))
       i (h, k)
     where
       sum-mean : (j : ℕ) → (start ≤ j) × (j < length s) → over n (slidFrom start n (line s) j) ≡ mean n (line s) j
       sum-mean j m =
-          ap (over n) (run-at j (slid-running j m) (omega arith)) ∙ run-mean s n j floats ticks window (m .1)
+          ap (over n) (running-sum-at j (slid-running j m) (omega arith))
+          ∙ running-mean s n j floats ticks window (m .1)
 
   -- any distance decides
   ticks-decide : {d : Float} → Decides d start n (line s) (length s)

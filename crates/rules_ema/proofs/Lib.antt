@@ -3,5 +3,5 @@ pub mod SingleEma
 pub mod Bounds
 pub mod Decides
 pub mod Head
-pub mod Runs
-pub mod Tried
+pub mod ByMargins
+pub mod FinishedIf

@@ -5,11 +5,11 @@ ghost use Rattle.cells.specs.Line.{line};
 ghost use Rattle.checks.specs.inner.Due.{Priced};
 ghost use Rattle.window_means.specs.inner.Ticks.{longTicks};
 ghost use Rattle.rules_ema.specs.SingleEma.{singleEmaFrom, singleEmaLine};
-ghost use Rattle.rules_ema.specs.inner.Runs.{HeadRoom, HeadWritten, RunsStarted, Tried};
+ghost use Rattle.rules_ema.specs.inner.ByMargins.{HeadRoom, HeadWritten, StartedByMargins, FinishedIf};
 
 // Writes each bar's position, with the means after bar `start` by a running sum: as far as price and average are
 // farther apart than d, which decides. It says whether they are up to the last bar.
-fn write_from_runs(
+fn write_from_by_margins(
     series: &[f64],
     n: usize,
     start: usize,
@@ -18,8 +18,8 @@ fn write_from_runs(
     out: &mut [f64],
     work: &mut [f64],
 ) -> bool
-    requires { ⌜ RunsStarted n (now series) start seed d (length (now out)) (length (now work)) ⌝ }
-    ensures { λ r. ⌜ Tried r (singleEmaFrom start n (line (now (series .entry)))) (length (now (series .entry)))
+    requires { ⌜ StartedByMargins n (now series) start seed d (length (now out)) (length (now work)) ⌝ }
+    ensures { λ r. ⌜ FinishedIf r (singleEmaFrom start n (line (now (series .entry)))) (length (now (series .entry)))
         (now (out .entry)) (now (out .exit)) (now (work .entry)) (now (work .exit)) ⌝ }
 {
     let alpha = crate::bar::weight(n);
@@ -49,13 +49,16 @@ fn write_head(series: &[f64], n: usize, out: &mut [f64]) -> f64
     ensures { λ r. ⌜ HeadWritten n (line (now (series .entry))) r (now (out .entry)) (now (out .exit)) ⌝ }
 {
     let head = 2 * n - 1;
-    windows::sliding::write_means(&series[..head], n, out);
+    windows::sliding::write_running_means(&series[..head], n, out);
     windows::mean_at(&out[..head], n, head - 1)
 }
 
+// The shortest window that running sums are tried with on prices that are no whole ticks.
+const SHORTEST_BY_MARGINS: usize = 20;
+
 // Writes each bar's position by running sums, if the prices are whole ticks or the window is long enough for that to
 // pay, the first mean is not 0 and they decide every bar, and says whether it did.
-pub fn write_by_runs(
+pub fn write_by_margins(
     series: &[f64],
     n: usize,
     ticks: bool,
@@ -64,10 +67,10 @@ pub fn write_by_runs(
 ) -> bool
     requires { ⌜ Priced 8 n (now series) (length (now out)) (length (now work)) ⌝ }
     requires { ⌜ ticks ≡ longTicks n (now series) ⌝ }
-    ensures { λ r. ⌜ Tried r (singleEmaLine (length (now (series .entry))) n (line (now (series .entry))))
+    ensures { λ r. ⌜ FinishedIf r (singleEmaLine (length (now (series .entry))) n (line (now (series .entry))))
         (length (now (series .entry))) (now (out .entry)) (now (out .exit)) (now (work .entry)) (now (work .exit)) ⌝ }
 {
-    if (n < 20) & !ticks {
+    if (n < SHORTEST_BY_MARGINS) & !ticks {
         return false;
     }
     let start = 2 * n - 2;
@@ -75,7 +78,7 @@ pub fn write_by_runs(
         let seed = write_head(series, n, out);
         if out[n - 1] != 0.0 {
             let d = crate::far::distance(series, ticks);
-            return write_from_runs(series, n, start, seed, d, out, work);
+            return write_from_by_margins(series, n, start, seed, d, out, work);
         }
     }
     false

@@ -61,7 +61,7 @@ pub fn write_ema(series: &[f64], n: usize, out: &mut [f64], work: &mut [f64])
         (now (work .entry)) (now (work .exit)) ⌝ }
 {
     let ticks = window_means::are_long_ticks(series, n);
-    if by_margins::write_by_runs(series, n, ticks, out, work) {
+    if by_margins::write_by_margins(series, n, ticks, out, work) {
         return;
     }
     write_over_means(series, n, ticks, out, work);

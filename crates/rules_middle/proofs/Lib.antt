@@ -1,4 +1,4 @@
 mod Positions
 pub mod Middle
-pub mod Runs
+pub mod ByMargins
 pub mod Ticks

@@ -1,22 +1,21 @@
 -- The middle rule: no look-ahead, and a cell from what the stages before it wrote. Assumes nothing.
-use mathlib.Core.Path.{_≡_, refl, _∙_}
+use mathlib.Core.Path.{_≡_, _∙_}
 use mathlib.Core.List.{List}
 use Prim.Native.Nat.{ℕ, _+_, _-_, _*_, _<_, _≤_}
 use native.Mathlib.Omega.{arith}
 use lib.ListN.{length}
 use lib.Ieee.{Float, nan}
-use Rattle.cells.specs.Line.{Line, line, plusZero, fromBar, Causal}
+use Rattle.cells.specs.Line.{Line, line, plusZero, Causal}
 use Rattle.cells.specs.inner.Rows.{beside}
 use Rattle.cells.specs.Written.{Writing}
 use Rattle.cells.proofs.Carried.{from-same}
 use Rattle.cells.proofs.RowWrites.{beside-first, beside-second}
 use Rattle.cells.proofs.Written.{read-back}
 use Rattle.cells.proofs.Line.{causal-then, causal-from}
-use Rattle.windows.specs.Window.{mean}
 use Rattle.windows.proofs.Window.{causal-mean}
 use Rattle.extremes.specs.Extreme.{larger, smaller, extreme}
 use Rattle.extremes.proofs.Extreme.{causal-extreme}
-use Rattle.rules_middle.specs.Middle.{againstMiddle, midLine}
+use Rattle.rules_middle.specs.Middle.{againstMiddles, midLine}
 use Rattle.rules_middle.specs.inner.Positions.{positions}
 
 pub causal-mid : (n : ℕ) → 0 < n → Causal (midLine n)
@@ -30,15 +29,6 @@ causal-mid n p =
     ))
 
 -- ---- the positions of any means
-
--- the means of g against the middle of the last n of them, from bar 2n - 2 on
-abbrev pub middles : ℕ → Line → Line
-middles n g =
-    fromBar (2 * n - 2) plusZero (λ i. againstMiddle (g i) (extreme larger n g i) (extreme smaller n g i))
-
-pub middles-mid : (n : ℕ) (f : Line) → middles n (mean n f) ≡ midLine n f
-unfolding midLine
-middles-mid n f = refl
 
 -- the means of g stand in one slice, and the highest and the lowest of the last n in two rows of another
 pub record Standing (n bars : ℕ) (g : Line) (now rows : List Float) : Type 0 where
@@ -56,6 +46,6 @@ standing n {bars} v w h k = record {
 }
 
 pub positions-are : {n bars : ℕ} {g : Line} {now rows : List Float} → Standing n bars g now rows → (i : ℕ) → i < bars
-    → positions n bars (line now) (line rows) i ≡ middles n g i
+    → positions n bars (line now) (line rows) i ≡ againstMiddles n g (extreme larger n g) (extreme smaller n g) i
 positions-are {n} w i l =
     from-same (2 * n - 2) plusZero _ _ i (λ b. rw (w .mean-is i l, w .high-is i l, w .low-is i l))

@@ -25,7 +25,7 @@ use Rattle.cells.proofs.Line.{from-bar}
 use Rattle.windows.specs.Window.{mean, windowTotal}
 use Rattle.exact_ticks.proofs.Exact.{TickLine, window-whole, mean-exact}
 use Rattle.exact_ticks.proofs.Errors.{products, window-total-size}
-use Rattle.exact_ticks.proofs.Runs.{some-abs}
+use Rattle.exact_ticks.proofs.RunningSums.{some-abs}
 use Rattle.extremes.specs.Extreme.{larger, smaller, pickFrom, extreme}
 pub use Rattle.margins.proofs.Middle.{two-is}
 use Rattle.rules_middle.specs.Middle.{midLine}

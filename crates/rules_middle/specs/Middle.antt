@@ -19,13 +19,15 @@ againstMiddle average high low =
     cond (eq high plusZero || eq low plusZero) plusZero
     (signOf (sub binary64 average (div binary64 (add binary64 high low) two)))
 
+-- the means against the middle of a highest and a lowest one, from bar 2n - 2 on
+abbrev pub againstMiddles : ℕ → Line → Line → Line → Line
+againstMiddles n means highs lows = fromBar (2 * n - 2) plusZero (λ i. againstMiddle (means i) (highs i) (lows i))
+
 -- ---- mid_positions: the middle
 
 -- the mean against the middle of the last n means, from bar 2n - 2 on
 unfoldable pub midLine : ℕ → Line → Line
-midLine n f =
-    fromBar (2 * n - 2) plusZero
-    (λ i. againstMiddle (mean n f i) (extreme larger n (mean n f) i) (extreme smaller n (mean n f) i))
+midLine n f = againstMiddles n (mean n f) (extreme larger n (mean n f)) (extreme smaller n (mean n f))
 
 -- what a call of `mid_positions` promises
 abbrev pub MidCall : List Float → ℕ → List Float → List Float → Answer → List Float → List Float → Type 0

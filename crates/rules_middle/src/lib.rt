@@ -73,18 +73,24 @@ pub fn all_far(bars: usize, means: &[f64], rows: &[f64], first: usize, d: f64) -
     far
 }
 
+// The shortest window that running sums are tried with: there a series in doubt still takes less time than in pure.rs.
+const SHORTEST_BY_MARGINS: usize = 40;
+
+// They are tried on a series of at most this many windows: in a longer one some bar mostly has a tie.
+const MOST_WINDOWS: usize = 512;
+
 // Writes each bar's position by running sums, if that pays and they decide every bar, and says whether it did. It pays
 // where the window is long, and the bars are so few that a tie is unlikely. The first two rows of `work` are used.
-fn write_mid_by_runs(series: &[f64], n: usize, out: &mut [f64], work: &mut [f64]) -> bool
+fn write_mid_by_margins(series: &[f64], n: usize, out: &mut [f64], work: &mut [f64]) -> bool
     requires { ⌜ Priced 2 n (now series) (length (now out)) (length (now work)) ⌝ }
     ensures { λ r. ⌜ Decided r (midLine n (line (now (series .entry)))) (length (now (series .entry)))
         (now (out .entry)) (now (out .exit)) (now (work .entry)) (now (work .exit)) ⌝ }
 {
     let bars = series.len();
-    if n < 40 || 512 * n < bars {
+    if n < SHORTEST_BY_MARGINS || MOST_WINDOWS * n < bars {
         return false;
     }
-    windows::sliding::write_means(series, n, out);
+    windows::sliding::write_running_means(series, n, out);
     extremes::ranges::write_ranges(&out[..bars], n, work);
     let far = all_far(bars, out, work, 2 * n - 2, margins::margin(series));
     if far {
@@ -117,7 +123,7 @@ pub fn write_mid(series: &[f64], n: usize, out: &mut [f64], work: &mut [f64])
         write_mid_of_means(series, n, ticks, out, work);
         return;
     }
-    if write_mid_by_runs(series, n, out, work) {
+    if write_mid_by_margins(series, n, out, work) {
         return;
     }
     write_mid_of_means(series, n, ticks, out, work);

@@ -1,8 +1,10 @@
 -- mms_positions at small series, with the cells that pure.rs gave, and its answers. Assumes nothing.
 use mathlib.Core.Path.{_≡_, refl}
 use mathlib.Core.List.{[], _∷_}
+use Prim.Native.Nat.{suc}
 use lib.IntN.{pos}
 use lib.Ieee.{round, neg, add, sub, mul, div, lt, eq, le, ofInt, ofBits, toBits}
+use Rattle.limits.specs.Limits.{longestWindow}
 use Rattle.calls.specs.declared.Refusal.the-variants.{WindowTooLong, WorkTooShort}
 use Rattle.calls.specs.declared.Answer.the-variants.{Cells, Refused}
 use Rattle.values.specs.Accepted.{accepted}
@@ -43,8 +45,8 @@ mms-edges = (refl, refl, refl, refl, refl, refl, refl, refl, refl)
 mms-answers : mmsAnswer (plusZero ∷ []) 1 1 1 8
     ∷ mmsAnswer (plusZero ∷ []) 0 1 1 8
     ∷ mmsAnswer (plusZero ∷ []) 1 0 1 8
-    ∷ mmsAnswer (plusZero ∷ []) 4097 0 1 8
-    ∷ mmsAnswer (plusZero ∷ []) 0 4097 1 8
+    ∷ mmsAnswer (plusZero ∷ []) (suc longestWindow) 0 1 8
+    ∷ mmsAnswer (plusZero ∷ []) 0 (suc longestWindow) 1 8
     ∷ mmsAnswer [] 1 1 0 0
     ∷ mmsAnswer (plusZero ∷ []) 1 1 1 7
     ∷ []

@@ -2,65 +2,35 @@
 -- Assumes nothing.
 use mathlib.Core.Path.{_≡_, refl, sym, ap, _∙_}
 use mathlib.Core.Bool.{Bool, true, false, not, _&&_, cond, true≢false}
-use Prim.Native.Nat.{ℕ, zero, suc, _+_, _-_, _*_, _^_, _<_, _≤_}
-use native.Mathlib.Nat.{
-  zero-lt-suc,
-  zero-mul,
-  mul-pos,
-  mul-assoc,
-  mul-comm,
-  mul-left-comm,
-  mul-le-mul-right,
-  add-zero,
-  zero-add,
-  add-comm,
-}
+use Prim.Native.Nat.{ℕ, _+_, _-_, _*_, _<_, _≤_}
+use native.Mathlib.Nat.{mul-pos, mul-comm, mul-left-comm, mul-le-mul-right}
 use native.Mathlib.Omega.{arith}
 use borrow.Author.Tests.{ltb-true, ltb-false, lt-ltb, le-ltb, not-true, not-false}
-use lib.Dec.{T, ltb, lit<}
+use lib.Dec.{ltb, lit<}
 use lib.IntN.{ℤ, negsuc}
-use lib.Ieee.{Float, nan, inf, fin, binary64, up, down, odd, units, round, sum, sub, lt, eq, le, isNan}
-use lib.Ieee.{below as isBelow}
-use lib.Ieee.Exact.{HasValue}
-use lib.Ieee.Fits.{round-is, up-pos, down-pos}
+use lib.Ieee.{Float, nan, inf, fin, binary64, up, down, round, sum, sub, lt, le, isNan}
+use lib.Ieee.Fits.{up-pos, down-pos}
 use lib.Ieee.Order.{round-mono}
-use lib.Ieee.Scale.{round-same, finite}
+use lib.Ieee.Scale.{finite}
 use Rattle.rounding_laws.proofs.Integers.{gap}
 use Rattle.rounding_laws.proofs.Value.{sub-at, lt-at}
 use Rattle.rounding.specs.Leaves.{negative, magnitudeOf}
 use Rattle.rounding.specs.Literals.{tenToMinus}
-use Rattle.rounding.proofs.Signs.{round-plain}
+use Rattle.rounding.proofs.Signs.{round-plain, round-magnitude}
 use Rattle.values.proofs.All.{and-parts}
 use Rattle.extremes.proofs.Order.{lt-between}
 use Rattle.rounding_order.proofs.Compared.{either-way, le-is}
 use Rattle.rounding_order.proofs.Enclosed.{neither-way}
+use Rattle.rounding_order.proofs.Rounded.{plus, minus, below-parts, Parts, parts, not-below, zero-rounded}
+use Rattle.cells.specs.Line.{plusZero}
 use Rattle.ranks.specs.Counted.{belowBy}
 use Rattle.rules_rank.specs.RollingRank.{near, wellBelow}
 
 -- ---- rounded numbers
 
-odd-size : (s : Bool) (q k : ℕ) → magnitudeOf (odd 54 s q k 1074) ≡ odd 54 false q k 1074
-unfolding odd magnitudeOf
-odd-size s zero k = refl
-odd-size s (suc q) k = refl
-
-units-size : (s : Bool) (q k : ℕ) → magnitudeOf (units binary64 s q k) ≡ units binary64 false q k
-unfolding units magnitudeOf
-units-size s q k = go (ltb (q * 2 ^ k) (2 ^ 2098))
-  where
-    go : (t : Bool) → magnitudeOf (cond t (odd 54 s q k 1074) (inf s)) ≡ cond t (odd 54 false q k 1074) (inf false)
-    go true = odd-size s q k
-    go false = refl
-
-round-size : (s : Bool) (a b : ℕ) → magnitudeOf (round binary64 s a b) ≡ round binary64 false a b
-round-size s a b = ap magnitudeOf (round-is binary64 s a b) ∙ units-size s _ _ ∙ sym (round-is binary64 false a b)
-
--- what a number a with the sign s has above 0, and below it
-abbrev plus : Bool → ℕ → ℕ
-plus s a = cond s 0 a
-
-abbrev minus : Bool → ℕ → ℕ
-minus s a = cond s a 0
+-- a rounded number without its sign
+size-of : (s : Bool) {a b : ℕ} (c : ℕ) → a ≡ b → magnitudeOf (round binary64 s a c) ≡ round binary64 false b c
+size-of s {a} c e = round-magnitude binary64 s a c ∙ ap (λ (d : ℕ). round binary64 false d c) e
 
 -- the size of a difference
 difference-size : (s t : Bool) (a b c : ℕ)
@@ -72,36 +42,17 @@ difference-size false false a b c = go (ltb a b) refl
     go : (p : Bool) → ltb a b ≡ p
         → magnitudeOf (cond p (round binary64 true (b - a) c) (round binary64 false (a - b) c))
         ≡ round binary64 false (gap (a + 0) (b + 0)) c
-    go true e =
-        let l = ltb-true a b e in round-size true (b - a) c ∙ ap (λ (d : ℕ). round binary64 false d c) (omega arith)
-    go false e =
-        let l = ltb-false a b e in round-size false (a - b) c ∙ ap (λ (d : ℕ). round binary64 false d c) (omega arith)
-difference-size false true a b c = round-size false (a + b) c ∙ ap (λ (d : ℕ). round binary64 false d c) (omega arith)
-difference-size true false a b c = round-size true (a + b) c ∙ ap (λ (d : ℕ). round binary64 false d c) (omega arith)
+    go true e = let l = ltb-true a b e in size-of true c (omega arith)
+    go false e = let l = ltb-false a b e in size-of false c (omega arith)
+difference-size false true a b c = size-of false c (omega arith)
+difference-size true false a b c = size-of true c (omega arith)
 difference-size true true a b c = go (ltb a b) refl
   where
     go : (p : Bool) → ltb a b ≡ p
         → magnitudeOf (cond p (round binary64 false (b - a) c) (round binary64 (ltb b a) (a - b) c))
         ≡ round binary64 false (gap (0 + b) (0 + a)) c
-    go true e =
-        let l = ltb-true a b e in round-size false (b - a) c ∙ ap (λ (d : ℕ). round binary64 false d c) (omega arith)
-    go false e =
-        let l = ltb-false a b e in round-size (ltb b a) (a - b) c ∙ ap (λ (d : ℕ). round binary64 false d c)
-        (omega arith)
-
--- the order of two, by the same parts
-below-parts : (s t : Bool) (a b : ℕ) → isBelow s a t b ≡ ltb (plus s a + minus t b) (plus t b + minus s a)
-below-parts false false a b = simp add-zero
-below-parts false true a b = sym (le-ltb (a + b) (0 + 0) (omega arith))
-below-parts true false a b = rw (add-comm a b)
-below-parts true true a b = simp zero-add
-
-holds : (t : Bool) → T t → t ≡ true
-holds true h = refl
-holds false h = absurd h
-
-not-below : (x y : Float) → isNan x ≡ false → isNan y ≡ false → T (le x y) → lt y x ≡ false
-not-below x y p q h = not-true (lt y x) (sym (le-is x y p q) ∙ holds (le x y) h)
+    go true e = let l = ltb-true a b e in size-of false c (omega arith)
+    go false e = let l = ltb-false a b e in size-of (ltb b a) c (omega arith)
 
 pub number : (x : Float) → finite x ≡ true → isNan x ≡ false
 unfolding isNan
@@ -115,20 +66,10 @@ shorter d g c bound C h e =
     let small = round binary64 false g c in
     let large = round binary64 false d c in
     let less = round-mono binary64 g c d c C C (mul-le-mul-right c h) in
-    let order = not-below small large (round-plain false g c .1) (round-plain false d c .1) less in
+    let order = not-below small large less in
     either-way _ (λ z. true≢false (sym e ∙ lt-between false large small bound (round-plain false g c .1) order z))
 
 -- ---- three numbers on one scale
-
--- x as a number of parts with a sign, of which c make 1
-record Parts (x : Float) (c : ℕ) : Type 0 where
-  sign : Bool
-  count : ℕ
-  value : HasValue x sign count c
-
-parts : (s : Bool) (m : ℕ) (e : ℤ) (k c : ℕ) → down e * k ≡ c → Parts (fin s m e) c
-parts s m e k c h =
-    record { sign = s; count = m * up e * k; value = (refl, rw (← h) (simp (mul-assoc, mul-comm, mul-left-comm))) }
 
 record Scale (x y v : Float) : Type 0 where
   c : ℕ
@@ -175,12 +116,12 @@ module _ {x y : Float} {c : ℕ} (C : 0 < c) (p : Parts x c) (q : Parts y c) whe
 
 -- ---- what is near
 
-zero-near : lt (round binary64 false 0 1) (tenToMinus 8) ≡ true
+zero-near : lt plusZero (tenToMinus 8) ≡ true
 unfolding round lt tenToMinus
 zero-near = refl
 
 at-zero : (c : ℕ) → 0 < c → lt (round binary64 false 0 c) (tenToMinus 8) ≡ true
-at-zero c C = rw (round-same binary64 false 0 c 0 1 C (zero-lt-suc 0) (simp zero-mul)) zero-near
+at-zero c C = rw (zero-rounded c C) zero-near
 
 module _ (v : Float) (z : finite v ≡ true) where
   -- from x up to v, what is not below x is as near as x

@@ -1,8 +1,10 @@
 -- rank_positions at small series, with the cells that pure.rs gives. Assumes nothing.
 use mathlib.Core.Path.{_≡_, refl}
 use mathlib.Core.List.{[], _∷_, map}
+use Prim.Native.Nat.{suc}
 use lib.IntN.{pos}
 use lib.Ieee.{nan, round, add, sub, mul, div, lt, eq, le, ofInt, ofBits, toBits}
+use Rattle.limits.specs.Limits.{longestWindow}
 use Rattle.calls.specs.declared.Refusal.the-variants.{WindowTooLong}
 use Rattle.calls.specs.declared.Answer.the-variants.{Cells, Refused}
 use Rattle.calls.specs.Answer.{slices, checked, windowed, answered}
@@ -47,7 +49,8 @@ unfolding wholeRank roundToWhole sub mul div ofInt ofBits round
 whole-ranks = (refl, refl, refl)
 
 -- one bar; a window of 0; a window too long; no bars
-rank-answers : map (λ n. answered accepted (plusZero ∷ []) (n ∷ []) 1 (8 ∷ [])) (1 ∷ 0 ∷ 4096 ∷ 4097 ∷ [])
+rank-answers : map (λ n. answered accepted (plusZero ∷ []) (n ∷ []) 1 (8 ∷ []))
+    (1 ∷ 0 ∷ longestWindow ∷ suc longestWindow ∷ [])
     ≡ Cells 1 ∷ Cells 0 ∷ Cells 1 ∷ Refused WindowTooLong ∷ []
 unfolding answered slices checked windowed accepted lt eq le toBits
 rank-answers = refl

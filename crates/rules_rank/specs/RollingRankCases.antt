@@ -1,8 +1,10 @@
 -- rolling_rank at small series, with the cells that pure.rs gives, and its answers. Assumes nothing.
 use mathlib.Core.Path.{_≡_, refl}
 use mathlib.Core.List.{[], _∷_}
+use Prim.Native.Nat.{suc}
 use lib.IntN.{pos}
 use lib.Ieee.{round, neg, add, sub, lt, eq, le, ofInt, ofBits, toBits}
+use Rattle.limits.specs.Limits.{longestWindow}
 use Rattle.calls.specs.declared.Refusal.the-variants.{WorkTooShort, WindowTooLong}
 use Rattle.calls.specs.declared.Answer.the-variants.{Cells, Refused}
 use Rattle.values.specs.Accepted.{accepted}
@@ -46,7 +48,7 @@ rolling-rank-clusters = (refl, refl, refl, refl, refl)
 -- three bars; a window of 0 is answered with all cells; a window too long; no bars; a work slice of 7 cells
 rolling-rank-answers : rollingRankAnswer (plusZero ∷ plusZero ∷ plusZero ∷ []) 2 3 24
     ∷ rollingRankAnswer (plusZero ∷ []) 0 1 8
-    ∷ rollingRankAnswer (plusZero ∷ []) 4097 1 8
+    ∷ rollingRankAnswer (plusZero ∷ []) (suc longestWindow) 1 8
     ∷ rollingRankAnswer [] 2 0 0
     ∷ rollingRankAnswer (plusZero ∷ []) 0 1 7
     ∷ []

@@ -1,20 +1,18 @@
 -- The rule against the relative strength index: no look-ahead, what its cells are, and an index from its sums. Assumes
 -- nothing.
-use mathlib.Core.Path.{_≡_, refl, sym}
-use mathlib.Core.Bool.{false}
-use Prim.Native.Nat.{ℕ, zero, suc, _+_, _-_, _*_, _<_, _≤_}
+use mathlib.Core.Path.{_≡_}
+use Prim.Native.Nat.{ℕ, suc, _-_, _<_, _≤_}
 use native.Mathlib.Omega.{arith}
 use borrow.Author.Tests.{le-leb, lt-leb}
-use lib.Ieee.{Float, nan, inf, fin, lt, eq}
+use lib.Ieee.{Float, nan, lt, eq}
 use Rattle.rounding.specs.Literals.{hundred}
 use Rattle.cells.specs.Line.{Line, plusZero, Causal}
 use Rattle.cells.proofs.Line.{causal-self, causal-same, causal-then}
-use Rattle.cells.specs.Recur.{recur}
 use Rattle.windows.specs.Window.{sumFrom, mean}
 use Rattle.windows.proofs.Window.{sumFrom-same, causal-mean}
 use Rattle.changes.specs.Changes.{gains, losses}
 use Rattle.changes.proofs.Causal.{causal-gains, causal-losses}
-use Rattle.rules_held.specs.Held.{flat, long, short, moved, hold}
+use Rattle.rules_held.specs.Held.{long, short}
 use Rattle.rules_held.proofs.Holding.{
   Position,
   at-flat,
@@ -31,7 +29,6 @@ use Rattle.rules_rsi.specs.RsiReverse.{
   indexOf,
   rsiBefore,
   opensAt,
-  turnsAt,
   turned,
   rsiReverseLine,
 }
@@ -98,28 +95,3 @@ module _ (n i : ℕ) (g : Line) where
 -- Once there are enough changes there always are: a position that were reset where too few are there would be the same.
 pub enough-stays : (n i j : ℕ) → i ≤ j → n - 1 ≤ changesBefore n i → n - 1 ≤ changesBefore n j
 enough-stays n i j l h = omega arith
-
--- ---- before the first index
-
-lt-nan : (x : Float) → lt x nan ≡ false
-unfolding lt
-lt-nan nan = refl
-lt-nan (inf s) = refl
-lt-nan (fin s m e) = refl
-
-nan-opens : (upper lower : Float) → opensAt upper lower nan ≡ flat
-unfolding lt
-nan-opens upper lower = rw (lt-nan upper)
-
--- Where changes are needed, the positions are flat before bar 2n - 1: at every bar, if n is longer than the series.
-module _ (n : ℕ) (upper lower exit : Float) (f : Line) (some : 1 < n) where
-  flat-after : (k : ℕ) → k < 2 * n
-      → recur flat (λ j position. moved position (turnsAt upper lower exit (rsiBefore n (mean n f) j))) k ≡ flat
-  unfolding recur moved
-  flat-after zero h = refl
-  flat-after (suc k) h =
-      rw (flat-after k (omega arith), ← too-few n k (mean n f) (omega arith)) (nan-opens upper lower)
-
-  pub flat-before-index : (i : ℕ) → i + 1 < 2 * n → rsiReverseLine n upper lower exit f i ≡ flat
-  unfolding rsiReverseLine turned hold
-  flat-before-index i h = flat-after (suc i) (omega arith)

@@ -13,19 +13,18 @@ use lib.Ieee.{Float, nan, binary64, ofInt, lt}
 use Rattle.values.proofs.All.{and-parts}
 use Rattle.cells.specs.Line.{Line, line, plusZero, minusZero}
 use Rattle.cells.specs.Written.{Writing}
-use Rattle.cells.specs.inner.Rows.{beside}
 use Rattle.cells.specs.inner.Touched.{Touched}
 use Rattle.cells.proofs.Leads.{not-yet}
 use Rattle.cells.proofs.RowWrites.{beside-first, beside-second}
 use Rattle.cells.proofs.Touched.{touched, touched-then, touched-more}
 use Rattle.cells.proofs.Written.{read-back, writing-same}
-use Rattle.windows.specs.declared.Lanes.{Lanes}
-use Rattle.windows.specs.inner.Eight.{Eight}
+use Rattle.windows.specs.declared.Eight.{Eight}
+use Rattle.windows.specs.inner.Eight.{EightOf}
 use Rattle.windows.specs.Window.{sumFrom, windowSum, mean}
 use Rattle.windows.proofs.Zeros.{EitherZero, either-above, either-plus, sums-from-either}
 use Rattle.window_means.specs.inner.Row.{RowHolds}
-use Rattle.window_means.proofs.Row.{none-of-row, row-before, first-row}
-use Rattle.changes.specs.Changes.{gain, change, gains, losses}
+use Rattle.window_means.proofs.Row.{none-of-row, row-before, first-row, row-stands}
+use Rattle.changes.specs.Changes.{gain, gains, losses}
 use Rattle.changes.proofs.Causal.{causal-change}
 use Rattle.rules_rsi.specs.RsiReverse.{changesBefore, sumBefore, rsiBefore}
 use Rattle.rules_rsi.specs.inner.Stages.{part, parts, withParts, Changed, indexBy, eachIndex}
@@ -76,7 +75,7 @@ module _ (losing : Bool) (to : ℕ) {bars : ℕ} {old now : List Float}
 
   -- and a row before it still holds its own
   pub row-stays : {at lo : ℕ} {f : Line} → RowHolds at lo bars f old → at + bars ≤ to → RowHolds at lo bars f now
-  row-stays {at} h l = record { cell = λ i m. cell-stays losing to w (at + i) (omega arith) ∙ h .cell i m }
+  row-stays = row-stands (λ j l. cell-stays losing to w j (omega arith))
 
 -- the means, and then both rows
 pub three-rows : (n : ℕ) (s : List Float) {w0 w1 w2 w3 : List Float} → 3 * length s ≤ length w0
@@ -179,9 +178,9 @@ full-index n j g p q h =
     let count : changesBefore n j ≡ n = omega arith in
     rw count at (index-is n j g p q (omega arith))
 
-pub eight-indexes : (n i : ℕ) (g : Line) {up down r : Lanes} → Eight (sumBefore n (gains g)) i up
-    → Eight (sumBefore n (losses g)) i down
-    → r ≡ eachIndex (ofInt binary64 (pos n)) up down → 2 * n ≤ i → Eight (rsiBefore n g) i r
+pub eight-indexes : (n i : ℕ) (g : Line) {up down r : Eight} → EightOf (sumBefore n (gains g)) i up
+    → EightOf (sumBefore n (losses g)) i down
+    → r ≡ eachIndex (ofInt binary64 (pos n)) up down → 2 * n ≤ i → EightOf (rsiBefore n g) i r
 eight-indexes n i g u d e h =
     rw e
     (record {

@@ -2,22 +2,23 @@
 use mathlib.Core.Path.{_≡_, refl}
 use mathlib.Core.Bool.{true, false}
 use mathlib.Core.List.{List, [], _∷_}
-use Prim.Native.Nat.{ℕ}
+use Prim.Native.Nat.{ℕ, suc}
 use lib.IntN.{ℤ, pos}
 use lib.Ieee.{Float, nan, inf, round, neg, add, sub, mul, div, lt, eq, le, ofInt, ofBits, toBits}
+use Rattle.limits.specs.Limits.{longestWindow}
 use Rattle.rounding.specs.Leaves.{minusOne}
 use Rattle.rounding.specs.Literals.{half, hundred}
 use Rattle.calls.specs.declared.Refusal.the-variants.{ParameterNotFinite, WindowTooLong}
 use Rattle.calls.specs.declared.Answer.the-variants.{Cells, Refused}
 use Rattle.values.specs.Accepted.{accepted, finite}
-use Rattle.calls.specs.Answer.{slices, checked}
+use Rattle.calls.specs.Answer.{slices, checked, answeredWith}
 use Rattle.cells.specs.Line.{plusZero, fromBar}
 use Rattle.cells.specs.Recur.{recur}
 use Rattle.cells.specs.Shown.{num, prices, bits, cellsOf}
 use Rattle.windows.specs.Window.{sumFrom, windowSum, mean}
 use Rattle.changes.specs.Changes.{change, gains, losses}
 use Rattle.rules_held.specs.Held.{flat, long, short, moved, hold}
-use Rattle.rules_rsi.specs.RsiReverse.{sumBefore, rsiBefore, turned, rsiReverseLine, rsiReverseAnswer}
+use Rattle.rules_rsi.specs.RsiReverse.{sumBefore, rsiBefore, turned, rsiReverseLine}
 
 -- upper 70, lower 30, exit 50
 abbrev usual : ℕ → List Float → List ℤ
@@ -59,15 +60,15 @@ unfolding rsiReverseLine turned rsiBefore sumBefore gains losses change hold mov
 rsi-reverse-least = refl
 
 -- one bar; each of the three levels not finite, before a window too long; a window of 0; no bars
-rsi-reverse-answers : rsiReverseAnswer (plusZero ∷ []) 1 hundred plusZero half 1 8
-    ∷ rsiReverseAnswer (plusZero ∷ []) 4097 nan plusZero half 1 8
-    ∷ rsiReverseAnswer (plusZero ∷ []) 4097 hundred (inf false) half 1 8
-    ∷ rsiReverseAnswer (plusZero ∷ []) 4097 hundred plusZero (inf true) 1 8
-    ∷ rsiReverseAnswer (plusZero ∷ []) 4097 hundred plusZero half 1 8
-    ∷ rsiReverseAnswer (plusZero ∷ []) 0 hundred plusZero half 1 8
-    ∷ rsiReverseAnswer [] 1 hundred plusZero half 0 0
+rsi-reverse-answers : answeredWith accepted (plusZero ∷ []) (hundred ∷ plusZero ∷ half ∷ []) (1 ∷ []) 1 (8 ∷ [])
+    ∷ answeredWith accepted (plusZero ∷ []) (nan ∷ plusZero ∷ half ∷ []) (suc longestWindow ∷ []) 1 (8 ∷ [])
+    ∷ answeredWith accepted (plusZero ∷ []) (hundred ∷ (inf false) ∷ half ∷ []) (suc longestWindow ∷ []) 1 (8 ∷ [])
+    ∷ answeredWith accepted (plusZero ∷ []) (hundred ∷ plusZero ∷ (inf true) ∷ []) (suc longestWindow ∷ []) 1 (8 ∷ [])
+    ∷ answeredWith accepted (plusZero ∷ []) (hundred ∷ plusZero ∷ half ∷ []) (suc longestWindow ∷ []) 1 (8 ∷ [])
+    ∷ answeredWith accepted (plusZero ∷ []) (hundred ∷ plusZero ∷ half ∷ []) (0 ∷ []) 1 (8 ∷ [])
+    ∷ answeredWith accepted [] (hundred ∷ plusZero ∷ half ∷ []) (1 ∷ []) 0 (0 ∷ [])
     ∷ []
     ≡ Cells 1 ∷ Refused ParameterNotFinite ∷ Refused ParameterNotFinite ∷ Refused ParameterNotFinite
     ∷ Refused WindowTooLong ∷ Cells 0 ∷ Cells 0 ∷ []
-unfolding rsiReverseAnswer slices checked accepted finite lt eq le toBits
+unfolding answeredWith slices checked accepted finite lt eq le toBits
 rsi-reverse-answers = refl

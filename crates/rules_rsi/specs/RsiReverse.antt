@@ -14,8 +14,7 @@ use Rattle.windows.specs.Window.{sumFrom, over, mean}
 use Rattle.changes.specs.Changes.{gains, losses, rsiFormula}
 use Rattle.values.specs.Accepted.{accepted}
 use Rattle.calls.specs.declared.Answer.{Answer}
-use Rattle.calls.specs.declared.Answer.the-variants.{Cells}
-use Rattle.calls.specs.Answer.{andThen, checked, limited, unlessEmpty}
+use Rattle.calls.specs.Answer.{answeredWith}
 use Rattle.calls.specs.Call.{WorkCall}
 
 -- what a flat position opens: long below `lower`, else short above `upper`
@@ -58,16 +57,9 @@ rsiBefore n means i =
 unfoldable pub rsiReverseLine : ℕ → Float → Float → Float → Line → ℕ → ℤ
 rsiReverseLine n upper lower exit f = turned upper lower exit (rsiBefore n (mean n f))
 
--- refusals 1 to 5, then 6 for the three levels, 7 for n, and the empty answer
-unfoldable pub rsiReverseAnswer : List Float → ℕ → Float → Float → Float → ℕ → ℕ → Answer
-rsiReverseAnswer s n upper lower exit output work =
-    andThen (checked accepted (s ∷ []) (output ∷ []) (work ∷ []))
-    (limited (upper ∷ lower ∷ exit ∷ []) (n ∷ []) []
-    (unlessEmpty (length s) (n ∷ []) [] (Cells (length s))))
-
 -- what a call of `rsi_reverse_positions` promises
 abbrev pub RsiReverseCall : List Float → ℕ → Float → Float → Float → List ℤ → List Float → Answer → List ℤ → List Float
     → Type 0
 RsiReverseCall s n upper lower exit out₀ work₀ =
-    WorkCall (rsiReverseAnswer s n upper lower exit (length out₀) (length work₀))
+    WorkCall (answeredWith accepted s (upper ∷ lower ∷ exit ∷ []) (n ∷ []) (length out₀) (length work₀ ∷ []))
     (rsiReverseLine n upper lower exit (line s)) out₀ (length s) work₀

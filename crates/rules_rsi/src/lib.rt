@@ -1,10 +1,8 @@
-// The rule against the relative strength index: how its answer is found and its cells are written.
+// The rule against the relative strength index: how its cells are written.
 pub mod bar;
 pub mod held;
 
-use calls::Answer;
-use calls::Refusal;
-use windows::Lanes;
+use windows::Eight;
 ghost use mathlib.Core.Path.{_≡_};
 ghost use Prim.Native.Nat.{_+_, _*_, _<_, _≤_};
 ghost use lib.ListN.{length};
@@ -14,28 +12,8 @@ ghost use Rattle.cells.specs.Written.{Writing};
 ghost use Rattle.cells.specs.inner.Touched.{Touched};
 ghost use Rattle.windows.specs.Window.{mean};
 ghost use Rattle.checks.specs.inner.Due.{Priced};
-ghost use Rattle.rules_rsi.specs.RsiReverse.{rsiBefore, rsiReverseLine, rsiReverseAnswer};
-ghost use Rattle.rules_rsi.specs.inner.Stages.{part, withParts, Changed, eachIndex, Begun, Further};
-
-// The answer: refusal 6 for the levels comes after the series' own refusals, and before those of the window.
-pub fn answer_rsi_reverse(
-    series: &[f64],
-    n: usize,
-    upper: f64,
-    lower: f64,
-    exit: f64,
-    out: usize,
-    work: usize,
-) -> Answer
-    ensures { λ r. ⌜ r ≡ rsiReverseAnswer (now (series .entry)) n upper lower exit out work ⌝ }
-{
-    let due = checks::check_with_work(series, out, work);
-    let bars = series.len();
-    let window = checks::check_window(bars, n, Answer::Cells(bars));
-    let finite = values::is_finite(upper) & (values::is_finite(lower) & values::is_finite(exit));
-    let next = checks::unless_refused(finite, Refusal::ParameterNotFinite, window);
-    checks::and_then(due, next)
-}
+ghost use Rattle.rules_rsi.specs.RsiReverse.{rsiBefore, rsiReverseLine};
+ghost use Rattle.rules_rsi.specs.inner.Stages.{part, withParts, Changed, eachIndex, IndexesBefore, MoreIndexes};
 
 // The loss of a change, or its gain.
 fn part_of(change: f64, losing: bool) -> f64
@@ -76,10 +54,10 @@ fn write_changes(series: &[f64], n: usize, work: &mut [f64])
 }
 
 // The same for eight bars side by side.
-fn index_of_eight(up: Lanes, down: Lanes, count: f64) -> Lanes
+fn index_of_eight(up: Eight, down: Eight, count: f64) -> Eight
     ensures { λ r. ⌜ r ≡ eachIndex count up down ⌝ }
 {
-    Lanes {
+    Eight {
         lane0: bar::index_by(up.lane0, down.lane0, count),
         lane1: bar::index_by(up.lane1, down.lane1, count),
         lane2: bar::index_by(up.lane2, down.lane2, count),
@@ -93,7 +71,7 @@ fn index_of_eight(up: Lanes, down: Lanes, count: f64) -> Lanes
 
 // Writes the indexes of the sixteen bars from bar i on, which have n changes each, to the first row.
 fn write_sixteen(series: &[f64], n: usize, i: usize, work: &mut [f64])
-    requires { ⌜ Begun n (now series) i (now work) ⌝ }
+    requires { ⌜ IndexesBefore n (now series) i (now work) ⌝ }
     requires { ⌜ (2 * n ≤ i) × (i + 16 ≤ length (now series)) ⌝ }
     ensures { λ _. ⌜ Writing (i + 16) (rsiBefore n (mean n (line (now (series .entry))))) (now (work .entry))
         (now (work .exit)) ⌝ }
@@ -108,8 +86,8 @@ fn write_sixteen(series: &[f64], n: usize, i: usize, work: &mut [f64])
 
 // Writes the indexes of a few bars from bar i on to the first row, and gives how many they are.
 fn write_some(series: &[f64], n: usize, i: usize, work: &mut [f64]) -> usize
-    requires { ⌜ Begun n (now series) i (now work) ⌝ }
-    ensures { λ r. ⌜ Further n (now (series .entry)) i r (now (work .entry)) (now (work .exit)) ⌝ }
+    requires { ⌜ IndexesBefore n (now series) i (now work) ⌝ }
+    ensures { λ r. ⌜ MoreIndexes n (now (series .entry)) i r (now (work .entry)) (now (work .exit)) ⌝ }
 {
     let whole = (2 * n <= i) & (i + 16 <= series.len());
     if whole {

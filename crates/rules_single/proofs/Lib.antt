@@ -1,4 +1,4 @@
 pub mod Positions
-pub mod Runs
+pub mod ByMargins
 pub mod Single
 pub mod Ticks

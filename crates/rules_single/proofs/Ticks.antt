@@ -5,11 +5,11 @@ use mathlib.Core.List.{List}
 use Prim.Native.Nat.{ℕ, _+_, _-_, _*_, _^_, _<_, _≤_, zero-le}
 use native.Mathlib.Nat.{mul-le-mul, mul-pos}
 use native.Mathlib.Omega.{arith}
-use lib.Dec.{T, lit<, le→leb}
+use lib.Dec.{T, lit<}
 use lib.IntN.{ℤ, pos, natAbs, _*ℤ_}
 use lib.ListN.{length}
 use lib.Signed.{ltZ}
-use lib.Ieee.{Float, nan, binary64, mul, lt, eq, ne, ofInt, inFloat, fits}
+use lib.Ieee.{Float, nan, binary64, mul, lt, eq, ne, ofInt, fits}
 use lib.Ieee.Compare.{differs-from-itself}
 use lib.Ieee.Exact.{HasValue}
 use Rattle.rounding.specs.Leaves.{plusOne, minusOne}
@@ -30,13 +30,13 @@ use Rattle.windows.proofs.Window.{causal-mean}
 use Rattle.rules_single.specs.Single.{againstMean, singleLine}
 use Rattle.rules_single.proofs.Single.{single-at}
 use Rattle.exact_ticks.proofs.TickMeans.{tick-line}
-use Rattle.exact_ticks.proofs.Runs.{run-exact, runs-whole, size-times, some-abs, times-one}
-use Rattle.windows.specs.inner.Runs.{runs}
+use Rattle.exact_ticks.proofs.RunningSums.{running-sum-exact, running-sums-whole, size-times, some-abs, times-one}
+use Rattle.windows.specs.inner.RunningSums.{runningSums}
 use Rattle.rules_single.specs.inner.Tie.{tie}
-use Rattle.rules_single.specs.inner.Ticks.{TickRows}
+use Rattle.rules_single.specs.inner.Ticks.{longestExact, TickRows}
 
 module _ {l : ℕ} {f : Line} {t : ℕ → ℤ} (w : TickLine l f t) where
-  pub single-exact : (n i : ℕ) → 0 < n → n ≤ 1022 → 2 * n ≤ i + 2 → i < l
+  pub single-exact : (n i : ℕ) → 0 < n → n ≤ longestExact → 2 * n ≤ i + 2 → i < l
       → ¬ (windowTotal n (windowTotal n t) i ≡ pos 0) → ¬ (t i *ℤ pos (n * n) ≡ windowTotal n (windowTotal n t) i)
       → singleLine n f i ≡ cond (ltZ (t i *ℤ pos (n * n)) (windowTotal n (windowTotal n t) i)) minusOne plusOne
   unfolding singleLine
@@ -60,12 +60,12 @@ apart a b h e p =
     subst (λ (y : Float). HasValue y (isNegative b) (natAbs b) 1) (differs-from-itself x (rw other tt))
     (whole-value binary64 b h)
 
-module _ {l : ℕ} {f : Line} {t : ℕ → ℤ} (w : TickLine l f t) (n : ℕ) (N : 0 < n) (M : n ≤ 1022) (i : ℕ)
+module _ {l : ℕ} {f : Line} {t : ℕ → ℤ} (w : TickLine l f t) (n : ℕ) (N : 0 < n) (M : n ≤ longestExact) (i : ℕ)
     (p : 2 * n ≤ i + 2) (h : i < l) where
   abbrev D : ℤ
   D = windowTotal n (windowTotal n t) i
 
-  square : n * n ≤ 1022 * 1022
+  square : n * n ≤ longestExact * longestExact
   square = mul-le-mul M M
 
   total-small : natAbs D ≤ 2 ^ 53
@@ -74,9 +74,9 @@ module _ {l : ℕ} {f : Line} {t : ℕ → ℤ} (w : TickLine l f t) (n : ℕ) (
       (λ j m. window-size w (i + 1 - n + j + 1 - n) n (omega arith)) in
       omega (arith, square)
 
-  total-exact : runs n (runs n f) i ≡ ofInt binary64 D
+  total-exact : runningSums n (runningSums n f) i ≡ ofInt binary64 D
   total-exact =
-      run-exact (runs-whole w n N (omega arith)) n N (omega (arith, square)) i (omega arith) h
+      running-sum-exact (running-sums-whole w n N (omega arith)) n N (omega (arith, square)) i (omega arith) h
       ∙ ap (ofInt binary64) (total-same _ (windowTotal n t) (i + 1 - n) n
       (λ j m. from-bar (n - 1) (pos 0) (windowTotal n t) (i + 1 - n + j) (omega arith)))
 
@@ -88,9 +88,10 @@ module _ {l : ℕ} {f : Line} {t : ℕ → ℤ} (w : TickLine l f t) (n : ℕ) (
       (mul-pos N N, omega (arith, square)))
 
   -- where there is no tie, whole numbers decide
-  pub no-tie : tie (mul binary64 (f i) (ofInt binary64 (pos (n * n)))) (runs n (runs n f) i) ≡ false
-      → singleLine n f i ≡ cond (lt (mul binary64 (f i) (ofInt binary64 (pos (n * n)))) (runs n (runs n f) i))
-      minusOne plusOne
+  pub no-tie : tie (mul binary64 (f i) (ofInt binary64 (pos (n * n)))) (runningSums n (runningSums n f) i) ≡ false
+      → singleLine n f i
+      ≡ cond (lt (mul binary64 (f i) (ofInt binary64 (pos (n * n)))) (runningSums n (runningSums n f) i)) minusOne
+      plusOne
   no-tie e =
       let parts = or-parts (eq (ofInt binary64 (t i *ℤ pos (n * n))) (ofInt binary64 D))
       (eq (ofInt binary64 D) plusZero) (rw (← scaled-exact, ← total-exact) e) in
@@ -102,16 +103,12 @@ module _ {l : ℕ} {f : Line} {t : ℕ → ℤ} (w : TickLine l f t) (n : ℕ) (
       rw (scaled-exact, total-exact, order, times-one (t i *ℤ pos (n * n)), times-one D)
       (single-exact w n i N M p h some other)
 
-pub whole-is-float : (k : ℕ) → k ≤ 2 ^ 53 → T (inFloat binary64 (pos k))
-unfolding inFloat
-whole-is-float k h = le→leb k (2 ^ 53) h
-
 module _ {n : ℕ} {s now : List Float} (r : TickRows n s now) (floats : (i : ℕ) → T (fits binary64 (line s i))) (i : ℕ)
     (p : 2 * n ≤ i + 2) (h : i < length s) where
   mean-cell : (j : ℕ) → j ≤ i → line now j ≡ mean n (line s) j
   mean-cell j l = read-back j nan (r .rows) (omega (arith, r .room)) ∙ beside-first (length s) _ _ j (omega arith)
 
-  total-cell : line now (length s + i) ≡ runs n (runs n (line s)) i
+  total-cell : line now (length s + i) ≡ runningSums n (runningSums n (line s)) i
   total-cell = read-back (length s + i) nan (r .rows) (omega (arith, r .room)) ∙ beside-second (length s) _ _ i
 
   -- the rounded average decides every bar

@@ -11,7 +11,7 @@ ghost use mathlib.Core.Bool.{true};
 ghost use Prim.Native.Nat.{_+_, _*_, _<_, _≤_};
 ghost use Rattle.values.specs.Accepted.{tick, all};
 ghost use Rattle.windows.specs.Window.{mean};
-ghost use Rattle.rules_single.specs.inner.Ticks.{TickRows};
+ghost use Rattle.rules_single.specs.inner.Ticks.{longestExact, TickRows};
 ghost use Rattle.margins.specs.inner.Decided.{Decided};
 ghost use Rattle.cells.specs.inner.Touched.{Touched};
 ghost use Rattle.checks.specs.inner.Due.{Priced};
@@ -77,11 +77,14 @@ fn write_tick_positions(series: &[f64], work: &[f64], n: usize, out: &mut [f64])
     }
 }
 
+// The longest window whose sums of window sums of whole ticks are exact and decide.
+const LONGEST_EXACT: usize = 1022;
+
 // Writes each bar's position of whole ticks. Running sums are exact, and decide all but ties. Two rows of `work` are
 // used.
 fn write_single_of_ticks(series: &[f64], n: usize, out: &mut [f64], work: &mut [f64])
     requires { ⌜ Priced 2 n (now series) (length (now out)) (length (now work)) ⌝ }
-    requires { ⌜ (n ≤ 1022) × (all tick (now series) ≡ true) ⌝ }
+    requires { ⌜ (n ≤ longestExact) × (all tick (now series) ≡ true) ⌝ }
     ensures { λ _. ⌜ Writing (length (now (series .entry))) (singleLine n (line (now (series .entry))))
         (now (out .entry)) (now (out .exit))
         × Touched (2 * length (now (series .entry))) (now (work .entry)) (now (work .exit)) ⌝ }
@@ -93,19 +96,22 @@ fn write_single_of_ticks(series: &[f64], n: usize, out: &mut [f64], work: &mut [
     write_tick_positions(series, work, n, out);
 }
 
+// The shortest window that running sums are tried with: there a series in doubt still takes less time than in pure.rs.
+const SHORTEST_BY_MARGINS: usize = 40;
+
 // Writes each bar's position by running sums, if the window is long enough for that to pay and they decide every bar,
 // and says whether it did. One row of `work` is used.
-fn write_single_by_runs(series: &[f64], n: usize, out: &mut [f64], work: &mut [f64]) -> bool
+fn write_single_by_margins(series: &[f64], n: usize, out: &mut [f64], work: &mut [f64]) -> bool
     requires { ⌜ Priced 2 n (now series) (length (now out)) (length (now work)) ⌝ }
     ensures { λ r. ⌜ Decided r (singleLine n (line (now (series .entry)))) (length (now (series .entry)))
         (now (out .entry)) (now (out .exit)) (now (work .entry)) (now (work .exit)) ⌝ }
 {
-    if n < 40 {
+    if n < SHORTEST_BY_MARGINS {
         return false;
     }
     let bars = series.len();
-    windows::sliding::write_means(series, n, work);
-    windows::sliding::write_means(&work[..bars], n, out);
+    windows::sliding::write_running_means(series, n, work);
+    windows::sliding::write_running_means(&work[..bars], n, out);
     let far = margins::all_far(series, out, 2 * n - 2, margins::margin(series));
     if far {
         write_against_means(series, n, out);
@@ -135,13 +141,13 @@ pub fn write_single(series: &[f64], n: usize, out: &mut [f64], work: &mut [f64])
         × Touched (2 * length (now (series .entry))) (now (work .entry)) (now (work .exit)) ⌝ }
 {
     let ticks = window_means::are_long_ticks(series, n);
-    if n <= 1022 {
+    if n <= LONGEST_EXACT {
         if ticks {
             write_single_of_ticks(series, n, out, work);
             return;
         }
     }
-    if write_single_by_runs(series, n, out, work) {
+    if write_single_by_margins(series, n, out, work) {
         return;
     }
     write_single_of_means(series, n, ticks, out, work);

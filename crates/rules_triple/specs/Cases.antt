@@ -1,8 +1,10 @@
 -- triple_sma_positions at small series, with the cells that pure.rs gave, and its answers. Assumes nothing.
 use mathlib.Core.Path.{_≡_, refl}
 use mathlib.Core.List.{[], _∷_}
+use Prim.Native.Nat.{suc}
 use lib.IntN.{pos}
 use lib.Ieee.{round, add, div, lt, eq, le, ofInt, toBits}
+use Rattle.limits.specs.Limits.{longestWindow}
 use Rattle.calls.specs.declared.Refusal.the-variants.{WindowTooLong, SeriesTooShort, WindowsOutOfOrder}
 use Rattle.calls.specs.declared.Answer.the-variants.{Cells, Refused}
 use Rattle.values.specs.Accepted.{accepted}
@@ -38,7 +40,7 @@ triple-answers : tripleAnswer (plusZero ∷ plusZero ∷ plusZero ∷ []) 1 2 3 
     ∷ tripleAnswer (plusZero ∷ plusZero ∷ plusZero ∷ []) 2 2 3 3 24
     ∷ tripleAnswer (plusZero ∷ plusZero ∷ plusZero ∷ []) 1 3 3 3 24
     ∷ tripleAnswer (plusZero ∷ plusZero ∷ plusZero ∷ []) 2 0 9 3 24
-    ∷ tripleAnswer (plusZero ∷ plusZero ∷ plusZero ∷ []) 4097 0 0 3 24
+    ∷ tripleAnswer (plusZero ∷ plusZero ∷ plusZero ∷ []) (suc longestWindow) 0 0 3 24
     ∷ tripleAnswer [] 3 2 1 0 0
     ∷ []
     ≡ Cells 3

@@ -145,7 +145,7 @@ module _ {A : Type 0} {s : State} {w : ℕ} {counts : Counts} {read : List ℕ �
           absurd (false≢true (sym e ∙ rw same d))
 
   -- the next w columns and the byte after them are the next line
-  pub next-line : (rest more : List ℕ) → w + 1 ≤ length rest
+  next-line : (rest more : List ℕ) → w + 1 ≤ length rest
       → outcome s (lines (rest ++ more)) ≡ finally (then (read (take (w + 1) rest))) (lines (drop (w + 1) rest ++ more))
   unfolding outcome
   next-line [] more h = absurd (omega arith)

@@ -9,7 +9,7 @@ ghost use lib.ListN.{length};
 ghost use Rattle.cells.specs.Line.{line};
 ghost use Rattle.cells.specs.Written.{Writing};
 ghost use Rattle.smoother_table.specs.Coefficients.{coefficients};
-ghost use Rattle.smoother.specs.inner.Stages.{Begun, Smoothed};
+ghost use Rattle.smoother.specs.inner.Stages.{FirstFour, Smoothed};
 ghost use Rattle.limits.specs.Limits.{longestPeriod};
 
 // One cell, from the last three prices, the newest first, and the last two cells.
@@ -33,7 +33,7 @@ fn copy(from: &[f64], n: usize, to: &mut [f64])
 
 // Writes the cells from bar 4 on, where the first four stand.
 fn write_steps(price: &[f64], c: Coefficients, out: &mut [f64])
-    requires { ⌜ Begun c (now price) (now out) ⌝ }
+    requires { ⌜ FirstFour c (now price) (now out) ⌝ }
     ensures { λ _. ⌜ Smoothed c (now (price .entry)) (now (out .entry)) (now (out .exit)) ⌝ }
 {
     let mut i = 4;

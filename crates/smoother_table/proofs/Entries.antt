@@ -1,24 +1,17 @@
--- The tables begin at period 1, and an entry is one of its row. Assumes nothing.
+-- The tables begin at period 1, and a period has its place in a row of 32. Assumes nothing.
 use mathlib.Core.Path.{_≡_, ap, _∙_}
-use mathlib.Core.List.{List}
-use Prim.Native.Nat.{ℕ, zero, suc, _-_, _*_, _/_, _%_, _<_}
-use native.Mathlib.Nat.{not-suc-le-zero}
+use Prim.Native.Nat.{ℕ, suc, _+_, _-_, _*_, _/_, _%_, _<_}
 use native.Mathlib.Omega.{arith}
-use lib.ListN.{getD, take, drop}
-use lib.Seq.{getD-take, getD-drop}
-use lib.Ieee.{Float, nan}
-use Rattle.smoother_table.specs.Coefficients.{a1Of, a1Table, b1Of, b1Table, coefficients, ofPair}
+use Rattle.cells.specs.Line.{line}
+use Rattle.smoother_table.specs.Coefficients.{a1Of, a1Table, b1Of, b1Table}
+use Rattle.smoother_table.specs.declared.Pair.{Pair}
 
--- the tables begin at period 1
-pub at-index : (period : ℕ) → 0 < period → ofPair (getD a1Table (period - 1) nan) (getD b1Table (period - 1) nan)
-    ≡ coefficients period
-unfolding coefficients a1Of b1Of
-at-index zero p = absurd (not-suc-le-zero p)
-at-index (suc k) p =
-    let same : suc k - 1 ≡ k = omega arith in
-    rw same
-
--- an entry stands in its row of 16
-pub in-row : (t : List Float) (i : ℕ) → getD (take 16 (drop (i / 16 * 16) t)) (i % 16) nan ≡ getD t i nan
-in-row t i = getD-take 16 (drop (i / 16 * 16) t) (i % 16) nan (omega arith) ∙ getD-drop (i / 16 * 16) t (i % 16) nan
-    ∙ ap (λ (k : ℕ). getD t k nan) (omega arith)
+-- what stands at a period's place of its row is the pair of the period
+pub in-row : {period : ℕ} {pair : Pair} (row : ℕ) → 0 < period → (period - 1) / 32 ≡ row
+    → (pair .a1 ≡ line a1Table (32 * row + (period - 1) % 32))
+    × (pair .b1 ≡ line b1Table (32 * row + (period - 1) % 32))
+    → (pair .a1 ≡ a1Of period) × (pair .b1 ≡ b1Of period)
+unfolding a1Of b1Of
+in-row {period} row p e (a, b) =
+    let place : suc (32 * row + (period - 1) % 32) ≡ period = omega (arith, e) in
+    (a ∙ ap a1Of place, b ∙ ap b1Of place)

@@ -1,11 +1,11 @@
 -- Which numbers are periods of the smoother. Assumes nothing.
 use mathlib.Core.Path.{_≡_, refl, sym}
-use mathlib.Core.Bool.{Bool, true, false, _&&_, _||_, true≢false}
+use mathlib.Core.Bool.{Bool, true, false, _&&_, true≢false}
 use Prim.Native.Nat.{ℕ, _+_, _-_, _*_, _/_, _^_, _<_, _≤_, zero-le, min}
-use native.Mathlib.Nat.{le-of-eq, div-lt-iff-lt-mul}
+use native.Mathlib.Nat.{div-lt-iff-lt-mul}
 use native.Mathlib.Omega.{arith}
-use borrow.Author.Tests.{ltb-true, eqb-true}
-use lib.Dec.{T, ltb, eqb, lt→ltb}
+use borrow.Author.Tests.{eqb-true}
+use lib.Dec.{T, lt→ltb}
 use lib.IntN.{pos}
 use lib.Ieee.{Float, nan, inf, fin, up, down, lt, eq, le, toUnsigned}
 use lib.Ieee.Fits.{down-pos}
@@ -13,6 +13,8 @@ use Rattle.cells.specs.Line.{plusZero}
 use Rattle.smoother_table.specs.Coefficients.{power}
 use Rattle.smoother_table.specs.Period.{isPeriod, wholePart}
 use Rattle.limits.specs.Limits.{longestPeriod}
+use Rattle.values.proofs.All.{and-parts}
+use Rattle.values.proofs.Ticks.{at-most}
 
 -- ---- a number from 0 to 512 can be cut to its whole part, and that is at most 512
 
@@ -20,18 +22,6 @@ pub record Cut (x : Float) : Type 0 where
   pub above : T (lt (fin true 1 (pos 0)) x)
   pub below : T (lt x (fin false 1 (pos 64)))
   pub small : wholePart x ≤ longestPeriod
-
-at-most : (a b : ℕ) (t : Bool) → ltb a b || (eqb a b && t) ≡ true → a ≤ b
-at-most a b t = go (ltb a b) (eqb a b) refl refl
-  where
-    go : (p q : Bool) → ltb a b ≡ p → eqb a b ≡ q → p || (q && t) ≡ true → a ≤ b
-    go true q l e h = omega (arith, ltb-true a b l)
-    go false true l e h = le-of-eq (eqb-true a b e)
-    go false false l e h = absurd (true≢false (sym h))
-
-first-of : (p q : Bool) → p && q ≡ true → p ≡ true
-first-of true q h = refl
-first-of false q h = h
 
 pub cut : (x : Float) → le plusZero x ≡ true → le x (power 9) ≡ true → Cut x
 unfolding le lt eq toUnsigned
@@ -59,7 +49,7 @@ cut (fin true m e) h l =
     let n = m * up e in
     let d = down e in
     let some : 0 < d = down-pos e in
-    let none : 0 * 1 * d ≡ n * 1 = eqb-true (0 * 1 * d) (n * 1) (first-of _ _ h) in
+    let none : 0 * 1 * d ≡ n * 1 = eqb-true (0 * 1 * d) (n * 1) (and-parts _ _ h .0) in
     record {
       above = lt→ltb (n * 1) (1 * 1 * d) (omega arith);
       below = lt→ltb 0 (n * 1 + 1 * 2 ^ 64 * d) (omega arith);

@@ -3,53 +3,73 @@ mod table;
 
 use limits::LONGEST_PERIOD_F64;
 ghost use mathlib.Core.Path.{_≡_};
-ghost use Prim.Native.Nat.{_*_, _<_, _≤_};
-ghost use lib.ListN.{take, drop};
-ghost use Rattle.smoother_table.specs.Coefficients.{a1Table, b1Table, ofPair, coefficients};
+ghost use Prim.Native.Nat.{_+_, _*_, _<_, _≤_};
+ghost use Rattle.cells.specs.Line.{line};
+ghost use Rattle.smoother_table.specs.Coefficients.{a1Of, b1Of, ofPair, coefficients};
 ghost use Rattle.smoother_table.specs.Period.{isPeriod};
 ghost use Rattle.limits.specs.Limits.{longestPeriod};
 
-// a1 and b1 of 16 periods.
-struct Row([f64; 16], [f64; 16]);
+// Entries of a row. A table has 16 rows.
+const ROW: usize = 32;
 
-// a1 and b1 of the periods from 16k + 1 on. An array is copied before it is indexed: so a row is, and no table of 512.
-fn row_at(k: usize) -> Row
-    requires { ⌜ k < 32 ⌝ }
-    ensures { λ r. ⌜ (r .0 ≡ take 16 (drop (k * 16) a1Table)) × (r .1 ≡ take 16 (drop (k * 16) b1Table)) ⌝ }
+// a1 and b1 of one period.
+struct Pair {
+    a1: f64,
+    b1: f64,
+}
+
+// Entry k of a row. The row is copied by itself: see `pair_of`.
+fn entry_at(t: &[f64; 512], row: usize, k: usize) -> f64
+    requires { ⌜ (row < 16) × (k < 32) ⌝ }
+    ensures { λ r. ⌜ r ≡ line (now (t .entry)) (32 * row + k) ⌝ }
 {
-    match k {
-        0 => Row(table::A1_0, table::B1_0),
-        1 => Row(table::A1_1, table::B1_1),
-        2 => Row(table::A1_2, table::B1_2),
-        3 => Row(table::A1_3, table::B1_3),
-        4 => Row(table::A1_4, table::B1_4),
-        5 => Row(table::A1_5, table::B1_5),
-        6 => Row(table::A1_6, table::B1_6),
-        7 => Row(table::A1_7, table::B1_7),
-        8 => Row(table::A1_8, table::B1_8),
-        9 => Row(table::A1_9, table::B1_9),
-        10 => Row(table::A1_10, table::B1_10),
-        11 => Row(table::A1_11, table::B1_11),
-        12 => Row(table::A1_12, table::B1_12),
-        13 => Row(table::A1_13, table::B1_13),
-        14 => Row(table::A1_14, table::B1_14),
-        15 => Row(table::A1_15, table::B1_15),
-        16 => Row(table::A1_16, table::B1_16),
-        17 => Row(table::A1_17, table::B1_17),
-        18 => Row(table::A1_18, table::B1_18),
-        19 => Row(table::A1_19, table::B1_19),
-        20 => Row(table::A1_20, table::B1_20),
-        21 => Row(table::A1_21, table::B1_21),
-        22 => Row(table::A1_22, table::B1_22),
-        23 => Row(table::A1_23, table::B1_23),
-        24 => Row(table::A1_24, table::B1_24),
-        25 => Row(table::A1_25, table::B1_25),
-        26 => Row(table::A1_26, table::B1_26),
-        27 => Row(table::A1_27, table::B1_27),
-        28 => Row(table::A1_28, table::B1_28),
-        29 => Row(table::A1_29, table::B1_29),
-        30 => Row(table::A1_30, table::B1_30),
-        _ => Row(table::A1_31, table::B1_31),
+    let mut entries = [0.0; ROW];
+    let mut i = 0;
+    while i < ROW {
+        entries[i] = t[ROW * row + i];
+        i += 1;
+    }
+    entries[k]
+}
+
+// Entry k of a row of both tables.
+fn pair_at(a1: &[f64; 512], b1: &[f64; 512], row: usize, k: usize) -> Pair
+    requires { ⌜ (row < 16) × (k < 32) ⌝ }
+    ensures { λ r. ⌜ (r .a1 ≡ line (now (a1 .entry)) (32 * row + k))
+        × (r .b1 ≡ line (now (b1 .entry)) (32 * row + k)) ⌝ }
+{
+    Pair {
+        a1: entry_at(a1, row, k),
+        b1: entry_at(b1, row, k),
+    }
+}
+
+// The recorded pair of a period. Where the index is a variable, the compiler copies a whole table to the stack first,
+// 4 KB. Here each arm names its row by a number, so that it copies that row alone.
+fn pair_of(period: usize) -> Pair
+    requires { ⌜ (0 < period) × (period ≤ longestPeriod) ⌝ }
+    ensures { λ r. ⌜ (r .a1 ≡ a1Of period) × (r .b1 ≡ b1Of period) ⌝ }
+{
+    let a1 = table::A1;
+    let b1 = table::B1;
+    let k = (period - 1) % ROW;
+    match (period - 1) / ROW {
+        0 => pair_at(&a1, &b1, 0, k),
+        1 => pair_at(&a1, &b1, 1, k),
+        2 => pair_at(&a1, &b1, 2, k),
+        3 => pair_at(&a1, &b1, 3, k),
+        4 => pair_at(&a1, &b1, 4, k),
+        5 => pair_at(&a1, &b1, 5, k),
+        6 => pair_at(&a1, &b1, 6, k),
+        7 => pair_at(&a1, &b1, 7, k),
+        8 => pair_at(&a1, &b1, 8, k),
+        9 => pair_at(&a1, &b1, 9, k),
+        10 => pair_at(&a1, &b1, 10, k),
+        11 => pair_at(&a1, &b1, 11, k),
+        12 => pair_at(&a1, &b1, 12, k),
+        13 => pair_at(&a1, &b1, 13, k),
+        14 => pair_at(&a1, &b1, 14, k),
+        _ => pair_at(&a1, &b1, 15, k),
     }
 }
 
@@ -94,9 +114,8 @@ impl Coefficients {
                 c3: zero.c3,
             };
         }
-        let row = row_at((period - 1) / 16);
-        let k = (period - 1) % 16;
-        Coefficients::of_pair(row.0[k], row.1[k])
+        let pair = pair_of(period);
+        Coefficients::of_pair(pair.a1, pair.b1)
     }
 }
 

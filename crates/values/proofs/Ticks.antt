@@ -43,10 +43,6 @@ use Rattle.values.specs.Accepted.{within, tick}
 use Rattle.values.proofs.All.{and-true, and-parts}
 use Rattle.cells.specs.Line.{plusZero}
 
-beq-self : (s : Bool) → Bool·beq s s ≡ true
-beq-self true = refl
-beq-self false = refl
-
 or-true : (t : Bool) → t || true ≡ true
 or-true true = refl
 or-true false = refl
@@ -86,7 +82,7 @@ same-whole m e h = go (ofInt binary64 (pos (cut m e))) (round-whole binary64 fal
 
 -- ---- a number within 2 ^ 24
 
-at-most : (a b : ℕ) (u : Bool) → ltb a b || (eqb a b && u) ≡ true → a ≤ b
+pub at-most : (a b : ℕ) (u : Bool) → ltb a b || (eqb a b && u) ≡ true → a ≤ b
 at-most a b u = go (ltb a b) (eqb a b) refl refl
   where
     go : (t v : Bool) → ltb a b ≡ t → eqb a b ≡ v → t || (v && u) ≡ true → a ≤ b
@@ -149,7 +145,7 @@ pub any-sign : (s : Bool) → not (s && false) ≡ true
 any-sign true = refl
 any-sign false = refl
 
-in-float : (q : ℕ) → q ≤ 2 ^ 53 → T (inFloat binary64 (pos q))
+pub in-float : (q : ℕ) → q ≤ 2 ^ 53 → T (inFloat binary64 (pos q))
 unfolding inFloat
 in-float q h = le→leb q (2 ^ 53) h
 
@@ -157,7 +153,7 @@ in-float q h = le→leb q (2 ^ 53) h
 
 -- What the test meets at a number within 2 ^ 24: its whole part can be taken and turned back, and it is a tick if
 -- that is equal to the magnitude, and the number is not -0.0.
-pub record Tried (x : Float) : Type 0 where
+pub record TickTests (x : Float) : Type 0 where
   pub low : T (lt (fin true 1 (pos 0)) (magnitudeOf x))
   pub high : T (lt (magnitudeOf x) (fin false 1 (pos 64)))
   pub back : T (inFloat binary64 (pos (toUnsigned 64 (magnitudeOf x))))
@@ -189,11 +185,11 @@ pub tick-rest : (m : ℕ) (e : ℤ) → le (fin false m e) (fin false 1 (pos 24)
     ≡ eqb (m * up e % down e) 0
 tick-rest m e w = tick-is false m e w _ _ refl refl ∙ and-true (eqb (m * up e % down e) 0)
 
-pub tried : (x : Float) → le (magnitudeOf x) (fin false 1 (pos 24)) ≡ true → Tried x
+pub tick-tests : (x : Float) → le (magnitudeOf x) (fin false 1 (pos 24)) ≡ true → TickTests x
 unfolding le lt eq magnitudeOf
-tried nan w = let z : _≡_ {A = ℕ} 0 1 = cc in absurd (omega arith)
-tried (inf s) w = let z : _≡_ {A = ℕ} 0 1 = cc in absurd (omega arith)
-tried (fin s m e) w =
+tick-tests nan w = let z : _≡_ {A = ℕ} 0 1 = cc in absurd (omega arith)
+tick-tests (inf s) w = let z : _≡_ {A = ℕ} 0 1 = cc in absurd (omega arith)
+tick-tests (fin s m e) w =
     let size = small m e w in
     let h = near s m e w in
     let same = again s m e w in

@@ -8,14 +8,14 @@ ghost use mathlib.Core.Bool.{not};
 ghost use Prim.Native.Nat.{_^_};
 ghost use lib.Dec.{eqb};
 ghost use lib.Ieee.{binary64, toBits};
-ghost use Rattle.values.specs.Accepted.{within, tick, finite};
+ghost use Rattle.values.specs.Accepted.{within, tick, finite, all};
 ghost use Rattle.rounding.specs.Leaves.{magnitudeOf};
 ghost use Rattle.values.specs.inner.Quick.{capped};
 ghost use Rattle.values.specs.inner.Fraction.{comesBack};
 ghost use Rattle.limits.specs.Limits.{valuePower};
 
 // Whether x lies within 2^30. A NaN does not.
-pub fn is_near(x: f64) -> bool
+pub fn within_limit(x: f64) -> bool
     ensures { λ r. ⌜ r ≡ within valuePower x ⌝ }
 {
     if x >= -LARGEST_VALUE {
@@ -55,6 +55,20 @@ pub fn is_finite(x: f64) -> bool
 {
     let infinity = 1.0 / 0.0;
     if x < infinity { -infinity < x } else { false }
+}
+
+// Whether all of them may be parameters.
+pub fn all_finite(numbers: &[f64]) -> bool
+    ensures { λ r. ⌜ r ≡ all finite (now (numbers .entry)) ⌝ }
+{
+    let mut i = 0;
+    while i < numbers.len() {
+        if !is_finite(numbers[i]) {
+            return false;
+        }
+        i += 1;
+    }
+    true
 }
 
 // x, or 2^31 where x is not below it, as a NaN is not.

@@ -18,7 +18,7 @@ pub struct Tested {
 
 // The bits of the numbers of s from index `first` up to `end`, one upon the other (OR), so that none has larger ones.
 // What is not below 2^31 counts as that.
-pub fn bits_together(s: &[f64], first: usize, end: usize) -> u64
+pub fn or_of_bits(s: &[f64], first: usize, end: usize) -> u64
     requires { ⌜ end ≤ length (now s) ⌝ }
     ensures { λ r. ⌜ BitsOf (line (now (s .entry))) first (end - first) r ⌝ }
 {
@@ -33,19 +33,19 @@ pub fn bits_together(s: &[f64], first: usize, end: usize) -> u64
 
 // Whether a series may hold the `count` numbers of s from index `first` on. All are looked at, and what was found is
 // kept in two variables: so the loop takes several at a time.
-pub fn some_accepted(s: &[f64], first: usize, count: usize) -> bool
+pub fn range_accepted(s: &[f64], first: usize, count: usize) -> bool
     requires { ⌜ first + count ≤ length (now s) ⌝ }
     ensures { λ r. ⌜ Passing accepted (line (now (s .entry))) first count r ⌝ }
 {
-    let mut near = true;
+    let mut within = true;
     let mut minus_zeros = 0;
     let mut i = 0;
     while i < count {
-        near = near & crate::is_near(s[first + i]);
+        within = within & crate::within_limit(s[first + i]);
         minus_zeros = minus_zeros | crate::minus_zero_bits(s[first + i]);
         i += 1;
     }
-    near & (minus_zeros == 0)
+    within & (minus_zeros == 0)
 }
 
 // Whether a series may hold every number of s from index `first` on. Where their bits together are at most those of
@@ -55,12 +55,12 @@ pub fn accepted_from(s: &[f64], first: usize) -> bool
     requires { ⌜ first ≤ length (now s) ⌝ }
     ensures { λ r. ⌜ Passing accepted (line (now (s .entry))) first (length (now (s .entry)) - first) r ⌝ }
 {
-    if bits_together(s, 0, cells::smaller(s.len(), 16)) <= LARGEST_VALUE_BITS {
-        if bits_together(s, first, s.len()) <= LARGEST_VALUE_BITS {
+    if or_of_bits(s, 0, cells::smaller(s.len(), 16)) <= LARGEST_VALUE_BITS {
+        if or_of_bits(s, first, s.len()) <= LARGEST_VALUE_BITS {
             return true;
         }
     }
-    some_accepted(s, first, s.len() - first)
+    range_accepted(s, first, s.len() - first)
 }
 
 // Whether a series may hold every number of s.
@@ -118,7 +118,7 @@ pub fn all_ticks(s: &[f64]) -> bool
         return true;
     }
     if crate::is_tick(s[0]) {
-        if bits_together(s, 0, cells::smaller(s.len(), 16)) > LARGEST_TICK_BITS {
+        if or_of_bits(s, 0, cells::smaller(s.len(), 16)) > LARGEST_TICK_BITS {
             return each_tick(s);
         }
         let found = gather(s);

@@ -13,12 +13,12 @@ use Rattle.cells.specs.Line.{Line, line, plusZero, minusZero}
 use Rattle.cells.proofs.Line.{from-bar}
 use Rattle.cells.specs.Written.{Writing}
 use Rattle.cells.proofs.Written.{read-back, writing-same, then-written, stood}
-use Rattle.windows.specs.declared.Lanes.{Lanes}
+use Rattle.windows.specs.declared.Eight.{Eight}
 use Rattle.windows.specs.declared.Sixteen.{Sixteen}
-use Rattle.windows.specs.inner.Eight.{Eight, SixteenOf}
+use Rattle.windows.specs.inner.Eight.{EightOf, SixteenOf}
 use Rattle.windows.specs.Window.{over, sumFrom, windowSum, mean}
 use Rattle.windows.proofs.Window.{causal-mean}
-use Rattle.window_means.specs.inner.Row.{rowAt, meansOfRow, RowRoom, RowReached, RowHolds}
+use Rattle.window_means.specs.inner.Row.{rowAt, meansOfRow, RowRoom, RowUpTo, RowHolds}
 
 -- ---- a window of a row is one of the slice
 
@@ -27,7 +27,7 @@ unfolding sumFrom
 sum-of-row z f a b zero = refl
 sum-of-row z f a b (suc k) = let e : a + b + k ≡ a + (b + k) = omega arith in rw (sum-of-row z f a b k, e)
 
-pub mean-of-row : (n a i : ℕ) (f : Line) → n ≤ i + 1 → mean n f (a + i) ≡ mean n (λ j. f (a + j)) i
+mean-of-row : (n a i : ℕ) (f : Line) → n ≤ i + 1 → mean n f (a + i) ≡ mean n (λ j. f (a + j)) i
 unfolding mean windowSum
 mean-of-row n a i f h =
     let start : a + i + 1 - n ≡ a + (i + 1 - n) = omega arith in
@@ -53,6 +53,11 @@ pub none-of-row : (from to n first : ℕ) (old : List Float)
     → Writing (to + first) (meansOfRow from to n first old) old old
 none-of-row from to n first old = stood nan (row-before from to n first old)
 
+-- where the cells before bar `to` are as they were, a row that ends there still holds its own
+pub row-stands : {at lo to bars : ℕ} {f : Line} {old now : List Float} → ((j : ℕ) → j < to → line now j ≡ line old j)
+    → RowHolds at lo bars f old → at + bars ≤ to → RowHolds at lo bars f now
+row-stands {at} same h l = record { cell = λ i m. same (at + i) (omega arith) ∙ h .cell i m }
+
 module _ {from to bars n first e : ℕ} {old now : List Float} (g : RowRoom from to bars n first (length old))
     (w : Writing e (meansOfRow from to n first old) old now) (r : to ≤ e) where
   -- every cell before the second row is as it was
@@ -65,7 +70,7 @@ module _ {from to bars n first e : ℕ} {old now : List Float} (g : RowRoom from
 
   -- another row that ends before the second one
   pub row-kept : {at lo : ℕ} {f : Line} → RowHolds at lo bars f old → at + bars ≤ to → RowHolds at lo bars f now
-  row-kept {at} h l = record { cell = λ i m. cell-stays (at + i) (omega arith) ∙ h .cell i m }
+  row-kept = row-stands cell-stays
 
   -- one of them is the cell that is asked of the second row
   pub mean-for-row : (i : ℕ) → first ≤ i → i < bars
@@ -83,8 +88,8 @@ module _ {from to bars n first e : ℕ} {old now : List Float} (g : RowRoom from
 
 -- ---- bars side by side
 
-pub eight-moved : (a b : ℕ) {f g : Line} {r : Lanes} → Eight g a r → ((k : ℕ) → k < 8 → g (a + k) ≡ f (b + k))
-    → Eight f b r
+pub eight-moved : (a b : ℕ) {f g : Line} {r : Eight} → EightOf g a r → ((k : ℕ) → k < 8 → g (a + k) ≡ f (b + k))
+    → EightOf f b r
 eight-moved a b {f} {g} e h =
     let first : g a ≡ f b = rw (add-zero, add-zero) at (h 0 (omega arith)) in
     record {
@@ -113,7 +118,7 @@ sixteen-moved a b {f} {g} e h = record {
 -- ---- on from a bar that was reached
 
 pub row-goes-on : {from to bars n first r e : ℕ} {old mid now : List Float} → RowRoom from to bars n first (length old)
-    → RowReached from to bars n first r old mid → Writing e (meansOfRow from to n r mid) mid now
+    → RowUpTo from to bars n first r old mid → Writing e (meansOfRow from to n r mid) mid now
     → (to + r ≤ e) × (e ≤ to + bars) → Writing e (meansOfRow from to n first old) old now
 row-goes-on {from} {to} {bars} {n} {first} {r} {e} {old} {mid} g w v (p, q) =
     writing-same (then-written (w .means) v p)
@@ -135,7 +140,7 @@ row-goes-on {from} {to} {bars} {n} {first} {r} {e} {old} {mid} g w v (p, q) =
 
 -- a row that was reached has room for the rest
 pub row-room : {from to bars n first r : ℕ} {old mid : List Float} → RowRoom from to bars n first (length old)
-    → RowReached from to bars n first r old mid → RowRoom from to bars n r (length mid)
+    → RowUpTo from to bars n first r old mid → RowRoom from to bars n r (length mid)
 row-room g w =
     let long = w .means .long in
     let on = w .on in

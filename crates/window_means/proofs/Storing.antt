@@ -8,13 +8,13 @@ use lib.Ieee.{Float}
 use Rattle.cells.specs.Line.{Line}
 use Rattle.cells.specs.Written.{Writing}
 use Rattle.cells.proofs.Written.{step, ends}
-use Rattle.windows.specs.declared.Lanes.{Lanes}
-use Rattle.windows.specs.inner.Eight.{Eight, SixteenOf}
+use Rattle.windows.specs.declared.Eight.{Eight}
+use Rattle.windows.specs.inner.Eight.{EightOf, SixteenOf}
 use Rattle.windows.specs.declared.Sixteen.{Sixteen}
 use Rattle.window_means.specs.inner.Storing.{storeEight}
 
 -- eight more stores, of the cells that a line asks
-pub eight-more : {f : Line} {old now : List Float} {k : ℕ} {r : Lanes} → Writing k f old now → Eight f k r
+pub eight-more : {f : Line} {old now : List Float} {k : ℕ} {r : Eight} → Writing k f old now → EightOf f k r
     → k + 7 < length old
     → Writing (k + 8) f old (set (set (set
     (set (set (set (set (set now k (r .lane0)) (k + 1) (r .lane1)) (k + 2) (r .lane2)) (k + 3) (r .lane3))
@@ -30,7 +30,7 @@ eight-more {k = k} w r h =
     step (k + 7) (k + 8) seven (r .lane7) (omega arith)
 
 -- eight more cells of a line, stored
-pub eight-stored : (k : ℕ) {f : Line} {old now next : List Float} {r : Lanes} → Writing k f old now → Eight f k r
+pub eight-stored : (k : ℕ) {f : Line} {old now next : List Float} {r : Eight} → Writing k f old now → EightOf f k r
     → next ≡ storeEight now k r → k + 8 ≤ length old → Writing (k + 8) f old next
 eight-stored k w r e h = rw e (eight-more w r (omega arith))
 

@@ -2,7 +2,7 @@
 // afresh, sixteen bars at a time.
 pub mod ranges;
 
-use windows::Lanes;
+use windows::Eight;
 ghost use mathlib.Core.Path.{_≡_};
 ghost use mathlib.Core.Bool.{true};
 ghost use Prim.Native.Nat.{_+_, _≤_};
@@ -11,13 +11,13 @@ ghost use Rattle.cells.specs.Line.{line};
 ghost use Rattle.cells.specs.Written.{Writing};
 ghost use Rattle.windows.specs.Window.{mean};
 ghost use Rattle.windows.specs.inner.Eight.{WindowRoom};
-ghost use Rattle.window_means.specs.inner.Storing.{storeEight, Begun, Reached};
+ghost use Rattle.window_means.specs.inner.Storing.{storeEight, MeansBefore, MeansUpTo};
 ghost use Rattle.values.specs.Accepted.{tick, all};
 ghost use Rattle.window_means.specs.inner.Ticks.{longTicks};
-ghost use Rattle.window_means.specs.inner.Row.{meansOfRow, RowRoom, RowReached};
+ghost use Rattle.window_means.specs.inner.Row.{meansOfRow, RowRoom, RowUpTo};
 
 // Stores the eight lanes from cell i on.
-pub fn store_eight(means: &mut [f64], i: usize, eight: Lanes)
+pub fn store_eight(means: &mut [f64], i: usize, eight: Eight)
     requires { ⌜ i + 8 ≤ length (now means) ⌝ }
     ensures { λ _. ⌜ now (means .exit) ≡ storeEight (now (means .entry)) i eight ⌝ }
 {
@@ -32,9 +32,9 @@ pub fn store_eight(means: &mut [f64], i: usize, eight: Lanes)
 }
 
 // Writes the means from bar `from` on, sixteen at a time, and gives the bar where fewer than sixteen are left.
-fn means_by_sixteen(series: &[f64], n: usize, from: usize, means: &mut [f64]) -> usize
-    requires { ⌜ Begun (now series) n from (now means) ⌝ }
-    ensures { λ r. ⌜ Reached (now (series .entry)) n from r (now (means .entry)) (now (means .exit)) ⌝ }
+fn write_means_by_sixteen(series: &[f64], n: usize, from: usize, means: &mut [f64]) -> usize
+    requires { ⌜ MeansBefore (now series) n from (now means) ⌝ }
+    ensures { λ r. ⌜ MeansUpTo (now (series .entry)) n from r (now (means .entry)) (now (means .exit)) ⌝ }
 {
     let mut i = from;
     while i + 16 <= series.len() {
@@ -47,12 +47,12 @@ fn means_by_sixteen(series: &[f64], n: usize, from: usize, means: &mut [f64]) ->
 }
 
 // Writes eight more means where eight bars are left, and gives the bar after them.
-fn means_of_eight(series: &[f64], n: usize, from: usize, means: &mut [f64]) -> usize
-    requires { ⌜ Begun (now series) n from (now means) ⌝ }
-    ensures { λ r. ⌜ Reached (now (series .entry)) n from r (now (means .entry)) (now (means .exit)) ⌝ }
+fn write_means_of_eight(series: &[f64], n: usize, from: usize, means: &mut [f64]) -> usize
+    requires { ⌜ MeansBefore (now series) n from (now means) ⌝ }
+    ensures { λ r. ⌜ MeansUpTo (now (series .entry)) n from r (now (means .entry)) (now (means .exit)) ⌝ }
 {
     if from + 8 <= series.len() {
-        store_eight(means, from, windows::means_at(series, n, from));
+        store_eight(means, from, windows::means_of_eight(series, n, from));
         from + 8
     } else {
         from
@@ -60,8 +60,8 @@ fn means_of_eight(series: &[f64], n: usize, from: usize, means: &mut [f64]) -> u
 }
 
 // Writes the means from bar `from` to the last.
-fn means_by_one(series: &[f64], n: usize, from: usize, means: &mut [f64])
-    requires { ⌜ Begun (now series) n from (now means) ⌝ }
+fn write_means_by_one(series: &[f64], n: usize, from: usize, means: &mut [f64])
+    requires { ⌜ MeansBefore (now series) n from (now means) ⌝ }
     ensures { λ _. ⌜ Writing (length (now (series .entry))) (mean n (line (now (series .entry)))) (now (means .entry))
         (now (means .exit)) ⌝ }
 {
@@ -79,9 +79,9 @@ pub fn write_means(series: &[f64], n: usize, means: &mut [f64])
         (now (means .exit)) ⌝ }
 {
     let first = cells::fill_lead(means, n - 1, series.len(), 0.0);
-    let fewer = means_by_sixteen(series, n, first, means);
-    let few = means_of_eight(series, n, fewer, means);
-    means_by_one(series, n, few, means);
+    let fewer = write_means_by_sixteen(series, n, first, means);
+    let few = write_means_of_eight(series, n, fewer, means);
+    write_means_by_one(series, n, few, means);
 }
 
 // Writes the means of whole ticks by running sums, which are exact, so that each cell is that of its window summed
@@ -92,15 +92,18 @@ pub fn write_means_of_ticks(series: &[f64], n: usize, means: &mut [f64])
     ensures { λ _. ⌜ Writing (length (now (series .entry))) (mean n (line (now (series .entry)))) (now (means .entry))
         (now (means .exit)) ⌝ }
 {
-    windows::sliding::write_means(series, n, means);
+    windows::sliding::write_running_means(series, n, means);
 }
+
+// Windows up to this many bars are summed afresh also on whole ticks: running sums are no faster there.
+const LONGEST_AFRESH: usize = 12;
 
 // Whether it pays to know that the prices are whole ticks, and they are: where the window is long, running sums are
 // faster.
 pub fn are_long_ticks(series: &[f64], n: usize) -> bool
     ensures { λ r. ⌜ r ≡ longTicks n (now (series .entry)) ⌝ }
 {
-    if n > 12 {
+    if n > LONGEST_AFRESH {
         values::series::all_ticks(series)
     } else {
         false
@@ -141,7 +144,7 @@ fn row_by_sixteen(
     first: usize,
 ) -> usize
     requires { ⌜ RowRoom from to bars n first (length (now cells)) ⌝ }
-    ensures { λ r. ⌜ RowReached from to bars n first r (now (cells .entry)) (now (cells .exit)) ⌝ }
+    ensures { λ r. ⌜ RowUpTo from to bars n first r (now (cells .entry)) (now (cells .exit)) ⌝ }
 {
     let mut i = first;
     while i + 16 <= bars {
@@ -163,10 +166,10 @@ fn row_of_eight(
     first: usize,
 ) -> usize
     requires { ⌜ RowRoom from to bars n first (length (now cells)) ⌝ }
-    ensures { λ r. ⌜ RowReached from to bars n first r (now (cells .entry)) (now (cells .exit)) ⌝ }
+    ensures { λ r. ⌜ RowUpTo from to bars n first r (now (cells .entry)) (now (cells .exit)) ⌝ }
 {
     if first + 8 <= bars {
-        let eight = windows::means_at(cells, n, from + first);
+        let eight = windows::means_of_eight(cells, n, from + first);
         store_eight(cells, to + first, eight);
         first + 8
     } else {

@@ -1,5 +1,5 @@
-pub mod Eight
-pub mod Runs
+pub mod EightSums
+pub mod RunningSums
 pub mod Window
 pub mod Means
 pub mod Zeros

@@ -19,11 +19,11 @@ use Rattle.cells.specs.inner.Leads.{Led}
 use Rattle.cells.proofs.Leads.{lead-stands}
 use Rattle.limits.specs.Limits.{Window}
 use Rattle.windows.specs.Window.{windowSum, over, addDifference}
-use Rattle.windows.specs.inner.Runs.{runs}
+use Rattle.windows.specs.inner.RunningSums.{runningSums}
 use Rattle.windows.specs.inner.Sums.{Running}
-use Rattle.windows.proofs.Runs.{causal-runs}
+use Rattle.windows.proofs.RunningSums.{causal-running-sums}
 use Rattle.windows.proofs.Window.{first-running, same-bar}
-use Rattle.windows.specs.inner.Means.{runningMean, onFrom, runMeans}
+use Rattle.windows.specs.inner.Means.{runningMean, onFrom, runningMeans}
 
 -- ---- a line from a bar on, beside what stood there
 
@@ -86,13 +86,13 @@ zero-over n N M =
     rw zero-is at (quotient-zero whole)
 
 -- a lead of 0.0 has the means of a running sum that is 0.0 before bar n - 1
-pub run-means : {n k : ℕ} (f : Line) {old now : List Float} → Window n
-    → Writing k (fromBar (n - 1) plusZero (runningMean n f)) old now → Writing k (runMeans n f) old now
-unfolding runs
-run-means {n} f w v = writing-same v (λ i l. same i (ltb i (n - 1)) (ltb→lt i (n - 1)) (nltb→le i (n - 1)))
+pub running-means : {n k : ℕ} (f : Line) {old now : List Float} → Window n
+    → Writing k (fromBar (n - 1) plusZero (runningMean n f)) old now → Writing k (runningMeans n f) old now
+unfolding runningSums
+running-means {n} f w v = writing-same v (λ i l. same i (ltb i (n - 1)) (ltb→lt i (n - 1)) (nltb→le i (n - 1)))
   where
     same : (i : ℕ) → (t : Bool) → (T t → i < n - 1) → (T (not t) → n - 1 ≤ i)
-        → fromBar (n - 1) plusZero (runningMean n f) i ≡ runMeans n f i
+        → fromBar (n - 1) plusZero (runningMean n f) i ≡ runningMeans n f i
     same i true x y =
         rw (before-bar (n - 1) plusZero (runningMean n f) i (x tt), before-bar (n - 1) plusZero _ i (x tt))
         (sym (zero-over n (w .some) (omega (arith, w .narrow))))
@@ -100,5 +100,5 @@ run-means {n} f w v = writing-same v (λ i l. same i (ltb i (n - 1)) (ltb→lt i
         rw (from-bar (n - 1) plusZero (runningMean n f) i (y tt), from-bar (n - 1) plusZero _ i (y tt)) refl
 
 -- no look-ahead
-pub causal-run-means : (n : ℕ) → 0 < n → Causal (runMeans n)
-causal-run-means n N f g b s = ap (over n) (causal-runs n N f g b s)
+pub causal-running-means : (n : ℕ) → 0 < n → Causal (runningMeans n)
+causal-running-means n N f g b s = ap (over n) (causal-running-sums n N f g b s)

@@ -79,10 +79,10 @@ module _ {slide : Float → Float → Float → Float} {f : Line} where
   pub same-bar : {n i j : ℕ} {x : Float} → Running slide n f i x → i ≡ j → Running slide n f j x
   same-bar r e = rw (← e) r
 
--- a window's length is a float
-pub count-is-float : (n : ℕ) → n ≤ 4097 → T (inFloat binary64 (pos n))
+-- a number of bars is a float
+pub count-is-float : (n : ℕ) → n ≤ 2 ^ 53 → T (inFloat binary64 (pos n))
 unfolding inFloat
-count-is-float n h = le→leb n (2 ^ 53) (omega arith)
+count-is-float n h = le→leb n (2 ^ 53) h
 
 -- ---- no look-ahead
 

@@ -1,5 +1,5 @@
 -- What the functions that write running means ask and promise.
 pub mod Eight
-pub mod Runs
+pub mod RunningSums
 pub mod Sums
 pub mod Means

@@ -7,13 +7,13 @@ ghost use Prim.Native.Nat.{_+_, _≤_};
 ghost use lib.ListN.{length};
 ghost use Rattle.cells.specs.Line.{line};
 ghost use Rattle.windows.specs.Window.{sumFrom, windowSum, mean};
-ghost use Rattle.windows.specs.inner.Eight.{Windows, SixteenOf, Eight, eachPlus, eachOver, WindowRoom};
+ghost use Rattle.windows.specs.inner.Eight.{Windows, SixteenOf, EightOf, eachPlus, eachOver, WindowRoom};
 ghost use Rattle.limits.specs.Limits.{longestWindow};
 ghost use Rattle.cells.specs.Written.{Writing};
-ghost use Rattle.windows.specs.inner.Runs.{Opening, runs};
+ghost use Rattle.windows.specs.inner.RunningSums.{Opening, runningSums};
 
 // A number for each of eight bars side by side.
-pub struct Lanes {
+pub struct Eight {
     pub lane0: f64,
     pub lane1: f64,
     pub lane2: f64,
@@ -24,9 +24,9 @@ pub struct Lanes {
     pub lane7: f64,
 }
 
-impl Lanes {
+impl Eight {
     // No price is summed yet.
-    pub const NONE: Lanes = Lanes {
+    pub const NONE: Eight = Eight {
         lane0: -0.0,
         lane1: -0.0,
         lane2: -0.0,
@@ -39,11 +39,11 @@ impl Lanes {
 }
 
 // Each lane with one more price: the eight prices from `at` on.
-pub fn added(sums: Lanes, series: &[f64], at: usize) -> Lanes
+pub fn added(sums: Eight, series: &[f64], at: usize) -> Eight
     requires { ⌜ at + 8 ≤ length (now series) ⌝ }
     ensures { λ r. ⌜ r ≡ eachPlus (line (now (series .entry))) at sums ⌝ }
 {
-    Lanes {
+    Eight {
         lane0: sums.lane0 + series[at],
         lane1: sums.lane1 + series[at + 1],
         lane2: sums.lane2 + series[at + 2],
@@ -78,12 +78,12 @@ pub fn sum_at(series: &[f64], n: usize, i: usize) -> f64
 }
 
 // The same for the eight bars from i on, each with a sum of its own.
-pub fn sums_at(series: &[f64], n: usize, i: usize) -> Lanes
+pub fn sums_of_eight(series: &[f64], n: usize, i: usize) -> Eight
     requires { ⌜ Windows n i 8 (length (now series)) ⌝ }
-    ensures { λ r. ⌜ Eight (windowSum n (line (now (series .entry)))) i r ⌝ }
+    ensures { λ r. ⌜ EightOf (windowSum n (line (now (series .entry)))) i r ⌝ }
 {
     let at = i + 1 - n;
-    let mut sums = Lanes::NONE;
+    let mut sums = Eight::NONE;
     let mut k = 0;
     while k < n {
         sums = added(sums, series, at + k);
@@ -93,12 +93,12 @@ pub fn sums_at(series: &[f64], n: usize, i: usize) -> Lanes
 }
 
 // Each lane divided by n.
-pub fn divided(sums: Lanes, n: usize) -> Lanes
+pub fn divided(sums: Eight, n: usize) -> Eight
     requires { ⌜ n ≤ longestWindow ⌝ }
     ensures { λ r. ⌜ r ≡ eachOver n sums ⌝ }
 {
     let count = n as f64;
-    Lanes {
+    Eight {
         lane0: sums.lane0 / count,
         lane1: sums.lane1 / count,
         lane2: sums.lane2 / count,
@@ -119,17 +119,17 @@ pub fn mean_at(series: &[f64], n: usize, i: usize) -> f64
 }
 
 // The same for the eight bars from i on.
-pub fn means_at(series: &[f64], n: usize, i: usize) -> Lanes
+pub fn means_of_eight(series: &[f64], n: usize, i: usize) -> Eight
     requires { ⌜ Windows n i 8 (length (now series)) ⌝ }
-    ensures { λ r. ⌜ Eight (mean n (line (now (series .entry)))) i r ⌝ }
+    ensures { λ r. ⌜ EightOf (mean n (line (now (series .entry)))) i r ⌝ }
 {
-    divided(sums_at(series, n, i), n)
+    divided(sums_of_eight(series, n, i), n)
 }
 
 // A number for each of sixteen bars side by side.
 pub struct Sixteen {
-    pub low: Lanes,
-    pub high: Lanes,
+    pub low: Eight,
+    pub high: Eight,
 }
 
 // The sums of the n prices up to each of the sixteen bars from i on.
@@ -139,8 +139,8 @@ pub fn sums_of_sixteen(series: &[f64], n: usize, i: usize) -> Sixteen
 {
     let at = i + 1 - n;
     let up = at + 8;
-    let mut low = Lanes::NONE;
-    let mut high = Lanes::NONE;
+    let mut low = Eight::NONE;
+    let mut high = Eight::NONE;
     let mut k = 0;
     while k < n {
         low = added(low, series, at + k);
@@ -165,8 +165,8 @@ pub fn means_of_sixteen(series: &[f64], n: usize, i: usize) -> Sixteen
 // Writes the running sums from bar n - 1 on, where the first n cells are summed afresh.
 fn slide_sums(series: &[f64], n: usize, sums: &mut [f64])
     requires { ⌜ Opening n (now series) (now sums) ⌝ }
-    ensures { λ _. ⌜ Writing (length (now (series .entry))) (runs n (line (now (series .entry)))) (now (sums .entry))
-        (now (sums .exit)) ⌝ }
+    ensures { λ _. ⌜ Writing (length (now (series .entry))) (runningSums n (line (now (series .entry))))
+        (now (sums .entry)) (now (sums .exit)) ⌝ }
 {
     let mut sum = sum_at(series, n, n - 1);
     let mut i = n - 1;
@@ -181,8 +181,8 @@ fn slide_sums(series: &[f64], n: usize, sums: &mut [f64])
 // Writes the running sum of each bar's window, and 0.0 before the first whole one.
 pub fn write_sums(series: &[f64], n: usize, sums: &mut [f64])
     requires { ⌜ WindowRoom n (length (now series)) (length (now sums)) ⌝ }
-    ensures { λ _. ⌜ Writing (length (now (series .entry))) (runs n (line (now (series .entry)))) (now (sums .entry))
-        (now (sums .exit)) ⌝ }
+    ensures { λ _. ⌜ Writing (length (now (series .entry))) (runningSums n (line (now (series .entry))))
+        (now (sums .entry)) (now (sums .exit)) ⌝ }
 {
     let first = cells::fill_lead(sums, n - 1, series.len(), 0.0);
     if first < series.len() {

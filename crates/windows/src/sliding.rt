@@ -3,7 +3,7 @@ ghost use lib.ListN.{length};
 ghost use Rattle.cells.specs.Line.{line};
 ghost use Rattle.cells.specs.Written.{Writing};
 ghost use Rattle.windows.specs.inner.Eight.{WindowRoom};
-ghost use Rattle.windows.specs.inner.Means.{runningMean, onFrom, runMeans, Summed};
+ghost use Rattle.windows.specs.inner.Means.{runningMean, onFrom, runningMeans, Summed};
 
 // Writes the running means from bar n on, where `first` is the sum of the first n bars: two bars a turn, so that two
 // quotients are taken at a time. The new price less the old one is added to the sum in one step. No other cell changes.
@@ -28,9 +28,9 @@ pub fn slide_means(series: &[f64], n: usize, first: f64, means: &mut [f64])
 }
 
 // Writes each bar's running sum over n, which is 0.0 before the first whole window.
-pub fn write_means(series: &[f64], n: usize, means: &mut [f64])
+pub fn write_running_means(series: &[f64], n: usize, means: &mut [f64])
     requires { ⌜ WindowRoom n (length (now series)) (length (now means)) ⌝ }
-    ensures { λ _. ⌜ Writing (length (now (series .entry))) (runMeans n (line (now (series .entry))))
+    ensures { λ _. ⌜ Writing (length (now (series .entry))) (runningMeans n (line (now (series .entry))))
         (now (means .entry)) (now (means .exit)) ⌝ }
 {
     let lead = cells::fill_lead(means, n - 1, series.len(), 0.0);

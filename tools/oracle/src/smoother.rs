@@ -76,30 +76,20 @@ pub fn print_list() {
     }
 }
 
-/// How many periods a row of the tables has.
-const ROW: usize = 16;
-
-/// Prints the recorded values as Rattle source: two tables in constant rows, each number in the fewest digits that give
-/// its bits.
+/// Prints the recorded values as Rattle source: two constant tables, each number in the fewest digits that give its
+/// bits.
 pub fn print_tables() {
-    let rows = LONGEST / ROW;
-    println!(
-        "// The coefficients a1 and b1 of periods 1 to {LONGEST}, each in {rows} rows of {ROW}, recorded by \
-         tools/smoother_table."
-    );
+    println!("// The coefficients a1 and b1 of periods 1 to {LONGEST}, recorded by tools/smoother_table.");
     print_table("A1", "a1", |pair| pair.a1);
     print_table("B1", "b1", |pair| pair.b1);
 }
 
 fn print_table(name: &str, what: &str, part: fn(&Pair) -> u64) {
-    for (k, row) in recorded().chunks(ROW).enumerate() {
-        let (first, last) = (k * ROW + 1, k * ROW + row.len());
-        println!("\n// {what} of periods {first} to {last}.\npub const {name}_{k}: [f64; {ROW}] = [");
-        for pair in row {
-            println!("    {:?},", f64::from_bits(part(pair)));
-        }
-        println!("];");
+    println!("\n// {what} of period i + 1.\npub const {name}: [f64; {LONGEST}] = [");
+    for pair in recorded() {
+        println!("    {:?},", f64::from_bits(part(pair)));
     }
+    println!("];");
 }
 
 /// Compares the recorded list with a fresh run; false if they differ on what it was recorded on.

@@ -23,7 +23,7 @@ loop-again : tie.Need-loop-again Inv-loop μ-loop
 loop-again c =
     let inv = c .before .before .before .loop .inv in (
       omega arith,
-      both-passing _ (inv .1) (c .before .some-accepted .ensures) (omega arith),
+      both-passing _ (inv .1) (c .before .range-accepted .ensures) (omega arith),
       more-added _ 8 _ (inv .2) (c .sum-more .ensures) (omega arith),
     )
 
@@ -34,7 +34,7 @@ returns c =
     let n = at-end .before .before .args .n in
     record {
       sum = window-sum n _ (more-added _ _ n (inv .2) (c .sum-more2 .ensures) (omega arith)) (omega arith);
-      accept = both-passing n (inv .1) (c .before .some-accepted2 .ensures) (omega arith);
+      accept = both-passing n (inv .1) (c .before .range-accepted2 .ensures) (omega arith);
     }
 
 pub sum-tested-spec : {M : Type 1} → statement M
@@ -45,13 +45,13 @@ sum-tested-spec =
     μ-loop
     (λ c. unfold ofBits neg in (omega arith, none-passing, none-summed))  -- loop-holds
     (λ c. search needs)  -- sub-loop
-    (λ c κs. search needs)  -- some-accepted-requires
+    (λ c κs. search needs)  -- range-accepted-requires
     (λ c κs. search needs)  -- sum-more-requires
     (λ c. search needs)  -- add-i
     (λ c. search needs)  -- loop-less
     loop-again
-    (λ c. search needs)  -- sub-some-accepted
-    (λ c κs. search needs)  -- some-accepted-requires-2
+    (λ c. search needs)  -- sub-range-accepted
+    (λ c κs. search needs)  -- range-accepted-requires-2
     (λ c. search needs)  -- sub-sum-more
     (λ c κs. search needs)  -- sum-more-requires-2
     returns

@@ -8,7 +8,7 @@ use lib.ListN.{length}
 use Rattle.cells.proofs.Touched.{untouched}
 use Rattle.checks.proofs.Due.{some-due}
 use Rattle.outer_lines.proofs.Calls.{written-band-call, empty-band-call}
-use Rattle.bands.specs.inner.Stages.{Ready}
+use Rattle.bands.specs.inner.Stages.{BandsRoom}
 use Rattle.bands.proofs.Call.{bands-clearable, bands-bars, bands-ready}
 use Rattle.bands.proofs.ultimate_bands.Statement.{statement}
 use Rattle.bands.proofs.ultimate_bands.Tie as tie
@@ -16,7 +16,7 @@ use Rattle.bands.proofs.ultimate_bands.Tie as tie
 -- where cells are due
 opened : (c : tie.Then1) →
     let a = c .before .before .before .before .before .before .before .before .before .before .before .args in
-    Ready (a .period) (a .smooth-period) (now (a .close)) (length (now (a .middle))) (length (now (a .upper)))
+    BandsRoom (a .period) (a .smooth-period) (now (a .close)) (length (now (a .middle))) (length (now (a .upper)))
     (length (now (a .lower)))
     × (8 * length (now (a .close)) ≤ length (now (a .work)))
 opened c =

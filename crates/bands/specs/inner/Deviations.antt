@@ -9,6 +9,7 @@ use Rattle.limits.specs.Limits.{longestPeriod}
 use Rattle.values.specs.Accepted.{accepted, all}
 use Rattle.cells.specs.Line.{line, plusZero}
 use Rattle.cells.specs.Written.{Writing}
+use Rattle.cells.specs.inner.MoreWritten.{MoreWritten}
 use Rattle.deviations.specs.Deviation.{deviation}
 
 -- a period, accepted closes, and a cell for each
@@ -18,7 +19,7 @@ pub record Spreading (n : ℕ) (s : List Float) (out : ℕ) : Type 0 where
   pub room : length s ≤ out
 
 -- a whole window ends at bar i, and the deviations before it stand in `now`
-pub record Begun (n : ℕ) (s : List Float) (i : ℕ) (now : List Float) : Type 0 where
+pub record DeviationsBefore (n : ℕ) (s : List Float) (i : ℕ) (now : List Float) : Type 0 where
   pub asked : Spreading n s (length now)
   pub some : 1 < n
   pub full : n ≤ i + 1
@@ -26,7 +27,5 @@ pub record Begun (n : ℕ) (s : List Float) (i : ℕ) (now : List Float) : Type 
   pub cells : Writing i (deviation plusZero (n - 1) n (line s)) now now
 
 -- r more were written
-pub record Further (n : ℕ) (s : List Float) (i r : ℕ) (old now : List Float) : Type 0 where
-  pub some : 0 < r
-  pub inside : i + r ≤ length s
-  pub cells : Writing (i + r) (deviation plusZero (n - 1) n (line s)) old now
+abbrev pub MoreDeviations : ℕ → List Float → ℕ → ℕ → List Float → List Float → Type 0
+MoreDeviations n s = MoreWritten (deviation plusZero (n - 1) n (line s)) (length s)

@@ -9,7 +9,7 @@ use Rattle.limits.specs.Limits.{longestPeriod}
 use Rattle.values.specs.Accepted.{accepted, all}
 
 -- what the stages ask: both periods, accepted closes, and a cell for each in each output
-pub record Ready (n m : ℕ) (s : List Float) (middle upper lower : ℕ) : Type 0 where
+pub record BandsRoom (n m : ℕ) (s : List Float) (middle upper lower : ℕ) : Type 0 where
   pub period : n ≤ longestPeriod
   pub smooth-period : m ≤ longestPeriod
   pub values : all accepted s ≡ true

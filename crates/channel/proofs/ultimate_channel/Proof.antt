@@ -8,7 +8,7 @@ use denote.Ref.{now}
 use Rattle.cells.proofs.Touched.{untouched}
 use Rattle.checks.proofs.Due.{some-due}
 use Rattle.outer_lines.proofs.Calls.{written-band-call, empty-band-call}
-use Rattle.channel.specs.inner.Ready.{Ready}
+use Rattle.channel.specs.inner.ChannelRoom.{ChannelRoom}
 use Rattle.channel.proofs.Stages.{channel-clearable, channel-bars, channel-ready}
 use Rattle.channel.proofs.ultimate_channel.Statement.{statement}
 use Rattle.channel.proofs.ultimate_channel.Tie as tie
@@ -17,7 +17,7 @@ use Rattle.channel.proofs.ultimate_channel.Tie as tie
 opened : (c : tie.Then1) →
     let due = c .before .before .before in
     let a = due .before .before .before .before .before .before .before .before .before .before .args in
-    Ready (a .period) (now (a .high)) (now (a .low)) (now (a .close))
+    ChannelRoom (a .period) (now (a .high)) (now (a .low)) (now (a .close))
     (min (length (now (a .middle))) (min (length (now (a .upper))) (length (now (a .lower)))))
     × (8 * length (now (a .high)) ≤ length (due .cells-due .last .1 .1 .0))
 opened c =

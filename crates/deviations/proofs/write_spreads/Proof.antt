@@ -18,7 +18,7 @@ returns c =
     let means = squares .before in
     let start = means .before .before .before .before .before in
     let pre = start .pre in
-    let of-means = means .means-at .ensures in
+    let of-means = means .means-of-eight .ensures in
     let of-squares = eight-variances (start .args .d) _ _ _ of-means (squares .squares-of-eight .ensures)
     (over .divided .ensures) (omega arith) in
     record {
@@ -50,7 +50,7 @@ write-spreads-spec =
     tie.close
     (tie.spec
     (λ c. search needs)  -- add-if1
-    (λ c κs. search needs)  -- means-at-requires
+    (λ c κs. search needs)  -- means-of-eight-requires
     (λ c κs. search needs)  -- squares-of-eight-requires
     (λ c κs. search needs)  -- store-eight-requires
     (λ c κs. search needs)  -- divided-requires

@@ -9,10 +9,10 @@ use Rattle.cells.specs.Written.{Writing}
 use Rattle.limits.specs.Limits.{Window, longestWindow}
 use Rattle.windows.specs.Window.{mean}
 use Rattle.deviations.specs.Deviation.{squaresAbout, variance}
-use Rattle.windows.specs.declared.Lanes.{Lanes}
+use Rattle.windows.specs.declared.Eight.{Eight}
 
 -- for each of the eight bars from i on, the squares of its last n cells about its own middle
-pub record About (n : ℕ) (f : Line) (i : ℕ) (m r : Lanes) : Type 0 where
+pub record About (n : ℕ) (f : Line) (i : ℕ) (m r : Eight) : Type 0 where
   pub lane0 : r .lane0 ≡ squaresAbout minusZero n (m .lane0) f i
   pub lane1 : r .lane1 ≡ squaresAbout minusZero n (m .lane1) f (i + 1)
   pub lane2 : r .lane2 ≡ squaresAbout minusZero n (m .lane2) f (i + 2)

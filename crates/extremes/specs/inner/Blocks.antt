@@ -17,6 +17,6 @@ pub record Room (s : List Float) (n cells : ℕ) : Type 0 where
   pub numbers : Numbers (line s) (length s)
 
 -- the cells before the first whole window stand in `now`
-pub record Begun (s : List Float) (n : ℕ) (now : List Float) : Type 0 where
+pub record LeadWritten (s : List Float) (n : ℕ) (now : List Float) : Type 0 where
   pub given : Room s n (length now)
   pub lead : Replacing (length s) 0 (min (n - 1) (length s)) (Whole s n) now now

@@ -20,7 +20,7 @@ Whole s n i x = (x .high ≡ extreme larger n (line s) i) × (x .low ≡ extreme
 
 -- the windows of n bars that end at bars e to `last` of s all reach over bar e, and rows of `room` cells in all hold
 -- two cells for each
-pub record Windows (s : List Float) (n e last room : ℕ) : Type 0 where
+pub record WindowsOver (s : List Float) (n e last room : ℕ) : Type 0 where
   pub full : n ≤ e + 1
   pub order : e ≤ last
   pub reach : last < e + n

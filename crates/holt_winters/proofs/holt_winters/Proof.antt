@@ -5,7 +5,7 @@ use borrow.Author.Needs.{needs}
 use denote.Ref.{now}
 use lib.ListN.{length}
 use Rattle.checks.proofs.Due.{some-due, written-call, empty-call}
-use Rattle.holt_winters.specs.inner.Stages.{Ready}
+use Rattle.holt_winters.specs.inner.Stages.{SeasonRoom}
 use Rattle.holt_winters.proofs.Stages.{holt-winters-clearable, holt-winters-bars, holt-winters-ready}
 use Rattle.holt_winters.proofs.holt_winters.Statement.{statement}
 use Rattle.holt_winters.proofs.holt_winters.Tie as tie
@@ -13,7 +13,7 @@ use Rattle.holt_winters.proofs.holt_winters.Tie as tie
 -- where cells are due
 opened : (c : tie.Then1) →
     let a = c .before .before .before .before .before .before .before .before .before .args in
-    Ready (a .season-length) (now (a .series)) (length (now (a .out))) (length (now (a .work)))
+    SeasonRoom (a .season-length) (now (a .series)) (length (now (a .out))) (length (now (a .work)))
 opened c =
     let due = c .before .before .before in
     let some = some-due (rw (c .if1 .taken) at (due .cells-due .ensures)) in

@@ -12,7 +12,7 @@ use Rattle.holt_winters.specs.declared.Weights.{Weights}
 use Rattle.holt_winters.specs.HoltWinters.{firstFit, fitLine, holtWintersLine}
 
 -- a season that is not longer than the series, a cell for each bar, and eight rows of work cells
-pub record Ready (m : ℕ) (s : List Float) (out work : ℕ) : Type 0 where
+pub record SeasonRoom (m : ℕ) (s : List Float) (out work : ℕ) : Type 0 where
   pub window : Window m
   pub whole : m ≤ length s
   pub out-long : length s ≤ out

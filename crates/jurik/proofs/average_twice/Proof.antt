@@ -1,6 +1,6 @@
 -- `average_twice` meets its contract: each turn blends the bar's size into one average, and that into the other.
 -- Assumes nothing.
-use mathlib.Core.Path.{_≡_, refl, sym, _∙_}
+use mathlib.Core.Path.{_≡_, sym}
 use mathlib.Core.Bool.{true, true≢false}
 use Prim.Native.Nat.{_-_, _≤_}
 use native.Mathlib.Omega.{arith}
@@ -12,32 +12,32 @@ use Rattle.cells.specs.Line.{line}
 use Rattle.cells.specs.Written.{Writing}
 use Rattle.cells.proofs.Written.{one-more}
 use Rattle.cells.proofs.Leads.{lead-stands, lead-then}
-use Rattle.jurik.specs.Jurik.{swings, leaned}
+use Rattle.jurik.specs.Jurik.{priceChange, jv}
 use Rattle.jurik.specs.inner.Passes.{Other, blendedOnce, blendedTwice}
-use Rattle.jurik.proofs.Fused.{begun, begun-twice, at-last, next-blend, lean-at, other-more}
+use Rattle.jurik.proofs.Fused.{begun, begun-twice, at-last, next-blend, jv-later, other-more}
 use Rattle.jurik.proofs.average_twice.Statement.{statement}
 use Rattle.jurik.proofs.average_twice.Tie as tie
 
 abbrev Inv-loop : tie.InvT-loop
-Inv-loop close alpha power out₀ bars first once₀ twice₀ differ₀ i₀ out once twice differ i =
-    let f = swings (line close) in
-    (2 ≤ i) × (i ≤ length close) × Writing i (leaned power (blendedTwice alpha f)) out₀ out
-    × (once ≡ blendedOnce alpha f (i - 1))
-    × (twice ≡ blendedTwice alpha f (i - 1))
+Inv-loop close alpha power out₀ bars first smooth1₀ smooth2₀ differ₀ i₀ out smooth1 smooth2 differ i =
+    let f = priceChange (line close) in
+    (2 ≤ i) × (i ≤ length close) × Writing i (jv power (blendedTwice alpha f)) out₀ out
+    × (smooth1 ≡ blendedOnce alpha f (i - 1))
+    × (smooth2 ≡ blendedTwice alpha f (i - 1))
     × (differ ≡ true → Other (length close) (blendedOnce alpha f))
 
 abbrev μ-loop : tie.MeasureT-loop
-μ-loop close alpha power out₀ bars first once₀ twice₀ differ₀ i₀ out once twice differ i = length close - i
+μ-loop close alpha power out₀ bars first smooth1₀ smooth2₀ differ₀ i₀ out smooth1 smooth2 differ i = length close - i
 
 loop-holds : tie.Need-loop-holds Inv-loop μ-loop
-unfolding leaned ofBits
+unfolding jv ofBits
 loop-holds c =
     let lead = c .before .before in
-    let swing = lead .before .before in
-    let a = swing .before .before .before .args in
-    let f = swings (line (now (a .close))) in
+    let change = lead .before .before in
+    let a = change .before .before .before .args in
+    let f = priceChange (line (now (a .close))) in
     let i = lead .fill-lead .result in
-    let first = swing .swing-at .ensures in (
+    let first = change .price-change-at .ensures in (
       omega arith,
       omega arith,
       lead-stands _ (lead .fill-lead .ensures),
@@ -52,23 +52,23 @@ loop-again c =
     let second = test .before in
     let one = second .before in
     let at = one .before .before .before in
-    let swing = at .before .before .before .before .before in
-    let a = swing .before .before .before .args in
-    let f = swings (line (now (a .close))) in
+    let change = at .before .before .before .before .before in
+    let a = change .before .before .before .args in
+    let f = priceChange (line (now (a .close))) in
     let average = blendedOnce (a .alpha) f in
     let i = at .loop .i in
     let inv = at .loop .inv in
-    let once-is = next-blend (a .alpha) f i (inv .3) (one .before .swing-at2 .ensures) (one .blended .ensures)
+    let smooth1-is = next-blend (a .alpha) f i (inv .3) (one .before .price-change-at2 .ensures) (one .blended .ensures)
     (omega arith) in
-    let twice-is = next-blend (a .alpha) average i (inv .4) once-is (second .blended2 .ensures) (omega arith) in
-    let cell = lean-at (a .power) (blendedTwice (a .alpha) f) i (c .leaned-by .ensures) (inv .4) twice-is
+    let smooth2-is = next-blend (a .alpha) average i (inv .4) smooth1-is (second .blended2 .ensures) (omega arith) in
+    let cell = jv-later (a .power) (blendedTwice (a .alpha) f) i (c .jv-of .ensures) (inv .4) smooth2-is
     (omega arith) in (
       omega arith,
       omega arith,
       one-more (inv .2) cell (omega arith),
-      at-last average i once-is,
-      at-last (blendedTwice (a .alpha) f) i twice-is,
-      other-more (a .alpha) f i (length (now (a .close))) (inv .5) (swing .swing-at .ensures) once-is
+      at-last average i smooth1-is,
+      at-last (blendedTwice (a .alpha) f) i smooth2-is,
+      other-more (a .alpha) f i (length (now (a .close))) (inv .5) (change .price-change-at .ensures) smooth1-is
           (test .differing .ensures)
           (omega arith),
     )
@@ -85,14 +85,14 @@ average-twice-spec =
     (tie.spec
     Inv-loop
     μ-loop
-    (λ c κs. search needs)  -- swing-at-requires
+    (λ c κs. search needs)  -- price-change-at-requires
     (λ c κs. search needs)  -- fill-lead-requires
     loop-holds
-    (λ c κs. search needs)  -- swing-at-requires-2
+    (λ c κs. search needs)  -- price-change-at-requires-2
     (λ c κs. search needs)  -- blended-requires
     (λ c κs. search needs)  -- blended-requires-2
     (λ c κs. search needs)  -- differing-requires
-    (λ c κs. search needs)  -- leaned-by-requires
+    (λ c κs. search needs)  -- jv-of-requires
     (λ c. search needs)  -- mul-out
     (λ c. search needs)  -- slice-write-out
     (λ c. search needs)  -- add-i

@@ -6,7 +6,7 @@ use Rattle.jurik.proofs.differing.Tie as tie
 
 returns : tie.Need-returns
 unfolding ne
-returns c = rw (c .usable .ensures)
+returns c = rw (c .valid .ensures)
 
 pub differing-spec : {M : Type 1} → statement M
 differing-spec = tie.close (tie.spec (λ c κs. search needs) returns)

@@ -22,7 +22,7 @@ returns c =
     let both = then .before .before .before in
     let a = both .before .before .before .before .args in
     let l = length (now (a .close)) in
-    let averages = both .lean-averages .ensures in
+    let averages = both .write-averaged-jv .ensures in
     let yes = then .if1 .taken in
     let last = tested nonZero plusZero (emaAlpha (a .n / 3)) l in
     writing-same
@@ -33,13 +33,13 @@ returns-2 : tie.Need-returns-2
 returns-2 c =
     let cells = c .before .before in
     let both = cells .before .before .before .before .before in
-    written-over-all (both .lean-averages .ensures .used) (cells .write-passes .ensures)
+    written-over-all (both .write-averaged-jv .ensures .used) (cells .write-passes .ensures)
 
 pub write-jurik-spec : {M : Type 1} → statement M
 write-jurik-spec =
     tie.close
     (tie.spec
-    (λ c κs. search needs)  -- lean-averages-requires
+    (λ c κs. search needs)  -- write-averaged-jv-requires
     (λ c κs. search needs)  -- third-pass-requires
     (λ c κs. search needs)  -- write-passes-requires
     (λ c. search needs)  -- same-length

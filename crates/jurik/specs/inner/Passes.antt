@@ -12,29 +12,29 @@ use Rattle.cells.specs.Search.{nonZero, firstBar}
 use Rattle.cells.specs.Written.{Writing}
 use Rattle.cells.specs.inner.Touched.{Touched}
 use Rattle.averages.specs.Blend.{blend}
-use Rattle.jurik.specs.Jurik.{isNumber, alike, passed, lean, leaned, swings, once, twice}
+use Rattle.jurik.specs.Jurik.{isNumber, allSame, passed, jvOf, jv, priceChange, smooth1, smooth2}
 
 -- which values a pass takes: those other than 0, or numbers
-abbrev pub usableBy : Bool → Float → Bool
-usableBy true = nonZero
-usableBy false = isNumber
+abbrev pub validBy : Bool → Float → Bool
+validBy true = nonZero
+validBy false = isNumber
 
 -- what stands for the others
 abbrev pub noneBy : Bool → Float
 noneBy true = plusZero
 noneBy false = nan
 
--- usable, and not equal to x
+-- valid, and not equal to x
 abbrev pub differs : (Float → Bool) → Float → Float → Bool
-differs usable x y = usable y && not (eq y x)
+differs valid x y = valid y && not (eq y x)
 
 -- a pass of l bars that tests for itself whether it copies
 abbrev pub tested : (Float → Bool) → Float → Float → ℕ → Line → Line
-tested usable none alpha l f = passed usable none alpha (alike usable l f) f
+tested valid none alpha l f = passed valid none alpha (allSame valid l f) f
 
--- the leaned cell of bar i
-abbrev pub leanAt : ℕ → Float → Float → Float → Float
-leanAt i power last x = cond (ltb i 2) plusZero (lean power last x)
+-- the cell of `jv` at bar i
+abbrev pub jvAt : ℕ → Float → Float → Float → Float
+jvAt i power last x = cond (ltb i 2) plusZero (jvOf power last x)
 
 -- a window, and room for the cells
 pub record Ready (n l out : ℕ) : Type 0 where
@@ -60,14 +60,14 @@ pub record Differing (l : ℕ) (f : Line) : Type 0 where
   pub number : isNumber (f 1) ≡ true
   pub other : Other l f
 
--- the leaned cells of such averages are written, and where r says so the first of them differ
-pub record Leant (r : Bool) (l : ℕ) (alpha power : Float) (f : Line) (old now : List Float) : Type 0 where
-  pub cells : Writing l (leaned power (blendedTwice alpha f)) old now
+-- `jv` of such averages is written, and where r says so the first of them differ
+pub record JvWritten (r : Bool) (l : ℕ) (alpha power : Float) (f : Line) (old now : List Float) : Type 0 where
+  pub cells : Writing l (jv power (blendedTwice alpha f)) old now
   pub other : r ≡ true → Other l (blendedOnce alpha f)
 
--- r says that both passes average, and then the leaned cells are written
+-- r says that both passes average, and then `jv` is written
 pub record BothAverage (r : Bool) (n l : ℕ) (power : Float) (f : Line) (old now : List Float) : Type 0 where
   pub used : Touched l old now
-  pub cells : r ≡ true → Writing l (leaned power (twice false false n f)) old now
-  pub first : r ≡ true → alike isNumber l (swings f) ≡ false
-  pub second : r ≡ true → alike isNumber l (once false n f) ≡ false
+  pub cells : r ≡ true → Writing l (jv power (smooth2 false false n f)) old now
+  pub first : r ≡ true → allSame isNumber l (priceChange f) ≡ false
+  pub second : r ≡ true → allSame isNumber l (smooth1 false n f) ≡ false

@@ -1,4 +1,4 @@
--- `margin` meets its contract: its literals are 2^-31 and 2^-1000. Assumes nothing.
+-- `margin` meets its contract: its constants are 2^-31 and 2^-1000. Assumes nothing.
 use borrow.Author.Needs.{needs}
 use lib.Ieee.{ofBits}
 use Rattle.margins.proofs.margin.Statement.{statement}

@@ -13,9 +13,16 @@ use Rattle.extremes.specs.Extreme.{larger}
 unfoldable pub largestOf : Line → ℕ → Float
 largestOf f = recur plusZero (λ j most. larger most (magnitudeOf (f j)))
 
--- 2 ^ -31 of a bound, and 2 ^ -1000 for bounds among the smallest numbers
+-- 2 ^ -31, and 2 ^ -1000
+abbrev pub marginShare : Float
+marginShare = fin false 1 (negsuc 30)
+
+abbrev pub marginLeast : Float
+marginLeast = fin false 1 (negsuc 999)
+
+-- that share of a bound, and the least for bounds among the smallest numbers
 abbrev pub marginOf : Float → Float
-marginOf most = add binary64 (mul binary64 most (fin false 1 (negsuc 30))) (fin false 1 (negsuc 999))
+marginOf most = add binary64 (mul binary64 most marginShare) marginLeast
 
 -- price and average are farther apart than the distance d, and so are the average and 0
 abbrev pub far : Float → Float → Float → Bool

@@ -10,10 +10,11 @@ use Rattle.oscillator.proofs.cells_by_one.Statement.{statement}
 use Rattle.oscillator.proofs.cells_by_one.Tie as tie
 
 abbrev Inv-loop : tie.InvT-loop
-Inv-loop f g n m k from out₀ i₀ out i = (from ≤ i) × (i ≤ length f) × Writing i (afresh n m k f g) out₀ out
+Inv-loop pressures ranges short medium long from out₀ i₀ out i =
+    (from ≤ i) × (i ≤ length pressures) × Writing i (afresh short medium long pressures ranges) out₀ out
 
 abbrev μ-loop : tie.MeasureT-loop
-μ-loop f g n m k from out₀ i₀ out i = length f - i
+μ-loop pressures ranges short medium long from out₀ i₀ out i = length pressures - i
 
 pub cells-by-one-spec : {M : Type 1} → statement M
 cells-by-one-spec =

@@ -16,8 +16,8 @@ cells-of-ticks-requires c κs =
     let a = start .args in (
       (start .pre, omega arith),
       (
-        known-ticks (a .from) (now (a .f)) (first .are-long-ticks .ensures) (one .if2 .taken),
-        known-ticks (a .from) (now (a .g)) (second .are-long-ticks2 .ensures) (both .if3 .taken),
+        known-ticks (a .from) (now (a .pressures)) (first .are-long-ticks .ensures) (one .if2 .taken),
+        known-ticks (a .from) (now (a .ranges)) (second .are-long-ticks2 .ensures) (both .if3 .taken),
       ),
     )
 

@@ -7,7 +7,8 @@ use denote.Ref.{now}
 use lib.ListN.{take, drop, length-take, length-drop}
 use lib.Seq.{getD-take, getD-drop}
 use lib.Ieee.{nan}
-use Rattle.oscillator.proofs.Oscillator.{taken-long, from-parts}
+use Rattle.cells.proofs.Parts.{taken-long}
+use Rattle.oscillator.proofs.Oscillator.{from-parts}
 use Rattle.oscillator.proofs.write_from_rows.Statement.{statement}
 use Rattle.oscillator.proofs.write_from_rows.Tie as tie
 
@@ -15,9 +16,9 @@ write-shares-requires : tie.Need-write-shares-requires
 write-shares-requires c κs =
     let pre = c .before .before .before .before .before .pre in (
       record {
-        short = pre .short;
-        medium = pre .medium;
-        long = pre .long;
+        short-window = pre .short-window;
+        medium-window = pre .medium-window;
+        long-window = pre .long-window;
         same = simp (length-take, length-drop) (omega arith);
       },
       simp length-take (omega arith),

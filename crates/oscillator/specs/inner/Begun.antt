@@ -10,20 +10,20 @@ use Rattle.cells.specs.Written.{Writing}
 use Rattle.oscillator.specs.Oscillator.{weighedShares}
 
 -- three windows over two rows of one length
-pub record Windows₃ (n m k : ℕ) (f g : List Float) : Type 0 where
-  pub short : Window n
-  pub medium : Window m
-  pub long : Window k
-  pub same : length g ≡ length f
+pub record Windows₃ (short medium long : ℕ) (pressures ranges : List Float) : Type 0 where
+  pub short-window : Window short
+  pub medium-window : Window medium
+  pub long-window : Window long
+  pub same : length ranges ≡ length pressures
 
 -- the cells, with windows summed from -0.0
 abbrev pub afresh : ℕ → ℕ → ℕ → List Float → List Float → Line
-afresh n m k f g = weighedShares minusZero n m k (line f) (line g)
+afresh short medium long pressures ranges = weighedShares minusZero short medium long (line pressures) (line ranges)
 
 -- the cells before bar `from`, which is past the lead, stand in `now`, which has room for the rest
-pub record Begun (n m k : ℕ) (f g : List Float) (from : ℕ) (now : List Float) : Type 0 where
-  pub windows : Windows₃ n m k f g
-  pub past-lead : min (max n (max m k) - 1) (length f) ≤ from
-  pub inside : from ≤ length f
-  pub room : length f ≤ length now
-  pub cells : Writing from (afresh n m k f g) now now
+pub record Begun (short medium long : ℕ) (pressures ranges : List Float) (from : ℕ) (now : List Float) : Type 0 where
+  pub windows : Windows₃ short medium long pressures ranges
+  pub past-lead : min (max short (max medium long) - 1) (length pressures) ≤ from
+  pub inside : from ≤ length pressures
+  pub room : length pressures ≤ length now
+  pub cells : Writing from (afresh short medium long pressures ranges) now now

@@ -7,63 +7,47 @@ use lib.Ieee.{Float}
 use Rattle.limits.specs.Limits.{Window}
 use Rattle.checks.specs.inner.Three.{ValuesOfThree}
 use Rattle.cells.specs.Written.{Writing}
-use Rattle.windows.specs.declared.Lanes.{Lanes}
+use Rattle.windows.specs.declared.Eight.{Eight}
+use Rattle.windows.specs.inner.Eight.{eachLane}
 use Rattle.oscillator.specs.Oscillator.{ratio, weighed}
 use Rattle.oscillator.specs.inner.Begun.{Windows₃, afresh}
 
 -- three series of one length with accepted values, three windows, a cell for each bar, and eight rows of work cells
-pub record Ready (high low close : List Float) (n m k out work : ℕ) : Type 0 where
+pub record Ready (high low close : List Float) (short medium long out work : ℕ) : Type 0 where
   pub lows : length low ≡ length high
   pub closes : length close ≡ length high
   pub values : ValuesOfThree high low close
-  pub short : Window n
-  pub medium : Window m
-  pub long : Window k
+  pub short-window : Window short
+  pub medium-window : Window medium
+  pub long-window : Window long
   pub out-long : length high ≤ out
   pub work-long : 8 * length high ≤ work
 
 -- all of them are whole at each of `count` bars from i on
-pub record Whole₃ (n m k : ℕ) (f g : List Float) (i count : ℕ) : Type 0 where
-  pub windows : Windows₃ n m k f g
-  pub full : max n (max m k) ≤ i + 1
-  pub inside : i + count ≤ length f
+pub record Whole₃ (short medium long : ℕ) (pressures ranges : List Float) (i count : ℕ) : Type 0 where
+  pub windows : Windows₃ short medium long pressures ranges
+  pub full : max short (max medium long) ≤ i + 1
+  pub inside : i + count ≤ length pressures
 
 -- three windows over two rows that stand one after the other, and a cell for each bar
-pub record TwoRows (n m k bars rows out : ℕ) : Type 0 where
-  pub short : Window n
-  pub medium : Window m
-  pub long : Window k
+pub record TwoRows (short medium long bars rows out : ℕ) : Type 0 where
+  pub short-window : Window short
+  pub medium-window : Window medium
+  pub long-window : Window long
   pub inside : 2 * bars ≤ rows
   pub room : bars ≤ out
 
 -- they were written on, up to bar r
-pub record Reached (n m k : ℕ) (f g : List Float) (from r : ℕ) (old now : List Float) : Type 0 where
+pub record Reached (short medium long : ℕ) (pressures ranges : List Float) (from r : ℕ) (old now : List Float)
+    : Type 0 where
   pub on : from ≤ r
-  pub inside : r ≤ length f
-  pub cells : Writing r (afresh n m k f g) old now
+  pub inside : r ≤ length pressures
+  pub cells : Writing r (afresh short medium long pressures ranges) old now
 
 -- each lane of x over that of y
-abbrev pub eachRatio : Lanes → Lanes → Lanes
-eachRatio x y = record {
-  lane0 = ratio (x .lane0) (y .lane0);
-  lane1 = ratio (x .lane1) (y .lane1);
-  lane2 = ratio (x .lane2) (y .lane2);
-  lane3 = ratio (x .lane3) (y .lane3);
-  lane4 = ratio (x .lane4) (y .lane4);
-  lane5 = ratio (x .lane5) (y .lane5);
-  lane6 = ratio (x .lane6) (y .lane6);
-  lane7 = ratio (x .lane7) (y .lane7);
-}
+abbrev pub eachRatio : Eight → Eight → Eight
+eachRatio x y = eachLane (λ lane. ratio (lane x) (lane y))
 
 -- the lanes of three shares, weighed
-abbrev pub eachWeighed : Lanes → Lanes → Lanes → Lanes
-eachWeighed x y z = record {
-  lane0 = weighed (x .lane0) (y .lane0) (z .lane0);
-  lane1 = weighed (x .lane1) (y .lane1) (z .lane1);
-  lane2 = weighed (x .lane2) (y .lane2) (z .lane2);
-  lane3 = weighed (x .lane3) (y .lane3) (z .lane3);
-  lane4 = weighed (x .lane4) (y .lane4) (z .lane4);
-  lane5 = weighed (x .lane5) (y .lane5) (z .lane5);
-  lane6 = weighed (x .lane6) (y .lane6) (z .lane6);
-  lane7 = weighed (x .lane7) (y .lane7) (z .lane7);
-}
+abbrev pub eachWeighed : Eight → Eight → Eight → Eight
+eachWeighed x y z = eachLane (λ lane. weighed (lane x) (lane y) (lane z))

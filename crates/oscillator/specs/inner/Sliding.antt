@@ -11,15 +11,15 @@ use Rattle.cells.specs.Line.{Line}
 use Rattle.windows.specs.Window.{windowSum}
 use Rattle.oscillator.specs.declared.bar.Sums.{Sums}
 
--- the sums of the last n cells of f and of g at bar i
-pub record SumsOf (n : ℕ) (f g : Line) (i : ℕ) (r : Sums) : Type 0 where
-  pub over : r .over ≡ windowSum n f i
-  pub under : r .under ≡ windowSum n g i
+-- the sums of the last n cells of pressures and of ranges at bar i
+pub record SumsOf (n : ℕ) (pressures ranges : Line) (i : ℕ) (r : Sums) : Type 0 where
+  pub over : r .over ≡ windowSum n pressures i
+  pub under : r .under ≡ windowSum n ranges i
 
 -- two rows of whole ticks, and a whole window at bar i and at the bar before
-pub record TickRows (n : ℕ) (f g : List Float) (i : ℕ) : Type 0 where
+pub record TickRows (n : ℕ) (pressures ranges : List Float) (i : ℕ) : Type 0 where
   pub window : Window n
   pub full : n ≤ i
-  pub inside : i < length f
-  pub same : length g ≡ length f
-  pub ticks : (all tick f ≡ true) × (all tick g ≡ true)
+  pub inside : i < length pressures
+  pub same : length ranges ≡ length pressures
+  pub ticks : (all tick pressures ≡ true) × (all tick ranges ≡ true)

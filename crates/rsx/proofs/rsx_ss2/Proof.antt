@@ -5,7 +5,7 @@ use borrow.Author.Needs.{needs}
 use denote.Ref.{now}
 use lib.ListN.{length}
 use Rattle.checks.proofs.Due.{some-due, written-call, empty-call}
-use Rattle.rsx.specs.inner.Averaged.{Ready}
+use Rattle.rsx.specs.inner.Averaged.{RsxRoom}
 use Rattle.rsx.proofs.Stages.{rsx-clearable, rsx-bars, rsx-ready}
 use Rattle.rsx.proofs.rsx_ss2.Statement.{statement}
 use Rattle.rsx.proofs.rsx_ss2.Tie as tie
@@ -13,7 +13,7 @@ use Rattle.rsx.proofs.rsx_ss2.Tie as tie
 -- where cells are due
 opened : (c : tie.Then1) →
     let a = c .before .before .before .before .before .before .before .before .before .args in
-    Ready (a .period) (a .smooth-period) (now (a .close)) (length (now (a .out))) (length (now (a .work)))
+    RsxRoom (a .period) (a .smooth-period) (now (a .close)) (length (now (a .out))) (length (now (a .work)))
 opened c =
     let due = c .before .before .before in
     let some = some-due (rw (c .if1 .taken) at (due .cells-due .ensures)) in

@@ -16,7 +16,7 @@ pub record Averaged (alpha : Float) (f : Line) (i : ℕ) (r : Averages) : Type 0
   pub loss : r .loss ≡ exponentialLine alpha (losses f) i
 
 -- what the stages ask: a bar at least, a window, a smoother period, a cell for each bar, and eight rows of work cells
-pub record Ready (n m : ℕ) (s : List Float) (out work : ℕ) : Type 0 where
+pub record RsxRoom (n m : ℕ) (s : List Float) (out work : ℕ) : Type 0 where
   pub window : Window n
   pub period : m ≤ longestPeriod
   pub bars : 0 < length s

@@ -4,20 +4,22 @@ use native.Mathlib.Omega.{arith}
 use borrow.Author.Needs.{needs}
 use denote.Ref.{now}
 use lib.ListN.{length}
+use Rattle.calls.proofs.Room.{with-bars}
 use Rattle.checks.specs.inner.Due.{Priced}
 use Rattle.checks.proofs.Due.{fewer-rows, written-call, empty-call}
-use Rattle.rules_bands.proofs.Open.{band-bars, band-clearable, band-priced}
+use Rattle.checks.proofs.Table.{with-clearable, with-priced}
 use Rattle.rules.proofs.band_positions.Statement.{statement}
 use Rattle.rules.proofs.band_positions.Tie as tie
 
 -- where cells are due
 opened : (c : tie.Then1) →
-    let a = c .before .before .before .before .before .before .before .before .args in
+    let a = c .before .before .before .before .before .before .before .before .before .args in
     Priced 8 (a .n) (now (a .series)) (length (now (a .out)))
     (length (c .before .before .before .cells-due .last .1 .1 .0))
 opened c =
     let due = c .before .before .before in
-    band-priced _ _ _ _ (due .before .before .answer-bands .ensures) (due .cells-due .ensures) (c .if1 .taken)
+    with-priced _ _ _ _ (due .before .before .answer-numbers-and-window .ensures) (due .cells-due .ensures)
+    (c .if1 .taken) .0
 
 returns : tie.Need-returns
 returns c =
@@ -25,7 +27,7 @@ returns c =
     let cells = clear .before .before .before .before .before in
     let then = cells .before .before .before in
     let due = then .before .before .before in
-    written-call (due .before .before .answer-bands .ensures) (band-bars _ _ _ _ _)
+    written-call (due .before .before .answer-numbers-and-window .ensures) (with-bars _ _ _ _ _ _)
     (rw (then .if1 .taken) at (due .cells-due .ensures)) (cells .write-bands .ensures) (omega arith)
     (clear .clear .ensures)
 
@@ -33,8 +35,9 @@ pub band-positions-spec : {M : Type 1} → statement M
 band-positions-spec =
     tie.close
     (tie.spec
-    (λ c κs. search needs)  -- answer-bands-requires
-    (λ c κs. band-clearable _ _ _ _ _ (c .before .answer-bands .ensures))  -- cells-due-requires
+    (λ c. search needs)  -- slice-aggregate-answer-numbers-and-window
+    (λ c κs. search needs)  -- answer-numbers-and-window-requires
+    (λ c κs. with-clearable _ _ _ _ _ (c .before .answer-numbers-and-window .ensures))  -- cells-due-requires
     (λ c κs. fewer-rows (opened (c .before .before)) (omega arith))  -- write-bands-requires
     (λ c. let o = opened (c .before .before .before .before .before .before .before) in search needs)  -- mul-clear
     -- clear-requires
@@ -43,6 +46,6 @@ band-positions-spec =
     (λ c. search needs)  -- same-length-2
     returns
     (λ c. search needs)  -- same-length-3
-    (λ c. let due = c .before .before .before in empty-call (due .before .before .answer-bands .ensures)
+    (λ c. let due = c .before .before .before in empty-call (due .before .before .answer-numbers-and-window .ensures)
     (rw (c .if1 .left) at (due .cells-due .ensures)))  -- returns-2
     )

@@ -1,7 +1,7 @@
 -- Both rules in one, by whether the rule is the reverse one; and how cells are written, a few bars at a time. Assumes
 -- nothing.
 use mathlib.Core.Bool.{Bool, cond}
-use mathlib.Core.List.{List}
+use mathlib.Core.List.{List, [], _∷_}
 use Prim.Native.Nat.{ℕ, zero, suc, _+_, _-_, _*_, _<_, _≤_}
 use lib.IntN.{ℤ}
 use lib.ListN.{length, getD}
@@ -10,9 +10,11 @@ use Rattle.cells.specs.Line.{Line, line}
 use Rattle.cells.specs.Written.{Writing}
 use Rattle.limits.specs.Limits.{Window}
 use Rattle.calls.specs.declared.Answer.{Answer}
+use Rattle.calls.specs.Answer.{answeredWith}
 use Rattle.calls.specs.Call.{WorkCall}
+use Rattle.values.specs.Accepted.{accepted}
 use Rattle.rules_held.specs.Held.{flat, moved}
-use Rattle.rules_bands.specs.Boll.{bandAnswer, outsideAt, outsideBands, bollLine}
+use Rattle.rules_bands.specs.Boll.{outsideAt, outsideBands, bollLine}
 use Rattle.rules_bands.specs.BollReverse.{turnsAt, bandSignals, turnedBands, bollReverseLine}
 
 -- what the variance of the last n cells is over
@@ -40,22 +42,17 @@ bandsLine reverse n k f = cond reverse (bollReverseLine n k f) (bollLine n k f)
 -- what a call of either rule promises
 abbrev pub BandsCall : Bool → List Float → ℕ → Float → List ℤ → List Float → Answer → List ℤ → List Float → Type 0
 BandsCall reverse s n k out₀ work₀ =
-    WorkCall (bandAnswer s n k (length out₀) (length work₀)) (bandsLine reverse n k (line s)) out₀ (length s) work₀
+    WorkCall (answeredWith accepted s (k ∷ []) (n ∷ []) (length out₀) (length work₀ ∷ []))
+    (bandsLine reverse n k (line s)) out₀ (length s) work₀
 
 -- the bands are there from bar i on, which is inside; the cells of f before it stand in `now`, which has room for the
 -- rest
-pub record Begun {A : Type 0} (n : ℕ) (s : List Float) (i : ℕ) (f : ℕ → A) (now : List A) : Type 0 where
+pub record PositionsBefore {A : Type 0} (n : ℕ) (s : List Float) (i : ℕ) (f : ℕ → A) (now : List A) : Type 0 where
   pub window : Window n
   pub full : 2 * n ≤ i + 2
   pub inside : i < length s
   pub room : length s ≤ length now
   pub cells : Writing i f now now
-
--- r more were written
-pub record Further {A : Type 0} (s : List Float) (i : ℕ) (f : ℕ → A) (r : ℕ) (old now : List A) : Type 0 where
-  pub some : 0 < r
-  pub inside : i + r ≤ length s
-  pub cells : Writing (i + r) f old now
 
 -- the position at the bar before bar i, flat where there is none
 unfoldable pub positionBefore : ℕ → List ℤ → ℤ

@@ -40,16 +40,16 @@ loop-holds c =
     let o = start .pre .0 in
     (omega arith, o .full, first-parts o (start .pre .1 .is), start .pre .1 .is, start .pre .1 .before)
 
-side-requires : tie.Need-side-requires Inv-loop μ-loop
-side-requires c κs =
+sign-of-number-requires : tie.Need-sign-of-number-requires Inv-loop μ-loop
+sign-of-number-requires c κs =
     let at = c .before .before .before in
     let o = at .before .before .before .pre .0 in
     let i = at .loop .i in
     spread-number o (i + 1) (omega arith) (omega arith)
     (parts-next o i (omega arith) (omega arith) (at .loop .inv .2) (c .before .change-at .ensures))
 
-side-requires-2 : tie.Need-side-requires-2 Inv-loop μ-loop
-side-requires-2 c κs =
+sign-of-number-requires-2 : tie.Need-sign-of-number-requires-2 Inv-loop μ-loop
+sign-of-number-requires-2 c κs =
     let two = c .before in
     let at = two .before .before .before in
     let o = at .before .before .before .pre .0 in
@@ -68,17 +68,19 @@ loop-again c =
     let odd =
     after-two o i (omega arith) (omega arith) (at .loop .inv .3) (two .before .change-at .ensures)
     (two .change-at2 .ensures) in
-    let first = one-more (at .loop .inv .4) (c .before .side .ensures ∙ decided o i (i + 1) (omega arith) even)
+    let first = one-more (at .loop .inv .4)
+    (c .before .sign-of-number .ensures ∙ decided o i (i + 1) (omega arith) even)
     (omega arith) in (
       omega arith,
       omega arith,
       next-parts o (i + 1) (i + 2) (omega arith) even (two .change-at2 .ensures),
       odd,
-      step (i + 1) (i + 2) first (c .side2 .ensures ∙ decided o (i + 1) (i + 2) (omega arith) odd) (omega arith),
+      step (i + 1) (i + 2) first (c .sign-of-number2 .ensures ∙ decided o (i + 1) (i + 2) (omega arith) odd)
+          (omega arith),
     )
 
-side-requires-3 : tie.Need-side-requires-3 Inv-loop μ-loop
-side-requires-3 c κs =
+sign-of-number-requires-3 : tie.Need-sign-of-number-requires-3 Inv-loop μ-loop
+sign-of-number-requires-3 c κs =
     let at = c .before .before .before in
     let o = at .before .before .before .pre .0 in
     let i = at .loop .i in
@@ -91,7 +93,8 @@ returns c =
     let o = at .before .before .before .pre .0 in
     let i = at .loop .i in
     let next = after-one o i (omega arith) (omega arith) (at .loop .inv .3) (c .before .change-at3 .ensures) in
-    ends (one-more (at .loop .inv .4) (c .side3 .ensures ∙ decided o i (i + 1) (omega arith) next) (omega arith))
+    ends (one-more (at .loop .inv .4) (c .sign-of-number3 .ensures ∙ decided o i (i + 1) (omega arith) next)
+    (omega arith))
     (omega arith)
 
 pub slide-spreads-spec : {M : Type 1} → statement M
@@ -105,10 +108,10 @@ slide-spreads-spec =
     (λ c κs. search needs)  -- change-at-requires
     (λ c. search needs)  -- add-change-at
     (λ c κs. search needs)  -- change-at-requires-2
-    side-requires
+    sign-of-number-requires
     (λ c. search needs)  -- mul-out
     (λ c. search needs)  -- slice-write-out
-    side-requires-2
+    sign-of-number-requires-2
     (λ c. search needs)  -- add-out
     (λ c. search needs)  -- mul-out-2
     (λ c. simp length-set (omega arith))  -- slice-write-out-2
@@ -116,7 +119,7 @@ slide-spreads-spec =
     (λ c. search needs)  -- loop-less
     loop-again
     (λ c κs. search needs)  -- change-at-requires-3
-    side-requires-3
+    sign-of-number-requires-3
     (λ c. search needs)  -- mul-out-3
     (λ c. search needs)  -- slice-write-out-3
     (λ c. search needs)  -- same-length

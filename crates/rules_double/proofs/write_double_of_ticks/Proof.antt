@@ -25,8 +25,8 @@ over c =
       ticks = tick-line (now (c .before .args .series)) (λ i l. c .shared-slice-known .given i) (p .ticks);
     }
 
-side-requires : tie.Need-side-requires
-side-requires c κs =
+sign-of-number-requires : tie.Need-sign-of-number-requires
+sign-of-number-requires c κs =
     let known = c .before .before .before .before .before .before in
     let p = known .before .pre in
     spread-number (over known) (known .before .args .m) (omega arith) (p .full) (c .first-spread .ensures)
@@ -34,17 +34,18 @@ side-requires c κs =
 slide-spreads-requires : tie.Need-slide-spreads-requires
 unfolding ofBits
 slide-spreads-requires c κs =
-    let side = c .before in
-    let lead = side .before .before .before .before in
+    let sign = c .before in
+    let lead = sign .before .before .before .before in
     let known = lead .before .before .before in
     let o = over known in
-    let first = side .before .first-spread .ensures in
+    let first = sign .before .first-spread .ensures in
     let long = lead .fill-lead .ensures .lead .long in (
       o,
       record {
         is = first;
         room = simp length-set (omega arith);
-        before = stands (first-position o (lead .fill-lead .ensures) (omega arith) first (side .side .ensures));
+        before = stands (first-position o (lead .fill-lead .ensures) (omega arith) first
+            (sign .sign-of-number .ensures));
       },
     )
 
@@ -58,15 +59,15 @@ returns : tie.Need-returns
 unfolding ofBits
 returns c =
     let slide = c .before .before in
-    let side = slide .before .before in
-    let lead = side .before .before .before .before in
+    let sign = slide .before .before in
+    let lead = sign .before .before .before .before in
     let known = lead .before .before .before in
     let p = known .before .pre in
     let long = lead .fill-lead .ensures .lead .long in
     let first =
     first-position (over known) (lead .fill-lead .ensures) (omega (arith, long, p .room))
-    (side .before .first-spread .ensures)
-    (side .side .ensures) in
+    (sign .before .first-spread .ensures)
+    (sign .sign-of-number .ensures) in
     lead-then (lead .fill-lead .ensures) (then-written first (slide .slide-spreads .ensures) (p .full)) (omega arith)
 
 pub write-double-of-ticks-spec : {M : Type 1} → statement M
@@ -76,7 +77,7 @@ write-double-of-ticks-spec =
     (λ c. search needs)  -- sub-fill-lead
     (λ c κs. search needs)  -- fill-lead-requires
     (λ c κs. over (c .before .before .before .before .before))  -- first-spread-requires
-    side-requires
+    sign-of-number-requires
     (λ c. search needs)  -- sub-out
     (λ c. search needs)  -- mul-out
     (λ c. search needs)  -- slice-write-out

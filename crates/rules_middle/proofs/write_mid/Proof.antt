@@ -8,7 +8,7 @@ use Rattle.rules_middle.proofs.write_mid.Tie as tie
 
 returns-2 : tie.Need-returns-2
 returns-2 c =
-    let decided = c .before .before .before .before .before .write-mid-by-runs .ensures in
+    let decided = c .before .before .before .before .before .write-mid-by-margins .ensures in
     (decided .cells (c .if2 .taken), decided .work)
 
 write-mid-of-means-requires-2 : tie.Need-write-mid-of-means-requires-2
@@ -16,8 +16,8 @@ write-mid-of-means-requires-2 c κs =
     let tried = c .before .before .before .before .before .before .before in
     let asked = tried .before .before .before .before in
     let pre = asked .before .before .before .before .pre in
-    let out = tried .write-mid-by-runs .ensures .used .long in
-    let work = tried .write-mid-by-runs .ensures .work .long in (
+    let out = tried .write-mid-by-margins .ensures .used .long in
+    let work = tried .write-mid-by-margins .ensures .work .long in (
       record {
         window = pre .window;
         short = pre .short;
@@ -32,7 +32,7 @@ returns-3 : tie.Need-returns-3
 returns-3 c =
     let means = c .before .before .before .before in
     let tried = means .before .before .before .before .before .before .before .before in
-    let decided = tried .write-mid-by-runs .ensures in
+    let decided = tried .write-mid-by-margins .ensures in
     let cells = means .write-mid-of-means2 .ensures in
     (written-over-all (decided .used) (cells .0), touched-then (decided .work) (cells .1))
 
@@ -45,7 +45,7 @@ write-mid-spec =
     (λ c. search needs)  -- same-length
     (λ c. search needs)  -- same-length-2
     (λ c. search needs)  -- returns
-    (λ c κs. search needs)  -- write-mid-by-runs-requires
+    (λ c κs. search needs)  -- write-mid-by-margins-requires
     (λ c. search needs)  -- same-length-3
     (λ c. search needs)  -- same-length-4
     returns-2

@@ -36,7 +36,7 @@ loop-again c =
     let some = c .before .before in
     let at = some .before .before .before in
     let more = some .write-some .ensures in
-    (omega arith, then-written (at .loop .inv .1) (more .indexes) (omega arith))
+    (omega arith, then-written (at .loop .inv .1) (more .cells) (omega arith))
 
 pub write-indexes-spec : {M : Type 1} → statement M
 write-indexes-spec =

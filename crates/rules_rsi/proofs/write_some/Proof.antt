@@ -21,7 +21,7 @@ returns c =
     let test = sixteen .before .before in
     let a = test .before .before .before .args in
     let whole = whole-sixteen (a .n) (a .i) (length (now (a .series))) (test .if1 .taken) in
-    record { some = omega arith; inside = whole .1; indexes = sixteen .write-sixteen .ensures }
+    record { some = omega arith; inside = whole .1; cells = sixteen .write-sixteen .ensures }
 
 returns-2 : tie.Need-returns-2
 returns-2 c =
@@ -29,7 +29,7 @@ returns-2 c =
     record {
       some = omega arith;
       inside = omega arith;
-      indexes = one-more (pre .indexes) (c .index-at .ensures) (omega arith);
+      cells = one-more (pre .indexes) (c .index-at .ensures) (omega arith);
     }
 
 pub write-some-spec : {M : Type 1} → statement M

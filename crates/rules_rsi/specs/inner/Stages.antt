@@ -8,8 +8,10 @@ use Rattle.limits.specs.Limits.{Window}
 use Rattle.rounding.specs.Literals.{hundred}
 use Rattle.cells.specs.Line.{Line, line, plusZero}
 use Rattle.cells.specs.Written.{Writing}
+use Rattle.cells.specs.inner.MoreWritten.{MoreWritten}
 use Rattle.cells.specs.inner.Rows.{beside}
-use Rattle.windows.specs.declared.Lanes.{Lanes}
+use Rattle.windows.specs.declared.Eight.{Eight}
+use Rattle.windows.specs.inner.Eight.{eachLane}
 use Rattle.windows.specs.Window.{mean}
 use Rattle.window_means.specs.inner.Row.{RowHolds}
 use Rattle.changes.specs.Changes.{gain, loss, gains, losses, change, rsiFormula}
@@ -42,27 +44,16 @@ abbrev pub indexBy : Float → Float → Float → Float
 indexBy count up down = cond (eq down plusZero) hundred (rsiFormula (div binary64 up count) (div binary64 down count))
 
 -- of eight bars side by side
-abbrev pub eachIndex : Float → Lanes → Lanes → Lanes
-eachIndex count up down = record {
-  lane0 = indexBy count (up .lane0) (down .lane0);
-  lane1 = indexBy count (up .lane1) (down .lane1);
-  lane2 = indexBy count (up .lane2) (down .lane2);
-  lane3 = indexBy count (up .lane3) (down .lane3);
-  lane4 = indexBy count (up .lane4) (down .lane4);
-  lane5 = indexBy count (up .lane5) (down .lane5);
-  lane6 = indexBy count (up .lane6) (down .lane6);
-  lane7 = indexBy count (up .lane7) (down .lane7);
-}
+abbrev pub eachIndex : Float → Eight → Eight → Eight
+eachIndex count up down = eachLane (λ lane. indexBy count (lane up) (lane down))
 
 -- the indexes before bar i, which is inside, stand in the first row, and the changes in the other two
-pub record Begun (n : ℕ) (s : List Float) (i : ℕ) (now : List Float) : Type 0 where
+pub record IndexesBefore (n : ℕ) (s : List Float) (i : ℕ) (now : List Float) : Type 0 where
   pub window : Window n
   pub inside : i < length s
   pub changes : Changed n s now
   pub indexes : Writing i (rsiBefore n (mean n (line s))) now now
 
 -- r more were written
-pub record Further (n : ℕ) (s : List Float) (i r : ℕ) (old now : List Float) : Type 0 where
-  pub some : 0 < r
-  pub inside : i + r ≤ length s
-  pub indexes : Writing (i + r) (rsiBefore n (mean n (line s))) old now
+abbrev pub MoreIndexes : ℕ → List Float → ℕ → ℕ → List Float → List Float → Type 0
+MoreIndexes n s = MoreWritten (rsiBefore n (mean n (line s))) (length s)

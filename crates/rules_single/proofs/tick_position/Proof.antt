@@ -4,7 +4,8 @@ use native.Mathlib.Nat.{mul-le-mul}
 use native.Mathlib.Omega.{arith}
 use borrow.Author.Needs.{needs}
 use lib.Ieee.{ofBits, neg}
-use Rattle.rules_single.proofs.Ticks.{whole-is-float, by-average, by-total}
+use Rattle.windows.proofs.Window.{count-is-float}
+use Rattle.rules_single.proofs.Ticks.{by-average, by-total}
 use Rattle.rules_single.proofs.tick_position.Statement.{statement}
 use Rattle.rules_single.proofs.tick_position.Tie as tie
 
@@ -40,7 +41,7 @@ tick-position-spec =
     -- mul-scaled-2
     (λ c. let l = c .before .before .before .pre .0 .narrow in record { fits = omega (arith, mul-le-mul l l) })
     -- int-to-float-scaled
-    (λ c. let l = c .before .before .before .before .pre .0 .narrow in whole-is-float _ (omega (arith, mul-le-mul l l)))
+    (λ c. let l = c .before .before .before .before .pre .0 .narrow in count-is-float _ (omega (arith, mul-le-mul l l)))
     (λ c. search needs)  -- add-total
     (λ c. search needs)  -- mul-total
     (λ c. search needs)  -- shared-slice-read-total

@@ -19,7 +19,7 @@ write-single-of-ticks-requires c κs =
 
 returns-2 : tie.Need-returns-2
 returns-2 c =
-    let decided = c .before .before .before .before .before .write-single-by-runs .ensures in
+    let decided = c .before .before .before .before .before .write-single-by-margins .ensures in
     (decided .cells (c .if3 .taken), decided .work)
 
 write-single-of-means-requires : tie.Need-write-single-of-means-requires
@@ -27,8 +27,8 @@ write-single-of-means-requires c κs =
     let tried = c .before .before .before .before .before .before .before in
     let asked = tried .before .before .before .before in
     let pre = asked .before .before .before .before .pre in
-    let out = tried .write-single-by-runs .ensures .used .long in
-    let work = tried .write-single-by-runs .ensures .work .long in (
+    let out = tried .write-single-by-margins .ensures .used .long in
+    let work = tried .write-single-by-margins .ensures .work .long in (
       record {
         window = pre .window;
         short = pre .short;
@@ -43,7 +43,7 @@ returns-3 : tie.Need-returns-3
 returns-3 c =
     let means = c .before .before .before .before in
     let tried = means .before .before .before .before .before .before .before .before in
-    let decided = tried .write-single-by-runs .ensures in
+    let decided = tried .write-single-by-margins .ensures in
     let cells = means .write-single-of-means .ensures in
     (written-over-all (decided .used) (cells .0), touched-then (decided .work) (cells .1))
 
@@ -56,7 +56,7 @@ write-single-spec =
     (λ c. search needs)  -- same-length
     (λ c. search needs)  -- same-length-2
     (λ c. search needs)  -- returns
-    (λ c κs. search needs)  -- write-single-by-runs-requires
+    (λ c κs. search needs)  -- write-single-by-margins-requires
     (λ c. search needs)  -- same-length-3
     (λ c. search needs)  -- same-length-4
     returns-2

@@ -8,8 +8,8 @@ use Rattle.cells.proofs.RowWrites.{lent-on}
 use Rattle.cells.proofs.Touched.{touched, touched-more}
 use Rattle.cells.proofs.Written.{stands, then-written}
 use Rattle.cells.proofs.Parts.{part-long, through}
-use Rattle.windows.specs.inner.Runs.{runs}
-use Rattle.windows.proofs.Runs.{causal-runs}
+use Rattle.windows.specs.inner.RunningSums.{runningSums}
+use Rattle.windows.proofs.RunningSums.{causal-running-sums}
 use Rattle.rules_single.proofs.write_single_of_ticks.Statement.{statement}
 use Rattle.rules_single.proofs.write_single_of_ticks.Tie as tie
 
@@ -31,7 +31,8 @@ write-tick-positions-requires c κs =
     let means = totals .before .before .before .before .before in
     let sums = means .before .before .before .before in
     let pre = sums .before .before .before .before .before .pre in
-    let second = through (sums .write-sums .ensures) (omega arith) (runs _) (causal-runs _ (pre .0 .window .some))
+    let second = through (sums .write-sums .ensures) (omega arith) (runningSums _)
+    (causal-running-sums _ (pre .0 .window .some))
     (totals .write-sums2 .ensures) in
     let rows = lent-on (means .write-means-of-ticks .ensures) second (omega arith) in (
       record {
@@ -51,7 +52,8 @@ returns c =
     let means = totals .before .before .before .before .before in
     let sums = means .before .before .before .before in
     let pre = sums .before .before .before .before .before .pre in
-    let second = through (sums .write-sums .ensures) (omega arith) (runs _) (causal-runs _ (pre .0 .window .some))
+    let second = through (sums .write-sums .ensures) (omega arith) (runningSums _)
+    (causal-running-sums _ (pre .0 .window .some))
     (totals .write-sums2 .ensures) in
     let rows = lent-on (means .write-means-of-ticks .ensures) second (omega arith) in (
       then-written (sums .write-sums .ensures) (cells .write-tick-positions .ensures) (omega arith),

@@ -15,7 +15,7 @@ abbrev pub Smoothed : Coefficients → List Float → List Float → List Float 
 Smoothed c s old now = Writing (length s) (smooth c (line s)) old now
 
 -- the first four cells stand in `now`, which has room for the rest
-pub record Begun (c : Coefficients) (s now : List Float) : Type 0 where
+pub record FirstFour (c : Coefficients) (s now : List Float) : Type 0 where
   pub some : 4 ≤ length s
   pub room : length s ≤ length now
   pub first : Writing 4 (smooth c (line s)) now now

@@ -5,13 +5,13 @@ use borrow.Author.Needs.{needs}
 use lib.IntN.{pos}
 use lib.Ieee.{eq, ofBits, ofInt, binary64, toUnsigned}
 use Rattle.rounding.specs.Leaves.{magnitudeOf}
-use Rattle.values.proofs.Ticks.{Tried, tried, too-far}
+use Rattle.values.proofs.Ticks.{TickTests, tick-tests, too-far}
 use Rattle.values.proofs.is_tick.Statement.{statement}
 use Rattle.values.proofs.is_tick.Tie as tie
 
-within : (c : tie.Then1) → Tried (c .before .before .args .x)
+within : (c : tie.Then1) → TickTests (c .before .before .args .x)
 unfolding ofBits
-within c = tried (c .before .before .args .x) (rw (c .before .magnitude .ensures) at (c .if1 .taken))
+within c = tick-tests (c .before .before .args .x) (rw (c .before .magnitude .ensures) at (c .if1 .taken))
 
 -- the whole part is that of the magnitude
 part : (c : tie.After-truncating-f64-to-u64)

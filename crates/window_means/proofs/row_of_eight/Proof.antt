@@ -16,7 +16,7 @@ returns c =
     let a = start .args in
     let none = none-of-row (a .from) (a .to) (a .n) (a .first) (now (a .cells)) in
     let same = for-row (start .pre) none (omega arith) (a .first) {count = 8} (omega arith) in
-    let moved = eight-moved _ _ (eight .means-at .ensures) same in
+    let moved = eight-moved _ _ (eight .means-of-eight .ensures) same in
     record {
       on = omega arith;
       inside = omega arith;
@@ -28,8 +28,8 @@ row-of-eight-spec =
     tie.close
     (tie.spec
     (λ c. search needs)  -- add-if1
-    (λ c. search needs)  -- add-means-at
-    (λ c κs. search needs)  -- means-at-requires
+    (λ c. search needs)  -- add-means-of-eight
+    (λ c κs. search needs)  -- means-of-eight-requires
     (λ c. search needs)  -- add-store-eight
     (λ c κs. search needs)  -- store-eight-requires
     (λ c. search needs)  -- add-result

@@ -8,15 +8,17 @@ use Rattle.windows.specs.Window.{mean}
 use Rattle.window_means.proofs.write_means.Statement.{statement}
 use Rattle.window_means.proofs.write_means.Tie as tie
 
-means-by-sixteen-requires : tie.Need-means-by-sixteen-requires
+write-means-by-sixteen-requires : tie.Need-write-means-by-sixteen-requires
 unfolding mean ofBits
-means-by-sixteen-requires c κs = search (needs, lead-stands)
+write-means-by-sixteen-requires c κs = search (needs, lead-stands)
 
-means-of-eight-requires : tie.Need-means-of-eight-requires
-means-of-eight-requires c κs = search (needs, stands (c .before .before .before .means-by-sixteen .ensures .means))
+write-means-of-eight-requires : tie.Need-write-means-of-eight-requires
+write-means-of-eight-requires c κs =
+    search (needs, stands (c .before .before .before .write-means-by-sixteen .ensures .means))
 
-means-by-one-requires : tie.Need-means-by-one-requires
-means-by-one-requires c κs = search (needs, stands (c .before .before .before .means-of-eight .ensures .means))
+write-means-by-one-requires : tie.Need-write-means-by-one-requires
+write-means-by-one-requires c κs =
+    search (needs, stands (c .before .before .before .write-means-of-eight .ensures .means))
 
 returns : tie.Need-returns
 returns c =
@@ -24,10 +26,10 @@ returns c =
     let eight = one .before .before .before .before in
     let sixteen = eight .before .before .before .before in
     let lead = sixteen .before .before .before .before in
-    let so-far = then-written (lead .fill-lead .ensures .lead) (sixteen .means-by-sixteen .ensures .means)
+    let so-far = then-written (lead .fill-lead .ensures .lead) (sixteen .write-means-by-sixteen .ensures .means)
     (omega arith) in
-    let further = then-written so-far (eight .means-of-eight .ensures .means) (omega arith) in
-    then-written further (one .means-by-one .ensures) (omega arith)
+    let further = then-written so-far (eight .write-means-of-eight .ensures .means) (omega arith) in
+    then-written further (one .write-means-by-one .ensures) (omega arith)
 
 pub write-means-spec : {M : Type 1} → statement M
 write-means-spec =
@@ -35,9 +37,9 @@ write-means-spec =
     (tie.spec
     (λ c. search needs)  -- sub-fill-lead
     (λ c κs. search needs)  -- fill-lead-requires
-    means-by-sixteen-requires
-    means-of-eight-requires
-    means-by-one-requires
+    write-means-by-sixteen-requires
+    write-means-of-eight-requires
+    write-means-by-one-requires
     (λ c. search needs)  -- same-length
     returns
     )

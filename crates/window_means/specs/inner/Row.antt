@@ -28,7 +28,7 @@ pub record RowRoom (from to bars n first cells : ℕ) : Type 0 where
   pub room : to + bars ≤ cells
 
 -- the means were written up to bar r
-pub record RowReached (from to bars n first r : ℕ) (old now : List Float) : Type 0 where
+pub record RowUpTo (from to bars n first r : ℕ) (old now : List Float) : Type 0 where
   pub on : first ≤ r
   pub inside : r ≤ bars
   pub means : Writing (to + r) (meansOfRow from to n first old) old now

@@ -6,6 +6,10 @@ use lib.Dec.{ltb}
 use lib.Ieee.{Float}
 use Rattle.values.specs.Accepted.{tick, all}
 
--- a window of more than 12 bars over whole ticks
+-- the longest window that is summed afresh also on whole ticks
+abbrev pub longestAfresh : ℕ
+longestAfresh = 12
+
+-- a longer window, over whole ticks
 abbrev pub longTicks : ℕ → List Float → Bool
-longTicks n s = ltb 12 n && all tick s
+longTicks n s = ltb longestAfresh n && all tick s

@@ -1,7 +1,7 @@
 -- `means_of_sixteen` meets its contract: the sums, divided by n. Assumes nothing.
 use native.Mathlib.Omega.{arith}
 use borrow.Author.Needs.{needs}
-use Rattle.windows.proofs.Eight.{eight-means}
+use Rattle.windows.proofs.EightSums.{eight-means}
 use Rattle.windows.proofs.means_of_sixteen.Statement.{statement}
 use Rattle.windows.proofs.means_of_sixteen.Tie as tie
 

@@ -9,14 +9,14 @@ use Rattle.cells.proofs.Written.{one-more, ends}
 use Rattle.windows.specs.Window.{addDifference}
 use Rattle.windows.specs.inner.Sums.{Running}
 use Rattle.windows.proofs.Window.{first-running, next-running, same-bar}
-use Rattle.windows.specs.inner.Runs.{runs}
-use Rattle.windows.proofs.Runs.{run-at}
+use Rattle.windows.specs.inner.RunningSums.{runningSums}
+use Rattle.windows.proofs.RunningSums.{running-sum-at}
 use Rattle.windows.proofs.slide_sums.Statement.{statement}
 use Rattle.windows.proofs.slide_sums.Tie as tie
 
 abbrev Inv-loop : tie.InvT-loop
 Inv-loop series n sums₀ sum₀ i₀ sums sum i =
-    (n ≤ i + 1) × (i < length series) × Writing i (runs n (line series)) sums₀ sums
+    (n ≤ i + 1) × (i < length series) × Writing i (runningSums n (line series)) sums₀ sums
     × Running addDifference n (line series) (i + 1) sum
 
 abbrev μ-loop : tie.MeasureT-loop
@@ -32,7 +32,7 @@ loop-again c =
     let inv = c .before .before .before .loop .inv in (
       omega arith,
       omega arith,
-      one-more (inv .2) (run-at _ (inv .3) (omega arith)) (omega arith),
+      one-more (inv .2) (running-sum-at _ (inv .3) (omega arith)) (omega arith),
       next-running
           (inv .3) (omega arith),
     )
@@ -40,7 +40,7 @@ loop-again c =
 returns : tie.Need-returns Inv-loop μ-loop
 returns c =
     let inv = c .before .loop .inv in
-    ends (one-more (inv .2) (run-at _ (inv .3) (omega arith)) (omega arith)) (omega arith)
+    ends (one-more (inv .2) (running-sum-at _ (inv .3) (omega arith)) (omega arith)) (omega arith)
 
 pub slide-sums-spec : {M : Type 1} → statement M
 slide-sums-spec =

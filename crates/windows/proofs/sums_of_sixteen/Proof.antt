@@ -4,7 +4,7 @@ use native.Mathlib.Omega.{arith}
 use borrow.Author.Needs.{needs}
 use lib.Ieee.{ofBits, neg}
 use Rattle.cells.specs.Line.{line}
-use Rattle.windows.proofs.Eight.{Summed, none-of-eight, each-added, eight-sums}
+use Rattle.windows.proofs.EightSums.{Summed, none-of-eight, each-added, eight-sums}
 use Rattle.windows.proofs.sums_of_sixteen.Statement.{statement}
 use Rattle.windows.proofs.sums_of_sixteen.Tie as tie
 

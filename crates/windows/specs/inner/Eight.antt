@@ -1,9 +1,9 @@
 -- What the functions that sum windows afresh ask and promise. Assumes nothing.
 use mathlib.Core.Path.{_≡_}
 use Prim.Native.Nat.{ℕ, _+_, _<_, _≤_}
-use lib.Ieee.{binary64, add}
+use lib.Ieee.{Float, binary64, add}
 use Rattle.cells.specs.Line.{Line}
-use Rattle.windows.specs.declared.Lanes.{Lanes}
+use Rattle.windows.specs.declared.Eight.{Eight}
 use Rattle.windows.specs.Window.{over}
 use Rattle.windows.specs.declared.Sixteen.{Sixteen}
 use Rattle.limits.specs.Limits.{Window}
@@ -20,7 +20,7 @@ pub record WindowRoom (n bars cells : ℕ) : Type 0 where
   pub room : bars ≤ cells
 
 -- the cells of a line at the eight bars from i on
-pub record Eight (line : Line) (i : ℕ) (r : Lanes) : Type 0 where
+pub record EightOf (line : Line) (i : ℕ) (r : Eight) : Type 0 where
   pub lane0 : r .lane0 ≡ line i
   pub lane1 : r .lane1 ≡ line (i + 1)
   pub lane2 : r .lane2 ≡ line (i + 2)
@@ -30,38 +30,41 @@ pub record Eight (line : Line) (i : ℕ) (r : Lanes) : Type 0 where
   pub lane6 : r .lane6 ≡ line (i + 6)
   pub lane7 : r .lane7 ≡ line (i + 7)
 
--- each lane divided by the window's length
-abbrev pub eachOver : ℕ → Lanes → Lanes
-eachOver n r = record {
-  lane0 = over n (r .lane0);
-  lane1 = over n (r .lane1);
-  lane2 = over n (r .lane2);
-  lane3 = over
-      n (r .lane3);
-  lane4 = over n (r .lane4);
-  lane5 = over n (r .lane5);
-  lane6 = over n (r .lane6);
-  lane7 = over n
-      (r .lane7);
+-- the same computed of each lane
+abbrev pub eachLane : ((Eight → Float) → Float) → Eight
+eachLane g = record {
+  lane0 = g (λ r. r .lane0);
+  lane1 = g (λ r. r .lane1);
+  lane2 = g (λ r. r .lane2);
+  lane3 = g (λ r. r .lane3);
+  lane4 = g (λ r. r .lane4);
+  lane5 = g (λ r. r .lane5);
+  lane6 = g (λ r. r .lane6);
+  lane7 = g (λ r. r .lane7);
 }
 
--- each lane with one more cell: the eight cells from a on
-abbrev pub eachPlus : Line → ℕ → Lanes → Lanes
-eachPlus f a r = record {
-  lane0 = add binary64 (r .lane0) (f a);
-  lane1 = add binary64 (r .lane1) (f (a + 1));
-  lane2 =
-      add binary64 (r .lane2) (f (a + 2));
-  lane3 = add binary64 (r .lane3) (f (a + 3));
-  lane4 = add binary64 (r .lane4)
-      (f (a + 4));
-  lane5 = add binary64 (r .lane5) (f (a + 5));
-  lane6 = add binary64 (r .lane6) (f (a + 6));
-  lane7 = add
-      binary64 (r .lane7) (f (a + 7));
+-- the cells of a line at the eight bars from a on, as lanes
+abbrev pub eightFrom : Line → ℕ → Eight
+eightFrom f a = record {
+  lane0 = f a;
+  lane1 = f (a + 1);
+  lane2 = f (a + 2);
+  lane3 = f (a + 3);
+  lane4 = f (a + 4);
+  lane5 = f (a + 5);
+  lane6 = f (a + 6);
+  lane7 = f (a + 7);
 }
+
+-- each lane divided by the window's length
+abbrev pub eachOver : ℕ → Eight → Eight
+eachOver n r = eachLane (λ lane. over n (lane r))
+
+-- each lane with one more cell: the eight cells from a on
+abbrev pub eachPlus : Line → ℕ → Eight → Eight
+eachPlus f a r = eachLane (λ lane. add binary64 (lane r) (lane (eightFrom f a)))
 
 -- the cells of a line at the sixteen bars from i on
 pub record SixteenOf (line : Line) (i : ℕ) (r : Sixteen) : Type 0 where
-  pub low : Eight line i (r .low)
-  pub high : Eight line (i + 8) (r .high)
+  pub low : EightOf line i (r .low)
+  pub high : EightOf line (i + 8) (r .high)

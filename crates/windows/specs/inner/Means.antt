@@ -9,7 +9,7 @@ use lib.Ieee.{Float}
 use Rattle.cells.specs.Line.{Line, line}
 use Rattle.limits.specs.Limits.{Window}
 use Rattle.windows.specs.Window.{windowSum, over, runningSum, addDifference}
-use Rattle.windows.specs.inner.Runs.{runs}
+use Rattle.windows.specs.inner.RunningSums.{runningSums}
 
 -- the running sum of the last n bars over n
 abbrev pub runningMean : ℕ → Line → Line
@@ -20,8 +20,8 @@ unfoldable pub onFrom : ℕ → Line → List Float → Line
 onFrom b f old i = cond (leb b i) (f i) (line old i)
 
 -- the running sum of each bar's window over n, which is 0.0 before bar n - 1
-abbrev pub runMeans : ℕ → Line → Line
-runMeans n f i = over n (runs n f i)
+abbrev pub runningMeans : ℕ → Line → Line
+runningMeans n f i = over n (runningSums n f i)
 
 -- `sum` is that of the first n bars, and there is room for all cells
 pub record Summed (s : List Float) (n : ℕ) (sum : Float) (cells : ℕ) : Type 0 where

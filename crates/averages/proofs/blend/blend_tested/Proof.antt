@@ -33,7 +33,7 @@ loop-again c =
     let at-low = at-high .before in
     let inv = at-low .before .before .loop .inv in (
       omega arith,
-      parts-on _ _ (inv .1) (at-low .some-accepted .ensures) (at-high .some-accepted2 .ensures) (omega arith),
+      parts-on _ _ (inv .1) (at-low .range-accepted .ensures) (at-high .range-accepted2 .ensures) (omega arith),
       more-blended 8 _ (inv .2) (c .blend-more .ensures) (omega arith),
     )
 
@@ -43,7 +43,7 @@ returns c =
     let s = now (c .before .before .before .before .args .series) in
     record {
       middle = at-bar (inv .2) (omega arith);
-      accept = all-passing s (parts-end (length s) (inv .1) (c .some-accepted3 .ensures) (omega arith)) refl;
+      accept = all-passing s (parts-end (length s) (inv .1) (c .range-accepted3 .ensures) (omega arith)) refl;
     }
 
 pub blend-tested-spec : {M : Type 1} → statement M
@@ -58,12 +58,12 @@ blend-tested-spec =
     (λ c. search needs)  -- mul-high
     (λ c. search needs)  -- add-high
     loop-holds
-    (λ c. search needs)  -- mul-some-accepted
-    (λ c. search needs)  -- add-some-accepted
-    (λ c κs. search needs)  -- some-accepted-requires
-    (λ c. search needs)  -- mul-some-accepted-2
-    (λ c. search needs)  -- add-some-accepted-2
-    (λ c κs. search needs)  -- some-accepted-requires-2
+    (λ c. search needs)  -- mul-range-accepted
+    (λ c. search needs)  -- add-range-accepted
+    (λ c κs. search needs)  -- range-accepted-requires
+    (λ c. search needs)  -- mul-range-accepted-2
+    (λ c. search needs)  -- add-range-accepted-2
+    (λ c κs. search needs)  -- range-accepted-requires-2
     (λ c. search needs)  -- mul-blend-more
     (λ c. search needs)  -- add-blend-more
     (λ c κs. search needs)  -- blend-more-requires
@@ -72,7 +72,7 @@ blend-tested-spec =
     loop-again
     (λ c. search needs)  -- mul-end
     (λ c. search needs)  -- add-end
-    (λ c. search needs)  -- sub-some-accepted
-    (λ c κs. search needs)  -- some-accepted-requires-3
+    (λ c. search needs)  -- sub-range-accepted
+    (λ c κs. search needs)  -- range-accepted-requires-3
     returns
     )

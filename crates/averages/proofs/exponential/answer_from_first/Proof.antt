@@ -8,13 +8,13 @@ answer-smooth-requires : tie.Need-answer-smooth-requires
 answer-smooth-requires c κs =
     let at-test = c .before .before in
     let start = at-test .before .before .before in
-    (record { inside = start .pre .0; accept = at-test .some-accepted .ensures }, start .pre .1)
+    (record { inside = start .pre .0; accept = at-test .range-accepted .ensures }, start .pre .1)
 
 pub answer-from-first-spec : {M : Type 1} → statement M
 answer-from-first-spec =
     tie.close
     (tie.spec
-    (λ c κs. search needs)  -- some-accepted-requires
+    (λ c κs. search needs)  -- range-accepted-requires
     (λ c. search needs)  -- shared-slice-read-seed
     answer-smooth-requires
     (λ c. search needs)  -- same-length

@@ -5,15 +5,14 @@ use native.Mathlib.Omega.{arith}
 use borrow.Author.Needs.{needs}
 use borrow.Author.Count.{below-more}
 use lib.Ieee.{ne}
-use lib.ListN.{length}
 use Rattle.cells.specs.Line.{line}
 use Rattle.cells.proofs.Search.{NoneBefore, firstBar-found, firstBar-none}
-use Rattle.jurik.specs.inner.Passes.{usableBy, differs}
+use Rattle.jurik.specs.inner.Passes.{validBy, differs}
 use Rattle.jurik.proofs.bar.first_differing.Statement.{statement}
 use Rattle.jurik.proofs.bar.first_differing.Tie as tie
 
 abbrev Inv-loop : tie.InvT-loop
-Inv-loop cells bars not-zero x i₀ i = (i ≤ bars) × NoneBefore (λ j. differs (usableBy not-zero) x (line cells j)) i
+Inv-loop cells bars not-zero x i₀ i = (i ≤ bars) × NoneBefore (λ j. differs (validBy not-zero) x (line cells j)) i
 
 abbrev μ-loop : tie.MeasureT-loop
 μ-loop cells bars not-zero x i₀ i = bars - i
@@ -23,14 +22,14 @@ unfolding ne
 loop-again c =
     let test = c .before .before in
     let at = test .before .before .before in
-    (omega arith, below-more _ _ (at .loop .inv .1) (rw (test .usable .ensures) at (c .if1 .left)))
+    (omega arith, below-more _ _ (at .loop .inv .1) (rw (test .valid .ensures) at (c .if1 .left)))
 
 returns : tie.Need-returns Inv-loop μ-loop
 unfolding ne
 returns c =
     let test = c .before .before in
     let at = test .before .before .before in
-    sym (firstBar-found _ _ _ (at .loop .inv .1) (rw (test .usable .ensures) at (c .if1 .taken)) (omega arith))
+    sym (firstBar-found _ _ _ (at .loop .inv .1) (rw (test .valid .ensures) at (c .if1 .taken)) (omega arith))
 
 returns-2 : tie.Need-returns-2 Inv-loop μ-loop
 returns-2 c =
@@ -46,9 +45,9 @@ first-differing-spec =
     Inv-loop
     μ-loop
     (λ c. (omega arith, λ j l. absurd (omega arith)))  -- loop-holds
-    (λ c. search needs)  -- mul-usable
-    (λ c. search needs)  -- shared-slice-read-usable
-    (λ c κs. search needs)  -- usable-requires
+    (λ c. search needs)  -- mul-valid
+    (λ c. search needs)  -- shared-slice-read-valid
+    (λ c κs. search needs)  -- valid-requires
     (λ c. search needs)  -- mul-if1
     (λ c. search needs)  -- shared-slice-read-if1
     returns

@@ -7,39 +7,39 @@ use Rattle.jurik.proofs.TwoPasses.{differing-inside, tested-averages, t
 use Rattle.jurik.proofs.passes.pass.Statement.{statement}
 use Rattle.jurik.proofs.passes.pass.Tie as tie
 
-average-from-requires : tie.Need-average-from-requires
-average-from-requires c κs =
-    let then = c .before in
-    let test = then .before in
-    let found = test .before .before .first-usable .ensures in
-    let inside = differing-inside _ _ _ found (test .unlike .ensures) (then .if1 .taken) in
-    (inside, omega arith)
-
 returns : tie.Need-returns
 returns c =
     let cells = c .before .before in
     let then = cells .before .before in
-    let test = then .before in
-    let found = test .before .before .first-usable .ensures in
-    let differ = sym (test .unlike .ensures) ∙ then .if1 .taken in
-    writing-same (cells .average-from .ensures) (tested-averages _ _ _ _ _ found differ)
+    let same = sym (then .before .all-same .ensures) ∙ then .if1 .taken in
+    let none = then .before .before .before .before .before .before .pre .1 in
+    writing-same (rw (← none) at (cells .copy-valid .ensures)) (λ i l. tested-copies _ _ _ _ _ same i)
+
+average-from-requires : tie.Need-average-from-requires
+average-from-requires c κs =
+    let else = c .before in
+    let test = else .before in
+    let found = test .before .before .first-valid .ensures in
+    let differ = sym (test .all-same .ensures) ∙ else .if1 .left in
+    (differing-inside _ _ _ found differ, omega arith)
 
 returns-2 : tie.Need-returns-2
 returns-2 c =
     let cells = c .before .before in
     let else = cells .before .before in
-    let alike = sym (else .before .unlike .ensures) ∙ else .if1 .left in
-    let none = else .before .before .before .before .before .before .pre .1 in
-    writing-same (rw (← none) at (cells .copy-usable .ensures)) (λ i l. tested-copies _ _ _ _ _ alike i)
+    let test = else .before in
+    let found = test .before .before .first-valid .ensures in
+    let differ = sym (test .all-same .ensures) ∙ else .if1 .left in
+    writing-same (cells .average-from .ensures) (tested-averages _ _ _ _ _ found differ)
 
 pub pass-spec : {M : Type 1} → statement M
 pass-spec =
     tie.close
     (tie.spec
-    (λ c κs. search needs)  -- first-usable-requires
-    (λ c κs. search needs)  -- unlike-requires
+    (λ c κs. search needs)  -- first-valid-requires
+    (λ c κs. search needs)  -- all-same-requires
+    (λ c κs. search needs)  -- copy-valid-requires
     average-from-requires
-    (λ c κs. search needs)  -- copy-usable-requires
     (λ c. search needs)  -- same-length
     returns
     (λ c. search needs)  -- same-length-2

@@ -10,8 +10,8 @@ pub third-pass-spec : {M : Type 1} → statement M
 third-pass-spec =
     tie.close
     (tie.spec
-    (λ c. search needs)  -- add-third
-    (λ c. count-is-float _ (omega arith))  -- int-to-float-third
+    (λ c. search needs)  -- add-alpha3
+    (λ c. count-is-float _ (omega arith))  -- int-to-float-alpha3
     (λ c κs. unfold ofBits in search needs)  -- pass-requires
     (λ c. search needs)  -- same-length
     (λ c. unfold ofBits in c .before .before .pass .ensures)  -- returns

@@ -8,17 +8,17 @@ use Rattle.oscillator.proofs.bar.slid.Tie as tie
 
 returns : tie.Need-returns
 returns c =
-    let of-g = c .before .before in
-    let of-f = of-g .before .before .before in
-    let start = of-f .before in
+    let of-other = c .before .before in
+    let of-row = of-other .before .before .before in
+    let start = of-row .before in
     let a = start .args in
     let rows = start .pre .0 in
     let last = start .pre .1 in
     record {
-      over = slid-sum (now (a .f)) (a .n) (a .i) (of-f .shared-slice-known .given) (rows .ticks .0) (rows .window)
-          (omega arith) (last .over);
-      under = slid-sum (now (a .g)) (a .n) (a .i) (of-g .shared-slice-known3 .given) (rows .ticks .1) (rows .window)
-          (omega arith) (last .under);
+      over = slid-sum (now (a .pressures)) (a .n) (a .i) (of-row .shared-slice-known .given) (rows .ticks .0)
+          (rows .window) (omega arith) (last .over);
+      under = slid-sum (now (a .ranges)) (a .n) (a .i) (of-other .shared-slice-known3 .given) (rows .ticks .1)
+          (rows .window) (omega arith) (last .under);
     }
 
 pub slid-spec : {M : Type 1} → statement M

@@ -13,30 +13,33 @@ use Rattle.oscillator.proofs.ticks.cells_of_ticks.Statement.{statement}
 use Rattle.oscillator.proofs.ticks.cells_of_ticks.Tie as tie
 
 abbrev Inv-loop : tie.InvT-loop
-Inv-loop f g n m k from out₀ i₀ short₀ medium₀ long₀ out i short medium long =
-    (from ≤ i) × (i < length f) × Writing i (afresh n m k f g) out₀ out × SumsOf n (line f) (line g) i short
-    × SumsOf m (line f) (line g) i medium × SumsOf k (line f) (line g) i long
+Inv-loop pressures ranges short medium long from out₀ i₀ sums₀ sums₁ sums₂ out i short-sums medium-sums long-sums =
+    let f = line pressures in
+    let g = line ranges in
+    (from ≤ i) × (i < length pressures) × Writing i (afresh short medium long pressures ranges) out₀ out
+    × SumsOf short f g i short-sums × SumsOf medium f g i medium-sums × SumsOf long f g i long-sums
 
 abbrev μ-loop : tie.MeasureT-loop
-μ-loop f g n m k from out₀ i₀ short₀ medium₀ long₀ out i short medium long = length f - i
+μ-loop pressures ranges short medium long from out₀ i₀ sums₀ sums₁ sums₂ out i short-sums medium-sums long-sums =
+    length pressures - i
 
 slid-requires : tie.Need-slid-requires Inv-loop μ-loop
 slid-requires c κs =
     let at = c .before .before in
     let pre = at .before .before .before .before .before .before .before .pre in
-    may-slide (pre .0 .0 .windows .short) (pre .0 .0 .windows .same) (pre .1) (at .loop .inv .3) (omega arith)
+    may-slide (pre .0 .0 .windows .short-window) (pre .0 .0 .windows .same) (pre .1) (at .loop .inv .3) (omega arith)
 
 slid-requires-2 : tie.Need-slid-requires-2 Inv-loop μ-loop
 slid-requires-2 c κs =
     let at = c .before .before .before in
     let pre = at .before .before .before .before .before .before .before .pre in
-    may-slide (pre .0 .0 .windows .medium) (pre .0 .0 .windows .same) (pre .1) (at .loop .inv .4) (omega arith)
+    may-slide (pre .0 .0 .windows .medium-window) (pre .0 .0 .windows .same) (pre .1) (at .loop .inv .4) (omega arith)
 
 slid-requires-3 : tie.Need-slid-requires-3 Inv-loop μ-loop
 slid-requires-3 c κs =
     let at = c .before .before .before .before in
     let pre = at .before .before .before .before .before .before .before .pre in
-    may-slide (pre .0 .0 .windows .long) (pre .0 .0 .windows .same) (pre .1) (at .loop .inv .5) (omega arith)
+    may-slide (pre .0 .0 .windows .long-window) (pre .0 .0 .windows .same) (pre .1) (at .loop .inv .5) (omega arith)
 
 loop-again : tie.Need-loop-again Inv-loop μ-loop
 loop-again c =

@@ -9,17 +9,17 @@ returns : tie.Need-returns
 returns c =
     let at-all = c .before in
     let known = at-all .before .before .before .before in
-    quick-passing (at-all .bits-together2 .ensures) (known .shared-slice-known .given) (omega arith)
+    quick-passing (at-all .or-of-bits2 .ensures) (known .shared-slice-known .given) (omega arith)
 
 pub accepted-from-spec : {M : Type 1} → statement M
 accepted-from-spec =
     tie.close
     (tie.spec
     (λ c κs. search needs)  -- smaller-requires
-    (λ c κs. search needs)  -- bits-together-requires
-    (λ c κs. search needs)  -- bits-together-requires-2
+    (λ c κs. search needs)  -- or-of-bits-requires
+    (λ c κs. search needs)  -- or-of-bits-requires-2
     returns
-    (λ c. search needs)  -- sub-some-accepted
-    (λ c κs. search needs)  -- some-accepted-requires
+    (λ c. search needs)  -- sub-range-accepted
+    (λ c κs. search needs)  -- range-accepted-requires
     (λ c. search needs)  -- returns-2
     )

@@ -38,7 +38,7 @@ all-ticks-spec =
     (λ c. search needs)  -- shared-slice-read-is-tick
     (λ c κs. search needs)  -- is-tick-requires
     (λ c κs. search needs)  -- smaller-requires
-    (λ c κs. search needs)  -- bits-together-requires
+    (λ c κs. search needs)  -- or-of-bits-requires
     (λ c κs. search needs)  -- each-tick-requires
     (λ c. search needs)  -- returns-2
     (λ c κs. search needs)  -- gather-requires
