@@ -105,8 +105,8 @@ pub fn square_root(x: f64) -> f64
     root_by(x, guess(scaled(x)))
 }
 
-// Writes guesses at the roots of the first `count` numbers, for `root_by`. Whatever they are, the roots are right: so what
-// they are is not said, and no other crate calls this.
+// Writes guesses at the roots of the first `count` numbers, for `root_by`. Whatever they are, the roots are right: so
+// what they are is not said, and no other crate calls this.
 fn write_guesses(xs: &[f64], count: usize, guesses: &mut [f64])
     requires { ⌜ (count ≤ length (now xs)) × (count ≤ length (now guesses)) ⌝ }
     ensures { λ _. ⌜ Touched count (now (guesses .entry)) (now (guesses .exit)) ⌝ }
