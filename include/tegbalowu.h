@@ -33,8 +33,11 @@
  *
  * What the caller must see to, since nothing checks it: a pointer is not null, also where the
  * length after it is 0; it is aligned for its type and points to as many cells as that length says;
- * an output or a work slice overlaps nothing else that is lent. Nothing is kept after the call, so
- * calls that write to different memory may run at the same time.
+ * an output or a work slice overlaps nothing else that is lent; no other thread writes to what is
+ * lent while the call runs; and the floating-point environment is the one with which a C program
+ * starts: rounding to nearest, subnormal numbers not flushed to zero, exceptions masked (linking
+ * with -ffast-math changes that). Nothing is kept after the call, so calls that write to different
+ * memory may run at the same time.
  *
  * Compile and link with what `pkg-config --cflags --libs tegbalowu` prints.
  */

@@ -38,7 +38,8 @@ fn generate(random: &mut Random) -> Request {
     let (n, m) = (window(random), window(random));
     let bars = if random.to(9) == 0 { random.to(512) } else { random.to(40) };
     let (start, slope) = (random.about(100), random.about(3));
-    let (desk, kind) = (random.to(9999), random.to(8));
+    let desk = if random.to(11) == 0 { [0, 17, 9999][random.to(2)] } else { 1 + random.to(15) };
+    let kind = random.to(8);
     let prices = (0..bars as i64).map(|bar| match kind {
         0 => start,
         1 => start + slope * bar,

@@ -10,6 +10,9 @@
 //! Positions are +1 long, -1 short, 0 flat. A sign is +1 for +0.0 and above, so a tie is +1. No cell depends on a
 //! later bar, unless a function says so.
 //!
+//! The cells are those of the floating-point environment with which a Rust program starts: rounding to nearest,
+//! subnormal numbers not flushed to zero, exceptions masked.
+//!
 //! ```
 //! use tegbalowu::{Refusal, double_sma_positions, single_sma_positions, sma, work_for};
 //!
@@ -54,46 +57,66 @@ impl Answer {
     }
 }
 
-/// Declares the C functions and makes the safe ones. An entry has the C name and the Rust name, then the series, the
-/// parameters, the outputs with the type of their cells, and the work slice where there is one.
+/// What a C function gives: an answer, where an entry names nothing else.
+macro_rules! c_result {
+    () => { Answer };
+    ($result:ty) => { $result };
+}
+
+/// What the safe function gives.
+macro_rules! safe_result {
+    () => { Result<usize, Refusal> };
+    ($result:ty) => { $result };
+}
+
+/// What the safe function makes of it.
+macro_rules! result_of {
+    ($given:ident) => { $given.result() };
+    ($given:ident $result:ty) => { $given };
+}
+
+/// Declares the C functions and makes the safe ones. An entry has the C name, and then the safe function as Rust writes
+/// it: its name, and the arguments in the C function's order. `&[T]` is a slice that is read and `&mut [T]` one that is
+/// written, each a pointer and a length in C; every other argument is a number. The result is a call's answer, or the
+/// number or struct of C's layout that the entry names.
 macro_rules! functions {
     ($($(#[$words:meta])* $symbol:ident $name:ident(
-        $($series:ident),+; $($parameter:ident: $of:ty),*; $($output:ident: $cell:ty),+ $(; $work:ident)?
-    );)*) => {
+        $($argument:ident: $(&[$read:ty])? $(&mut [$written:ty])? $($number:ident)?),* $(,)?
+    ) $(-> $result:ty)?;)*) => {
         unsafe extern "C" {
-            $(fn $symbol(
-                $($series: *const f64, _: usize,)+
-                $($parameter: $of,)*
-                $($output: *mut $cell, _: usize,)+
-                $($work: *mut f64, _: usize,)?
-            ) -> Answer;)*
+            $(fn $symbol($(
+                $($argument: *const $read, _: usize,)?
+                $($argument: *mut $written, _: usize,)?
+                $($argument: $number,)?
+            )*) -> c_result!($($result)?);)*
         }
 
         $($(#[$words])*
         #[inline]
-        pub fn $name(
-            $($series: &[f64],)+
-            $($parameter: $of,)*
-            $($output: &mut [$cell],)+
-            $($work: &mut [f64],)?
-        ) -> Result<usize, Refusal> {
+        pub fn $name($(
+            $($argument: &[$read],)?
+            $($argument: &mut [$written],)?
+            $($argument: $number,)?
+        )*) -> safe_result!($($result)?) {
             // The library assumes of its caller that a pointer is not null, also where the length after it is 0, that
             // it is aligned and points to as many cells as that length says, and that an output or a work slice
             // overlaps nothing else that is lent. The pointer and the length of a slice are so by the language, and a
             // `&mut` slice lent by safe code overlaps no other slice. Any numbers are allowed, every bit pattern is a
             // cell of its type, nothing is kept after the call, and a proved function does not unwind.
-            let answer = unsafe {
-                $symbol(
-                    $($series.as_ptr(), $series.len(),)+
-                    $($parameter,)*
-                    $($output.as_mut_ptr(), $output.len(),)+
-                    $($work.as_mut_ptr(), $work.len(),)?
-                )
+            let given = unsafe {
+                $symbol($(
+                    $(<[$read]>::as_ptr($argument), $argument.len(),)?
+                    $(<[$written]>::as_mut_ptr($argument), $argument.len(),)?
+                    $($argument as $number,)?
+                )*)
             };
-            answer.result()
+            result_of!(given $($result)?)
         })*
     };
 }
+
+#[cfg(test)]
+mod forms;
 
 functions! {
     /// The mean of the last `n` values, from bar n-1 on; NaN before. Refusals 1, 3, 5, 7.
@@ -104,7 +127,7 @@ functions! {
     /// assert!(out[0].is_nan());
     /// assert_eq!(out[1..], [1.5, 3.0]);
     /// ```
-    tegbalowu_sma sma(series; n: usize; out: f64);
+    tegbalowu_sma sma(series: &[f64], n: usize, out: &mut [f64]);
 
     /// The exponential average: k times the value plus 1 - k times the cell before, where k is 2 / (period + 1). It
     /// starts at bar period-1 with the mean of the values so far; NaN before. Refusals 1, 3, 5, 7.
@@ -114,11 +137,11 @@ functions! {
     /// assert_eq!(tegbalowu::ema(&[2.0, 4.0, 6.0, 10.0], 3, &mut out), Ok(4));
     /// assert_eq!(out[2..], [4.0, 7.0]);
     /// ```
-    tegbalowu_ema ema(series; period: usize; out: f64);
+    tegbalowu_ema ema(series: &[f64], period: usize, out: &mut [f64]);
 
     /// `alpha` times the value plus 1 - alpha times the cell before, from bar 1 on; bar 0 is the value.
     /// Refusals 1, 3, 5, 6.
-    tegbalowu_exponential_smoothing exponential_smoothing(series; alpha: f64; out: f64);
+    tegbalowu_exponential_smoothing exponential_smoothing(series: &[f64], alpha: f64, out: &mut [f64]);
 
     /// The mean of the last `n` whole ticks, rounded to a whole tick, half away from zero, from bar n-1 on; 0 before.
     /// Refusals 1, 3, 5, 7.
@@ -128,15 +151,15 @@ functions! {
     /// assert_eq!(tegbalowu::tick_mean(&[2.0, 3.0], 2, &mut out), Ok(2));
     /// assert_eq!(out, [0, 3]);
     /// ```
-    tegbalowu_tick_mean tick_mean(series; n: usize; out: i64);
+    tegbalowu_tick_mean tick_mean(series: &[f64], n: usize, out: &mut [i64]);
 
     /// Ehlers' ultimate smoother, from bar 4 on; bars 0 to 3 copy the input. With period 0 every cell from bar 4 on is
     /// NaN. Refusals 1, 3, 5, 6, 7.
-    tegbalowu_ultimate_smoother ultimate_smoother(price; period: f64; out: f64);
+    tegbalowu_ultimate_smoother ultimate_smoother(price: &[f64], period: f64, out: &mut [f64]);
 
     /// Wilder's true range, from bar 1 on; bar 0 is high less low. `close_prev[i]` is the close before bar i, and
     /// `close_prev[0]` is not used, though it is checked. Refusals 1, 2, 3, 5.
-    tegbalowu_true_range true_range(high, low, close_prev; ; out: f64);
+    tegbalowu_true_range true_range(high: &[f64], low: &[f64], close_prev: &[f64], out: &mut [f64]);
 
     /// Additive Holt-Winters smoothing: level plus trend plus seasonal part of each bar, from bar season_length on; the
     /// cells before copy the series. The level starts as the mean of the first `season_length` values and the trend as
@@ -150,30 +173,31 @@ functions! {
     /// assert_eq!(out, [4.0, 5.0]);
     /// ```
     tegbalowu_holt_winters holt_winters(
-        series; season_length: usize, alpha: f64, beta: f64, gamma: f64; out: f64; work
+        series: &[f64], season_length: usize, alpha: f64, beta: f64, gamma: f64, out: &mut [f64], work: &mut [f64]
     );
 
     /// Wilder's relative strength index, from bar n on; NaN before. 100 where the average loss is 0.
     /// Refusals 1, 3, 4, 5, 7.
-    tegbalowu_wilder_rsi wilder_rsi(series; n: usize; out: f64; work);
+    tegbalowu_wilder_rsi wilder_rsi(series: &[f64], n: usize, out: &mut [f64], work: &mut [f64]);
 
     /// The relative strength index of exponential averages with factor 1 / period, smoothed with `smooth_period`: NaN
     /// at bar 0, and the first four cells copy the index. Refusals 1, 3, 4, 5, 7.
-    tegbalowu_rsx_ss2 rsx_ss2(close; period: usize, smooth_period: usize; out: f64; work);
+    tegbalowu_rsx_ss2 rsx_ss2(close: &[f64], period: usize, smooth_period: usize, out: &mut [f64], work: &mut [f64]);
 
     /// A volatility: the sizes of the changes averaged exponentially twice with factor 2 / (period / 2 + 1), a step
     /// beyond each average by half its last change, times `power`, and that averaged with factor 2 / (period / 3 + 1)
     /// from the first value that is not 0 on; 0 at bars 0 and 1. Both divisions of the period are of whole numbers. An
     /// average is left out where all the values that it takes are equal, to the end of the series: a cell may depend on
     /// later bars. With a large power cells may be infinite or NaN. Refusals 1, 3, 4, 5, 6, 7.
-    tegbalowu_jurik_volty jurik_volty(close; period: usize, power: f64; out: f64; work);
+    tegbalowu_jurik_volty jurik_volty(close: &[f64], period: usize, power: f64, out: &mut [f64], work: &mut [f64]);
 
     /// Ehlers' ultimate channel. `middle` is the ultimate smoother of the close; `upper` and `lower` are `multiplier`
     /// widths above and below it, a width being Wilder's average of true range from bar period-1 on, smoothed with
     /// period / 2. From period 5 on the outer lines are NaN at every bar. Refusals 1 to 8: 8 where the period is above
     /// the series' length + 1.
     tegbalowu_ultimate_channel ultimate_channel(
-        high, low, close; period: usize, multiplier: f64; middle: f64, upper: f64, lower: f64; work
+        high: &[f64], low: &[f64], close: &[f64], period: usize, multiplier: f64, middle: &mut [f64], upper: &mut [f64],
+        lower: &mut [f64], work: &mut [f64]
     );
 
     /// Bands about the ultimate smoother. `middle` is the smoother of the close with `period`; `upper` and `lower` are
@@ -181,14 +205,16 @@ functions! {
     /// smoothed with `smooth_period`. From period 5 on the outer lines are NaN at every bar. The count is 0 also where
     /// the series is shorter than the period. Refusals 1, 3, 4, 5, 6, 7.
     tegbalowu_ultimate_bands ultimate_bands(
-        close; period: usize, std_multiplier: f64, smooth_period: usize; middle: f64, upper: f64, lower: f64; work
+        close: &[f64], period: usize, std_multiplier: f64, smooth_period: usize, middle: &mut [f64], upper: &mut [f64],
+        lower: &mut [f64], work: &mut [f64]
     );
 
     /// Williams' ultimate oscillator: 100 (4a + 2b + c) / 7, where a, b and c are the sums of buying pressure over those
     /// of true range in the last `short_period`, `med_period` and `long_period` bars, and 0 where the range's sum is 0.
     /// NaN until the longest window is whole. Refusals 1, 2, 3, 4, 5, 7.
     tegbalowu_ultimate_oscillator ultimate_oscillator(
-        high, low, close; short_period: usize, med_period: usize, long_period: usize; out: f64; work
+        high: &[f64], low: &[f64], close: &[f64], short_period: usize, med_period: usize, long_period: usize,
+        out: &mut [f64], work: &mut [f64]
     );
 
     /// One average: the sign of the price less the doubly averaged price, from bar 2n-2 on; 0 before, and where that
@@ -200,30 +226,32 @@ functions! {
     /// assert_eq!(tegbalowu::single_sma_positions(&[1.0, 3.0, 5.0], 2, &mut out, &mut work), Ok(3));
     /// assert_eq!(out, [0.0, 0.0, 1.0]);
     /// ```
-    tegbalowu_single_sma_positions single_sma_positions(series; n: usize; out: f64; work);
+    tegbalowu_single_sma_positions single_sma_positions(series: &[f64], n: usize, out: &mut [f64], work: &mut [f64]);
 
     /// Double: the sign of the average of the last `n` values less that of the last `m`, from bar m-1 on; 0 before.
     /// Refusals 1, 3, 5, 7, 9: 9 where n is not below m.
-    tegbalowu_double_sma_positions double_sma_positions(series; n: usize, m: usize; out: f64);
+    tegbalowu_double_sma_positions double_sma_positions(series: &[f64], n: usize, m: usize, out: &mut [f64]);
 
     /// Middle: the sign of the mean of the last `n` values less half of the highest plus the lowest of the last n such
     /// means, from bar 2n-2 on; 0 before, and where either is 0. Refusals 1, 3, 4, 5, 7.
-    tegbalowu_mid_positions mid_positions(series; n: usize; out: f64; work);
+    tegbalowu_mid_positions mid_positions(series: &[f64], n: usize, out: &mut [f64], work: &mut [f64]);
 
     /// Exponential: the sign of the price less the exponential average, with factor 2 / (n + 1), of the means of the
     /// last `n` values. It starts n-1 bars after the first mean that is not 0, or at bar n-1 where every mean is 0; 0
     /// before. So while every mean is 0 a cell depends on later bars. Refusals 1, 3, 4, 5, 7.
-    tegbalowu_single_ema_positions single_ema_positions(series; n: usize; out: f64; work);
+    tegbalowu_single_ema_positions single_ema_positions(series: &[f64], n: usize, out: &mut [f64], work: &mut [f64]);
 
     /// Triple: +1 where the mean of `m1` values is above its own mean over `m3` and its mean over m1 above that over
     /// `m2`, -1 where both are below, else 0; from bar m1+m3-2 on. Refusals 1, 3, 4, 5, 7, 8, 9: 8 where m3 is above
     /// the series' length, 9 unless m1 < m2 < m3.
-    tegbalowu_triple_sma_positions triple_sma_positions(series; m1: usize, m2: usize, m3: usize; out: i32; work);
+    tegbalowu_triple_sma_positions triple_sma_positions(
+        series: &[f64], m1: usize, m2: usize, m3: usize, out: &mut [i32], work: &mut [f64]
+    );
 
     /// Bollinger's bands of the means of `n` values, from bar 2n-2 on: +1 where the mean is above the middle plus `k`
     /// deviations, -1 where it is below the middle less k deviations, each by more than 1e-10. The deviation is over
     /// n-1; n of 1 gives 0. Refusals 1, 3, 4, 5, 6, 7.
-    tegbalowu_boll_positions boll_positions(series; n: usize, k: f64; out: i32; work);
+    tegbalowu_boll_positions boll_positions(series: &[f64], n: usize, k: f64, out: &mut [i32], work: &mut [f64]);
 
     /// Against those bands, with the deviation over n and no margin: above the upper band a flat position opens short,
     /// below the lower one it opens long; a long one closes above the middle, and a short one below it.
@@ -235,14 +263,16 @@ functions! {
     /// assert_eq!(tegbalowu::boll_reverse_positions(&[4.0, 4.0, 8.0], 2, 0.5, &mut out, &mut work), Ok(3));
     /// assert_eq!(out, [0, 0, -1]);
     /// ```
-    tegbalowu_boll_reverse_positions boll_reverse_positions(series; n: usize, k: f64; out: i32; work);
+    tegbalowu_boll_reverse_positions boll_reverse_positions(
+        series: &[f64], n: usize, k: f64, out: &mut [i32], work: &mut [f64]
+    );
 
     /// Against the relative strength index of the means of `n` values: below `rsi_lower` a flat position opens long,
     /// else above `rsi_upper` it opens short; a long one closes above `rsi_exit`, and a short one below it. The index is
     /// made of up to n changes of the means, the present one left out, from bar 2n-1 on, and for n of 1 from bar 0; it
     /// is 100 where none of them is a loss. 0 before. Refusals 1, 3, 4, 5, 6, 7.
     tegbalowu_rsi_reverse_positions rsi_reverse_positions(
-        series; n: usize, rsi_upper: f64, rsi_lower: f64, rsi_exit: f64; out: i32; work
+        series: &[f64], n: usize, rsi_upper: f64, rsi_lower: f64, rsi_exit: f64, out: &mut [i32], work: &mut [f64]
     );
 
     /// Min-max scaling: where the mean of `timeperiod` values stands between the lowest and the highest of the last
@@ -255,7 +285,9 @@ functions! {
     /// assert_eq!(tegbalowu::mms_positions(&[1.0, 3.0, 2.0], 1, 2, &mut out, &mut work), Ok(3));
     /// assert_eq!(out, [0.0, 1.0, -1.0]);
     /// ```
-    tegbalowu_mms_positions mms_positions(series; timeperiod: usize, window: usize; out: f64; work);
+    tegbalowu_mms_positions mms_positions(
+        series: &[f64], timeperiod: usize, window: usize, out: &mut [f64], work: &mut [f64]
+    );
 
     /// Rank: the share of the n-1 means before the present one that lie below it, moved from 0..1 to -1..1 and rounded
     /// to hundredths, half away from zero, so that -0.0 is possible; from bar 2n-2 on, 0 before. n = 1 gives NaN at
@@ -267,7 +299,7 @@ functions! {
     /// assert_eq!(tegbalowu::rank_positions(&[1.0, 2.0, 3.0], 2, &mut out, &mut work), Ok(3));
     /// assert_eq!(out, [0.0, 0.0, 1.0]);
     /// ```
-    tegbalowu_rank_positions rank_positions(series; n: usize; out: f64; work);
+    tegbalowu_rank_positions rank_positions(series: &[f64], n: usize, out: &mut [f64], work: &mut [f64]);
 
     /// Rolling rank: the place, from 1, in the sorted window of the first value less than 1e-8 away from the present
     /// one, from bar window-1 on; 0 before. A window of 0 gives 0 at every bar. Refusals 1, 3, 4, 5, 7.
@@ -278,5 +310,5 @@ functions! {
     /// assert_eq!(tegbalowu::rolling_rank(&[3.0, 1.0, 2.0], 2, &mut out, &mut work), Ok(3));
     /// assert_eq!(out, [0, 1, 2]);
     /// ```
-    tegbalowu_rolling_rank rolling_rank(series; window: usize; out: u64; work);
+    tegbalowu_rolling_rank rolling_rank(series: &[f64], window: usize, out: &mut [u64], work: &mut [f64]);
 }

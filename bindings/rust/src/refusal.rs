@@ -6,36 +6,53 @@ use std::fmt::{Display, Formatter};
 /// Makes the enum of the refusals with their numbers; the words of each are its documentation and what it displays.
 macro_rules! refusals {
     ($($name:ident = $number:literal: $words:literal,)*) => {
-        /// Why a call is refused; the first that applies is given. The numbers are those of the C library.
+        /// Why a call is refused; the first that applies is given. The numbers are those of the C library, of which a
+        /// later version may have more.
         ///
         /// Accepted are finite values of magnitude at most 1,073,741,824, other than -0.0. A whole tick is an accepted
         /// value without a fraction, of magnitude at most 16,777,216.
         #[derive(Clone, Copy, Debug, PartialEq, Eq, Hash)]
+        #[non_exhaustive]
         pub enum Refusal {
-            $(#[doc = $words] $name = $number,)*
+            $(#[doc = $words] $name,)*
+            /// a number that has no name here: the library that is linked is a later one
+            Unknown(u64),
         }
 
+        #[deny(unreachable_patterns)]
         impl Refusal {
-            /// The number, from 1 to 9.
+            /// The number of the C library.
             pub fn number(self) -> u64 {
-                self as u64
+                match self {
+                    $(Refusal::$name => $number,)*
+                    Refusal::Unknown(number) => number,
+                }
             }
 
-            /// The refusal of this number, none for 0. The library gives no number above 9.
-            pub(crate) fn numbered(number: u64) -> Option<Refusal> {
+            /// The refusal of a number of the C library; none for 0, which is a call that is answered.
+            ///
+            /// ```
+            /// use tegbalowu::Refusal;
+            ///
+            /// assert_eq!(Refusal::numbered(0), None);
+            /// assert_eq!(Refusal::numbered(7), Some(Refusal::WindowTooLong));
+            /// assert_eq!(Refusal::numbered(4_711), Some(Refusal::Unknown(4_711)));
+            /// ```
+            pub fn numbered(number: u64) -> Option<Refusal> {
                 match number {
                     0 => None,
                     $($number => Some(Refusal::$name),)*
-                    _ => unreachable!("refusal {number}"),
+                    _ => Some(Refusal::Unknown(number)),
                 }
             }
         }
 
         impl Display for Refusal {
             fn fmt(&self, f: &mut Formatter<'_>) -> std::fmt::Result {
-                f.write_str(match self {
-                    $(Refusal::$name => $words,)*
-                })
+                match self {
+                    $(Refusal::$name => f.write_str($words),)*
+                    Refusal::Unknown(number) => write!(f, "refusal {number} of a later library"),
+                }
             }
         }
     };

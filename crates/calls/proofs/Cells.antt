@@ -8,7 +8,7 @@ use native.Mathlib.Omega.{arith}
 use lib.ListN.{length, getD}
 use lib.Ieee.{Float}
 use Rattle.limits.specs.Limits.{longestSeries}
-use Rattle.values.specs.Accepted.{all}
+use Rattle.values.specs.Accepted.{accepted, all}
 use Rattle.cells.specs.Line.{Same, Causal}
 use Rattle.cells.proofs.Line.{causal-same}
 use Rattle.cells.proofs.Written.{getD-written}
@@ -29,6 +29,14 @@ pub room-after : (ok : Float → Bool) (s : List Float) (out : ℕ) (work : List
     → andThen (checked ok (s ∷ []) (out ∷ []) work) next ≡ Cells k → Room ok s out work
 room-after ok s out work next k e = checked-room ok s out work _
     (andThen-cells (checked ok (s ∷ []) (out ∷ []) work) next k e .0)
+
+-- a cell of an accepted series below the count is the line's, whatever follows the checks
+pub due-cell : {A : Type 0} (d : A) (s : List Float) (work : ℕ) (next : Answer) {f : ℕ → A} {out₀ out₁ : List A}
+    → Call (andThen (checked accepted (s ∷ []) (length out₀ ∷ []) (work ∷ [])) next) f out₀ (Cells (length s)) out₁
+    → (i : ℕ) → i < length s
+    → getD out₁ i d ≡ f i
+due-cell d s work next {out₀ = out₀} c =
+    cell-at d c (room-after accepted s (length out₀) (work ∷ []) next (length s) (sym (c .answer)) .out-long)
 
 -- a bar below the count, in a call of one series and windows
 pub record Bar {A : Type 0} (d : A) (ok : Float → Bool) (s : List Float) (windows : List ℕ) (out₁ : List A)

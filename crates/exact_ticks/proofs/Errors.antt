@@ -42,21 +42,21 @@ products a b n m p q r s =
 
 -- ---- the mean of the means of whole ticks
 
--- n means and what their sum is off by stay below 2 ^ 34, and the sum over n below 2 ^ 25; p is 2 ^ 53
-sum-room : (n p : ℕ) → 0 < n → n ≤ 1023 → 2 ^ 20 ≤ p
-    → n * (n * 2 ^ 24 * p * 2 + n * 2 ^ 25 + 2 ^ 34 * n) < 2 ^ 34 * n * p * 2
-sum-room n p N L P =
-    let a : n * n ≤ 1023 * n = mul-le-mul-right n L in
-    let b : n * n * p ≤ 1023 * n * p = mul-le-mul-right p a in
+-- k means of n ticks each and what their sum is off by stay below 2 ^ 34, and the sum over k below 2 ^ 25; p is 2 ^ 53
+sum-room : (n k p : ℕ) → 0 < n → k ≤ 1023 → 2 ^ 20 ≤ p
+    → k * (n * 2 ^ 24 * p * 2 + n * 2 ^ 25 + 2 ^ 34 * n) < 2 ^ 34 * n * p * 2
+sum-room n k p N L P =
+    let a : k * n ≤ 1023 * n = mul-le-mul-right n L in
+    let b : k * n * p ≤ 1023 * n * p = mul-le-mul-right p a in
     let c : n * 2 ^ 20 ≤ n * p = mul-le-mul-left n P in
     omega arith
 
-mean-room : (n p d : ℕ) → 0 < n → 2 ^ 20 ≤ p → d ≤ n * (n * 2 ^ 24)
-    → d * p * 2 + n * (n * 2 ^ 25 + 2 ^ 34 * n) < 2 ^ 25 * (n * n) * p * 2
-mean-room n p d N P h =
-    let a : d * p ≤ n * (n * 2 ^ 24) * p = mul-le-mul-right p h in
-    let b : n * n * 2 ^ 20 ≤ n * n * p = mul-le-mul-left (n * n) P in
-    let c : 0 < n * n = mul-pos N N in
+mean-room : (n k p d : ℕ) → 0 < n → 0 < k → 2 ^ 20 ≤ p → d ≤ k * (n * 2 ^ 24)
+    → d * p * 2 + k * (n * 2 ^ 25 + 2 ^ 34 * n) < 2 ^ 25 * (n * k) * p * 2
+mean-room n k p d N K P h =
+    let a : d * p ≤ k * (n * 2 ^ 24) * p = mul-le-mul-right p h in
+    let b : n * k * 2 ^ 20 ≤ n * k * p = mul-le-mul-left (n * k) P in
+    let c : 0 < n * k = mul-pos N K in
     omega arith
 
 module _ {l : ℕ} {f : Line} {t : ℕ → ℤ} (w : TickLine l f t) (n : ℕ) (N : 0 < n) (M : n ≤ 2 ^ 12) where
@@ -69,22 +69,23 @@ module _ {l : ℕ} {f : Line} {t : ℕ → ℤ} (w : TickLine l f t) (n : ℕ) (
       (about-weaken (n * 2 ^ 25) (about-quotient (window-whole w n N M (i + 1 - n) (omega arith)))
       (omega (arith, window-total-size i b h)))
 
-  means-standing : (i : ℕ) → 2 * n ≤ i + 2 → i < l
-      → Standing (mean n f) (windowTotal n t) (i + 1 - n) n n (n * 2 ^ 25) (n * 2 ^ 24)
-  means-standing i b h = record {
-    about = λ j m. mean-about (i + 1 - n + j) (omega arith) (omega arith);
-    size = λ j m. window-total-size (i + 1 - n + j) (omega arith) (omega arith);
-  }
+  module _ (k : ℕ) (K : 0 < k) where
+    means-standing : (i : ℕ) → n + k ≤ i + 2 → i < l
+        → Standing (mean n f) (windowTotal n t) (i + 1 - k) k n (n * 2 ^ 25) (n * 2 ^ 24)
+    means-standing i b h = record {
+      about = λ j m. mean-about (i + 1 - k + j) (omega arith) (omega arith);
+      size = λ j m. window-total-size (i + 1 - k + j) (omega arith) (omega arith);
+    }
 
-  -- it stands for the sum of the last n window sums over n · n
-  pub mean-of-means-about : n ≤ 1023 → (i : ℕ) → 2 * n ≤ i + 2 → i < l
-      → About binary64 (mean n (mean n f) i) (windowTotal n (windowTotal n t) i) (n * n) (n * n * (2 ^ 34 + 2 ^ 26))
-  unfolding mean windowSum
-  mean-of-means-about L i b h =
-      let s = means-standing i b h in
-      let d = total-size (windowTotal n t) (i + 1 - n) n (n * 2 ^ 24) (s .size) in
-      rw (from-bar (n - 1) plusZero _ i (omega arith))
-      (about-weaken (n * n * (2 ^ 34 + 2 ^ 26))
-      (about-div 25 n (sum-about 34 n s (lit≤ tt) (sum-room n (2 ^ 53) N L (lit≤ tt))) N (omega arith) (lit≤ tt)
-      (mean-room n (2 ^ 53) _ N (lit≤ tt) d))
-      (omega arith))
+    -- the mean of k means stands for the sum of the last k window sums over n · k
+    pub mean-of-means-about : k ≤ 1023 → (i : ℕ) → n + k ≤ i + 2 → i < l
+        → About binary64 (mean k (mean n f) i) (windowTotal k (windowTotal n t) i) (n * k) (n * k * (2 ^ 34 + 2 ^ 26))
+    unfolding mean windowSum
+    mean-of-means-about L i b h =
+        let s = means-standing i b h in
+        let d = total-size (windowTotal n t) (i + 1 - k) k (n * 2 ^ 24) (s .size) in
+        rw (from-bar (k - 1) plusZero _ i (omega arith))
+        (about-weaken (n * k * (2 ^ 34 + 2 ^ 26))
+        (about-div 25 k (sum-about 34 k s (lit≤ tt) (sum-room n k (2 ^ 53) N L (lit≤ tt))) K (omega arith) (lit≤ tt)
+        (mean-room n k (2 ^ 53) _ N K (lit≤ tt) d))
+        (omega arith))

@@ -1,25 +1,40 @@
--- What is stated of a call holds of a C call: with refusal 0 its contract holds of the answer `Cells count`, whatever
--- the function (`accepted-call` of capi), so that each statement of this crate speaks to a C caller. Shown here for
--- one function of each shape. Assumes nothing.
+-- What is stated of a call holds of a C call. With refusal 0 its contract holds of the answer `Cells count`, whatever
+-- the function, so that each statement of this crate speaks to a C caller: `from-C` for those about `Cells k`,
+-- `from-C-of` for those about `Cells (length s)`. Shown here for a function of each shape: one output, a work slice,
+-- whole-number cells, three outputs, three series, and two calls. Assumes nothing.
 use mathlib.Core.Path.{_≡_}
 use mathlib.Core.List.{List}
 use Prim.Native.Nat.{ℕ, _+_, _<_, _≤_}
-use lib.ListN.{getD}
+use lib.IntN.{ℤ}
+use lib.ListN.{length, getD}
 use lib.Ieee.{Float, nan}
+use Rattle.cells.specs.Line.{plusZero}
 use Rattle.calls.specs.declared.Answer.{Answer}
 use Rattle.calls.specs.declared.Answer.the-variants.{Cells}
-use Rattle.averages.specs.Sma.{SmaCall}
-use Rattle.rules_single.specs.Single.{SingleCall}
 use Rattle.calls.specs.declared.numbers.CAnswer.{CAnswer}
 use Rattle.calls.specs.Numbers.{InNumbers}
 use Rattle.calls.proofs.InNumbers.{accepted-call}
+use Rattle.averages.specs.Sma.{SmaCall}
+use Rattle.true_range.specs.TrueRange.{TrueRangeCall}
+use Rattle.bands.specs.Bands.{UltimateBandsCall}
+use Rattle.rules_held.specs.Held.{flat}
+use Rattle.rules_single.specs.Single.{SingleCall}
+use Rattle.rules_triple.specs.Triple.{TripleCall}
 use Rattle.guarantees.specs.Series.{WholeTicks}
 use Rattle.guarantees.specs.OnTicks.{windowSumOf, IsMean, sma-on-ticks}
 use Rattle.guarantees.specs.Positions.{Position, single-writes-positions}
+use Rattle.guarantees.specs.WholeCells.{WholePosition, triple-writes-positions}
+use Rattle.guarantees.specs.NanLines.{bands-outer-lines-nan}
+use Rattle.guarantees.specs.NoLookAhead.{EqualBars, EqualCells, sma-no-look-ahead, true-range-no-look-ahead}
 
--- Any C function: what its call promises with refusal 0.
-pub from-C : {P : Answer → Type 0} {r : CAnswer} → InNumbers P r → r .refusal ≡ 0 → P (Cells (r .count))
-from-C = accepted-call
+module _ {P : Answer → Type 0} {r : CAnswer} (c : InNumbers P r) (e : r .refusal ≡ 0) where
+  -- Any C function: what its call promises with refusal 0.
+  pub from-C : P (Cells (r .count))
+  from-C = accepted-call c e
+
+  -- The same where the count is known, as the number of bars.
+  pub from-C-of : (l : ℕ) → r .count ≡ l → P (Cells l)
+  from-C-of l k = rw k at from-C
 
 -- One output and no work slice: on whole ticks each cell of `tegbalowu_sma` is the mean of the last n prices.
 pub sma-from-C : {s out₀ out₁ : List Float} (n : ℕ) {r : CAnswer} → WholeTicks s
@@ -32,3 +47,36 @@ pub single-from-C : (s : List Float) {out₀ work₀ out₁ work₁ : List Float
     → InNumbers (λ a. SingleCall s n out₀ work₀ a out₁ work₁) r
     → r .refusal ≡ 0 → (i : ℕ) → i < r .count → Position (getD out₁ i nan)
 single-from-C s n c e = single-writes-positions n s (from-C c e)
+
+-- Cells that are whole numbers: each cell of `tegbalowu_triple_sma_positions` is +1, -1 or 0.
+pub triple-from-C : (s : List Float) {out₀ out₁ : List ℤ} {work₀ work₁ : List Float} (m1 m2 m3 : ℕ) {r : CAnswer}
+    → InNumbers (λ a. TripleCall s m1 m2 m3 out₀ work₀ a out₁ work₁) r
+    → r .refusal ≡ 0 → r .count ≡ length s → (i : ℕ) → i < length s → WholePosition (getD out₁ i flat)
+triple-from-C s m1 m2 m3 c e k = triple-writes-positions s m1 m2 m3 (from-C-of c e (length s) k)
+
+-- Three outputs: both outer lines of `tegbalowu_ultimate_bands` are NaN from period 5 on.
+pub bands-from-C : (s : List Float) (n : ℕ) (k : Float) (m : ℕ)
+    {middle₀ upper₀ lower₀ work₀ middle₁ upper₁ lower₁ work₁ : List Float} {r : CAnswer}
+    → InNumbers (λ a. UltimateBandsCall s n k m middle₀ upper₀ lower₀ work₀ a middle₁ upper₁ lower₁ work₁) r
+    → r .refusal ≡ 0 → 5 ≤ n → (i : ℕ) → i < r .count
+    → (getD upper₁ i plusZero ≡ nan) × (getD lower₁ i plusZero ≡ nan)
+bands-from-C s n k m c e = bands-outer-lines-nan s n k m (from-C c e)
+
+-- Two calls: equal bars up to bar b give equal cells of `tegbalowu_sma` up to it.
+pub sma-from-C-no-look-ahead : {s t out₀ out₁ out₀′ out₁′ : List Float} {b : ℕ} (n : ℕ) {r r′ : CAnswer}
+    → EqualBars s t b
+    → InNumbers (λ a. SmaCall s n out₀ a out₁) r → r .refusal ≡ 0 → r .count ≡ length s
+    → InNumbers (λ a. SmaCall t n out₀′ a out₁′) r′ → r′ .refusal ≡ 0 → r′ .count ≡ length t
+    → EqualCells nan out₁ out₁′ b
+sma-from-C-no-look-ahead {s = s} {t} n equal c e k c′ e′ k′ =
+    sma-no-look-ahead equal n (from-C-of c e (length s) k) (from-C-of c′ e′ (length t) k′)
+
+-- Two calls of three series: likewise for `tegbalowu_true_range`.
+pub true-range-from-C-no-look-ahead : {high low before high′ low′ before′ out₀ out₁ out₀′ out₁′ : List Float} {b : ℕ}
+    {r r′ : CAnswer}
+    → EqualBars high high′ b → EqualBars low low′ b → EqualBars before before′ b
+    → InNumbers (λ a. TrueRangeCall high low before out₀ a out₁) r → r .refusal ≡ 0 → r .count ≡ length high
+    → InNumbers (λ a. TrueRangeCall high′ low′ before′ out₀′ a out₁′) r′ → r′ .refusal ≡ 0 → r′ .count ≡ length high′
+    → EqualCells nan out₁ out₁′ b
+true-range-from-C-no-look-ahead {high = high} {high′ = high′} h l p c e k c′ e′ k′ =
+    true-range-no-look-ahead h l p (from-C-of c e (length high) k) (from-C-of c′ e′ (length high′) k′)

@@ -15,7 +15,7 @@ use Rattle.calls.specs.declared.Answer.{Answer}
 use Rattle.calls.specs.declared.Answer.the-variants.{Cells}
 use Rattle.calls.specs.Answer.{andThen, checked, answeredWith}
 use Rattle.calls.specs.Call.{Call}
-use Rattle.calls.proofs.Cells.{cell-at, room-after}
+use Rattle.calls.proofs.Cells.{due-cell}
 use Rattle.values.specs.Accepted.{accepted}
 use Rattle.cells.specs.Line.{Line, line, fromBar}
 use Rattle.windows.specs.Window.{mean}
@@ -47,14 +47,6 @@ triple-position m1 m2 m3 f i =
     (either-position (lt (mean m3 g i) (g i) && lt (mean m2 g i) (mean m1 g i)) at-long
     (either-position (lt (g i) (mean m3 g i) && lt (mean m1 g i) (mean m2 g i)) at-short at-flat))
     at-flat
-
--- a cell below the count is the line's, whatever follows the checks
-due-cell : {A : Type 0} (d : A) (s : List Float) (work : ℕ) (next : Answer) {f : ℕ → A} {out₀ out₁ : List A}
-    → Call (andThen (checked accepted (s ∷ []) (length out₀ ∷ []) (work ∷ [])) next) f out₀ (Cells (length s)) out₁
-    → (i : ℕ) → i < length s
-    → getD out₁ i d ≡ f i
-due-cell d s work next {out₀ = out₀} c =
-    cell-at d c (room-after accepted s (length out₀) (work ∷ []) next (length s) (sym (c .answer)) .out-long)
 
 -- of two neighbouring cells never is one +1 and the other -1
 abbrev pub ClosesFirst : List Float → List ℤ → Type 0

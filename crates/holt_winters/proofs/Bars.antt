@@ -1,53 +1,58 @@
 -- The bars of Holt-Winters smoothing, each from the bar before it and the bar one season before it. Assumes nothing.
-use mathlib.Core.Path.{_≡_, refl, sym, _∙_}
-use mathlib.Core.Logic.{⊎-elim}
+use mathlib.Core.Path.{_≡_, refl, sym}
+use mathlib.Core.Bool.{Bool, true, false, cond}
 use Prim.Native.Nat.{ℕ, zero, suc, _+_, _-_, _<_, _≤_}
-use native.Mathlib.Nat.{eq-or-lt-of-le}
 use native.Mathlib.Omega.{arith}
-use borrow.Author.Tests.{lt-ltb, le-ltb, eq-eqb, ne-eqb}
+use borrow.Author.Tests.{lt-ltb, le-ltb, ltb-false}
+use lib.Dec.{ltb}
 use Rattle.cells.specs.Line.{Line}
-use Rattle.cells.specs.Recur.{recur}
 use Rattle.windows.specs.Window.{mean}
 use Rattle.holt_winters.specs.declared.Fit.{Fit}
 use Rattle.holt_winters.specs.declared.Weights.{Weights}
-use Rattle.holt_winters.specs.HoltWinters.{firstFit, nextFit, withNext, fitsAfter, fitLine}
+use Rattle.holt_winters.specs.HoltWinters.{firstFit, nextFit, fitWithin, fitLine}
 use Rattle.holt_winters.specs.HoltWinters.{total, holtWintersLine}
 
 module _ (m : ℕ) (w : Weights) (f : Line) where
-  -- a bar more leaves the bars before it
-  one-more-fit : (k j : ℕ) → j < m + k → fitsAfter m w f (suc k) j ≡ fitsAfter m w f k j
-  unfolding fitsAfter recur withNext
-  one-more-fit k j h = rw (ne-eqb j (m + k) (λ e. omega arith))
+  -- a bar of the first season, however far the recursion may go
+  within-first : (more i : ℕ) → i < m → fitWithin more m w f i ≡ firstFit (mean m f (m - 1)) (f i)
+  unfolding fitWithin
+  within-first zero i h = refl
+  within-first (suc more) i h = rw (lt-ltb i m h)
 
-  -- so bar j is the same, however many bars come after it
-  pub fits-stay : (k j : ℕ) → j < m + k → fitsAfter m w f k j ≡ fitLine m w f j
-  unfolding fitLine
-  fits-stay zero j h = let none : j + 1 - m ≡ 0 = omega arith in rw (none, fitLine)
-  fits-stay (suc k) j h =
-      let up-to : j ≤ m + k = omega arith in
-      ⊎-elim
-      (λ e. let now : j + 1 - m ≡ suc k = omega arith in rw (now, fitLine))
-      (λ l. one-more-fit k j l ∙ fits-stay k j l)
-      (eq-or-lt-of-le up-to)
+  -- two numbers that are not below i give the same
+  within-same : (a b i : ℕ) → i ≤ a → i ≤ b → 0 < m → fitWithin a m w f i ≡ fitWithin b m w f i
+  unfolding fitWithin
+  within-same zero b i p q some = sym (within-first b i (omega arith))
+  within-same (suc a) zero i p q some = within-first (suc a) i (omega arith)
+  within-same (suc a) (suc b) i p q some =
+      go (ltb i m) refl (λ h. within-same a b (i - 1) (omega arith) (omega arith) some)
+      (λ h. within-same a b (i - m) (omega arith) (omega arith) some)
+    where
+      go : (t : Bool) → ltb i m ≡ t → (m ≤ i → fitWithin a m w f (i - 1) ≡ fitWithin b m w f (i - 1))
+          → (m ≤ i → fitWithin a m w f (i - m) ≡ fitWithin b m w f (i - m))
+          → cond t (firstFit (mean m f (m - 1)) (f i))
+          (nextFit w (fitWithin a m w f (i - 1)) (fitWithin a m w f (i - m) .season) (f i))
+          ≡ cond t (firstFit (mean m f (m - 1)) (f i))
+          (nextFit w (fitWithin b m w f (i - 1)) (fitWithin b m w f (i - m) .season) (f i))
+      go true e last old = refl
+      go false e last old = let h = ltb-false i m e in rw (last h, old h)
 
   -- a bar of the first season
   pub fit-first : (i : ℕ) → i < m → fitLine m w f i ≡ firstFit (mean m f (m - 1)) (f i)
-  unfolding fitLine fitsAfter recur
-  fit-first i h = let none : i + 1 - m ≡ 0 = omega arith in rw none
-
-  -- what a bar more is
-  bar-of : (k i : ℕ) → m + k ≡ i
-      → fitsAfter m w f (suc k) i ≡ nextFit w (fitsAfter m w f k (i - 1)) (fitsAfter m w f k k .season) (f i)
-  unfolding fitsAfter recur withNext
-  bar-of k i e = rw (e, eq-eqb i i refl)
+  unfolding fitLine
+  fit-first i h = within-first i i h
 
   -- a later bar, from the one before it and from one season ago
   pub fit-next : (i : ℕ) → m ≤ i → 0 < m
       → fitLine m w f i ≡ nextFit w (fitLine m w f (i - 1)) (fitLine m w f (i - m) .season) (f i)
-  fit-next i h p =
-      let k = i - m in
-      sym (fits-stay (suc k) i (omega arith)) ∙ bar-of k i (omega arith)
-      ∙ rw (fits-stay k (i - 1) (omega arith), fits-stay k k (omega arith))
+  unfolding fitLine fitWithin
+  fit-next zero h p = absurd (omega arith)
+  fit-next (suc k) h p =
+      rw (
+        le-ltb (suc k) m h,
+        within-same k (suc k - 1) (suc k - 1) (omega arith) (omega arith) p,
+        within-same k (suc k - m) (suc k - m) (omega arith) (omega arith) p,
+      )
 
   -- the cells
   pub cell-first : (i : ℕ) → i < m → f i ≡ holtWintersLine m w f i

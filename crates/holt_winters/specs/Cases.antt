@@ -12,12 +12,11 @@ use Rattle.calls.specs.declared.Answer.the-variants.{Cells, Refused}
 use Rattle.values.specs.Accepted.{accepted, finite}
 use Rattle.calls.specs.Answer.{slices, checked}
 use Rattle.cells.specs.Line.{plusZero, fromBar}
-use Rattle.cells.specs.Recur.{recur}
 use Rattle.rounding.specs.Leaves.{minusOne}
 use Rattle.windows.specs.Window.{sumFrom, windowSum, mean}
 use Rattle.cells.specs.Shown.{num, prices, bits, cellsOf}
 use Rattle.holt_winters.specs.declared.Weights.{Weights}
-use Rattle.holt_winters.specs.HoltWinters.{weights, nextFit, withNext, fitsAfter, fitLine, holtWintersLine}
+use Rattle.holt_winters.specs.HoltWinters.{weights, nextFit, fitWithin, fitLine, holtWintersLine}
 use Rattle.holt_winters.specs.HoltWinters.{holtWintersAnswer}
 
 -- 0.5, and a number of tenths
@@ -38,7 +37,7 @@ holt-winters-cases : (cellsOf (holtWintersLine 1 (weights half plusZero plusZero
     (prices (pos 1 ∷ pos 5 ∷ pos 2 ∷ pos 2 ∷ pos 6 ∷ pos 3 ∷ pos 3 ∷ pos 7 ∷ []))
     ≡ bits (0x3ff0000000000000 ∷ 0x4014000000000000 ∷ 0x4000000000000000 ∷ 0x400028f5c28f5c29 ∷ 0x401874bc6a7ef9dc
     ∷ 0x40096c226809d496 ∷ 0x4009bbb83cf2cf97 ∷ 0x401d02de8709741e ∷ []))
-unfolding holtWintersLine fitLine fitsAfter withNext nextFit recur mean windowSum sumFrom fromBar add sub mul div ofInt
+unfolding holtWintersLine fitLine fitWithin nextFit mean windowSum sumFrom fromBar add sub mul div ofInt
     ofBits round
 holt-winters-cases = (refl, refl, refl)
 
@@ -55,7 +54,7 @@ holt-winters-edges : (cellsOf (holtWintersLine 3 halves) (prices (pos 1 ∷ pos 
     × (cellsOf (holtWintersLine 1 (weights (num 2) minusOne (num 3)))
     (prices (pos 1 ∷ pos 3 ∷ pos 2 ∷ pos 5 ∷ pos 4 ∷ []))
     ≡ prices (pos 1 ∷ negsuc 4 ∷ negsuc 29 ∷ negsuc 152 ∷ negsuc 711 ∷ []))
-unfolding holtWintersLine fitLine fitsAfter withNext nextFit recur mean windowSum sumFrom fromBar add sub mul div ofInt
+unfolding holtWintersLine fitLine fitWithin nextFit mean windowSum sumFrom fromBar add sub mul div ofInt
     ofBits round
 holt-winters-edges = (refl, refl, refl, refl, refl)
 

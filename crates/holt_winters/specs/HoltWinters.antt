@@ -2,15 +2,14 @@
 -- Sales by Exponentially Weighted Moving Averages, 1960. Every operation is rounded once. Assumes nothing.
 use mathlib.Core.Bool.{cond}
 use mathlib.Core.List.{List, [], _∷_}
-use Prim.Native.Nat.{ℕ, _+_, _-_}
+use Prim.Native.Nat.{ℕ, zero, suc, _-_}
 use lib.Ieee.{Float, binary64, add, sub}
-use lib.Dec.{ltb, eqb}
+use lib.Dec.{ltb}
 use lib.ListN.{length}
 use Rattle.averages.specs.Blend.{blend}
 use Rattle.holt_winters.specs.declared.Fit.{Fit}
 use Rattle.holt_winters.specs.declared.Weights.{Weights}
 use Rattle.cells.specs.Line.{Line, line, plusZero}
-use Rattle.cells.specs.Recur.{recur}
 use Rattle.windows.specs.Window.{mean}
 use Rattle.values.specs.Accepted.{accepted}
 use Rattle.calls.specs.declared.Answer.{Answer}
@@ -34,18 +33,18 @@ weights alpha beta gamma = record { alpha = alpha; beta = beta; gamma = gamma }
 abbrev pub firstFit : Float → Float → Fit
 firstFit average x = record { level = average; trend = plusZero; season = sub binary64 x average }
 
--- the bars before bar m + k, and that bar
-unfoldable pub withNext : ℕ → Weights → Line → ℕ → (ℕ → Fit) → ℕ → Fit
-withNext m w f k fits j =
-    cond (eqb j (m + k)) (nextFit w (fits (m + k - 1)) (fits k .season) (f (m + k))) (fits j)
+-- Bar i's level, trend and seasonal part, of seasons of m bars. A later bar is made from the bar before it and from the
+-- seasonal part one season before it. The first number only lets the recursion end: any that is not below i gives the
+-- same.
+unfoldable pub fitWithin : ℕ → ℕ → Weights → Line → ℕ → Fit
+fitWithin zero m w f i = firstFit (mean m f (m - 1)) (f i)
+fitWithin (suc more) m w f i =
+    cond (ltb i m)
+    (firstFit (mean m f (m - 1)) (f i))
+    (nextFit w (fitWithin more m w f (i - 1)) (fitWithin more m w f (i - m) .season) (f i))
 
--- the bars of the first season, which has m bars, and the k bars after it
-unfoldable pub fitsAfter : ℕ → Weights → Line → ℕ → ℕ → Fit
-fitsAfter m w f = recur (λ j. firstFit (mean m f (m - 1)) (f j)) (withNext m w f)
-
--- bar i's level, trend and seasonal part
 unfoldable pub fitLine : ℕ → Weights → Line → ℕ → Fit
-fitLine m w f i = fitsAfter m w f (i + 1 - m) i
+fitLine m w f i = fitWithin i m w f i
 
 -- level + trend + season
 abbrev pub total : Fit → Float

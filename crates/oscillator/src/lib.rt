@@ -1,6 +1,6 @@
 // The ultimate oscillator: buying pressure over true range in three windows.
-pub mod bar;
-pub mod ticks;
+mod bar;
+mod ticks;
 
 use calls::Answer;
 use windows::Eight;

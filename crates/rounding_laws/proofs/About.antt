@@ -321,39 +321,50 @@ spread : (a b c v u x d g k : ℕ) → (a * c + v * u) * 2 ≤ (b * u + x * c) *
     → a * c * k * 2 + v * u * k * 2 ≤ b * u * k * 2 + x * c * k * 2 + d * g * k
 spread a b c v u x d g k h = omega (arith, mul-le-mul-right k h)
 
-linear : (x⁺ x⁻ y⁺ y⁻ z⁺ z⁻ w⁺ w⁻ d e u : ℕ) → x⁺ * 2 + z⁻ * 2 ≤ z⁺ * 2 + x⁻ * 2 + d
+linear : (x⁺ x⁻ y⁺ y⁻ z⁺ z⁻ w⁺ w⁻ d e r : ℕ) → x⁺ * 2 + z⁻ * 2 ≤ z⁺ * 2 + x⁻ * 2 + d
     → w⁺ * 2 + y⁻ * 2 ≤ y⁺ * 2 + w⁻ * 2 + e
-    → u + z⁺ + w⁻ ≤ w⁺ + z⁻ → d + e < u * 2 → x⁺ + y⁻ < y⁺ + x⁻
-linear x⁺ x⁻ y⁺ y⁻ z⁺ z⁻ w⁺ w⁻ d e u h k o l = omega arith
+    → r + z⁺ + w⁻ ≤ w⁺ + z⁻ → d + e < r * 2 → x⁺ + y⁻ < y⁺ + x⁻
+linear x⁺ x⁻ y⁺ y⁻ z⁺ z⁻ w⁺ w⁻ d e r h k o l = omega arith
 
--- z / c < w / b, each number a part z⁺ above zero less a part z⁻ below; x and y stand for them
-reach : (x⁺ x⁻ y⁺ y⁻ z⁺ z⁻ w⁺ w⁻ c b d e p u g : ℕ) → 0 < g → u ≡ p * g
+-- z / c + r / (c b k) ≤ w / b, each number a part above zero less a part below; x and y stand for them; B is b k and
+-- C is c k
+reach : (x⁺ x⁻ y⁺ y⁻ z⁺ z⁻ w⁺ w⁻ c b d e p u g B C r : ℕ) → 0 < g → u ≡ p * g → c * B ≡ b * C
     → (x⁺ * c + z⁻ * u) * 2 ≤ (z⁺ * u + x⁻ * c) * 2 + d * g
     → (w⁺ * u + y⁻ * b) * 2 ≤ (y⁺ * b + w⁻ * u) * 2 + e * g
-    → z⁺ * b + w⁻ * c < w⁺ * c + z⁻ * b → d * b + e * c < p * 2 → x⁺ + y⁻ < y⁺ + x⁻
-reach x⁺ x⁻ y⁺ y⁻ z⁺ z⁻ w⁺ w⁻ c b d e p u g G eq h k o l =
+    → z⁺ * B + w⁻ * C + r ≤ w⁺ * C + z⁻ * B → d * B + e * C < p * 2 * r → x⁺ + y⁻ < y⁺ + x⁻
+reach x⁺ x⁻ y⁺ y⁻ z⁺ z⁻ w⁺ w⁻ c b d e p u g B C r G eq same h m o l =
+    let scaled : r * u ≡ r * (p * g) = ap (λ (v : ℕ). r * v) eq in
+    let up : y⁺ * (c * B) ≡ y⁺ * (b * C) = ap (λ (v : ℕ). y⁺ * v) same in
+    let down : y⁻ * (c * B) ≡ y⁻ * (b * C) = ap (λ (v : ℕ). y⁻ * v) same in
     let o' = mul-le-mul-right u o in
     let l' = mul-lt-mul-of-pos-right l G in
-    let r =
-    linear (x⁺ * c * b) (x⁻ * c * b) (y⁺ * b * c) (y⁻ * b * c) (z⁺ * u * b) (z⁻ * u * b) (w⁺ * u * c) (w⁻ * u * c)
-    (d * g * b) (e * g * c) u
-    (spread x⁺ z⁺ c z⁻ u x⁻ d g b h) (spread w⁺ y⁺ u y⁻ b w⁻ e g c k) (omega arith) (omega arith) in
-    lt-of-mul-lt-mul-right (c * b) (omega arith)
+    let r' =
+    linear (x⁺ * c * B) (x⁻ * c * B) (y⁺ * b * C) (y⁻ * b * C) (z⁺ * u * B) (z⁻ * u * B) (w⁺ * u * C) (w⁻ * u * C)
+    (d * g * B) (e * g * C) (r * u)
+    (spread x⁺ z⁺ c z⁻ u x⁻ d g B h) (spread w⁺ y⁺ u y⁻ b w⁻ e g C m) (omega arith) (omega arith) in
+    lt-of-mul-lt-mul-right (c * B) (omega arith)
 
--- numbers that stand for z / c < w / b are in that order, where their errors are too small to reach
+-- Numbers that stand for z / c < w / b are in that order, where their errors are too small to reach: z / c is below
+-- w / b by r / (c b k) at least.
+pub about-lt-by : {f : Format} {x y : Float} {z w : ℤ} {c b d e : ℕ} (k r : ℕ) → About f x z c d → About f y w b e
+    → (above z * b + below w * c) * k + r ≤ (above w * c + below z * b) * k
+    → (d * b + e * c) * k < 2 ^ prec f * 2 * r → lt x y ≡ true
+about-lt-by {f} {x} {y} {z} {w} {c} {b} {d} {e} k r p q o h =
+    let v = signedUnits f x in
+    let t = signedUnits f y in
+    let less = reach (above v) (below v) (above t) (below t) (above z) (below z) (above w) (below w) c b d e
+    (2 ^ prec f) (2 ^ low f) (fine f) (b * k) (c * k) r
+    (pow-pos (low f - prec f)) (fines f) (omega arith) (within p .above-by) (within q .below-by) (omega arith)
+    (omega arith) in
+    rw (number-lt (p .number) (q .number), parts-lt v t) (lt-ltb (above v + below t) (above t + below v) less)
+
+-- any distance between fractions of whole numbers will do where the errors are below 1 / (c b)
 pub about-lt : {f : Format} {x y : Float} {z w : ℤ} {c b d e : ℕ} → About f x z c d → About f y w b e
     → ltZ (z *ℤ pos b) (w *ℤ pos c) ≡ true → d * b + e * c < 2 ^ prec f * 2 → lt x y ≡ true
 about-lt {f} {x} {y} {z} {w} {c} {b} {d} {e} p q g h =
-    let v = signedUnits f x in
-    let t = signedUnits f y in
     let i = parts-times z b in
     let j = parts-times w c in
-    let o : above z * b + below w * c < above w * c + below z * b = omega
-    (arith, parts-less (z *ℤ pos b) (w *ℤ pos c) g) in
-    let less = reach (above v) (below v) (above t) (below t) (above z) (below z) (above w) (below w) c b d e
-    (2 ^ prec f) (2 ^ low f) (fine f)
-    (pow-pos (low f - prec f)) (fines f) (within p .above-by) (within q .below-by) o h in
-    rw (number-lt (p .number) (q .number), parts-lt v t) (lt-ltb (above v + below t) (above t + below v) less)
+    about-lt-by 1 1 p q (omega (arith, parts-less (z *ℤ pos b) (w *ℤ pos c) g)) (omega arith)
 
 -- so different fractions decide the order
 pub about-order : {f : Format} {x y : Float} {z w : ℤ} {c b d e : ℕ} → About f x z c d → About f y w b e

@@ -1,9 +1,11 @@
 -- The rule against the relative strength index: no look-ahead, what its cells are, and an index from its sums. Assumes
 -- nothing.
-use mathlib.Core.Path.{_≡_}
-use Prim.Native.Nat.{ℕ, suc, _-_, _<_, _≤_}
+use mathlib.Core.Path.{_≡_, refl}
+use mathlib.Core.Bool.{Bool, true, false}
+use Prim.Native.Nat.{ℕ, suc, _+_, _-_, _<_, _≤_, min}
 use native.Mathlib.Omega.{arith}
-use borrow.Author.Tests.{le-leb, lt-leb}
+use borrow.Author.Tests.{le-leb, lt-leb, ltb-true, ltb-false}
+use lib.Dec.{ltb}
 use lib.Ieee.{Float, nan, lt, eq}
 use Rattle.rounding.specs.Literals.{hundred}
 use Rattle.cells.specs.Line.{Line, plusZero, Causal}
@@ -24,6 +26,7 @@ use Rattle.rules_held.proofs.Holding.{
   never-adjoin,
 }
 use Rattle.rules_rsi.specs.RsiReverse.{
+  firstChange,
   changesBefore,
   sumBefore,
   indexOf,
@@ -35,11 +38,31 @@ use Rattle.rules_rsi.specs.RsiReverse.{
 
 -- ---- no look-ahead
 
+-- how many changes there are, and where the first of them is
+pub changes-before : (n i : ℕ) → changesBefore n i ≡ min (i - n) n
+unfolding changesBefore firstChange
+changes-before n i = omega arith
+
+pub first-change : (n i : ℕ) → n ≤ i → firstChange n i + changesBefore n i ≡ i
+unfolding changesBefore firstChange
+first-change n i h = omega arith
+
 causal-sum : (n : ℕ) {F : Line → Line} → Causal F → Causal (λ f. sumBefore n (F f))
-unfolding sumBefore
+unfolding sumBefore sumFrom
 causal-sum n {F} p f g b s =
-    sumFrom-same plusZero (F f) (F g) (b - changesBefore n b) (changesBefore n b)
-    (λ j l. causal-same p f g b s j (omega arith))
+    go (ltb b n) refl
+  where
+    go : (t : Bool) → ltb b n ≡ t
+        → sumFrom plusZero (F f) (firstChange n b) (changesBefore n b)
+        ≡ sumFrom plusZero (F g) (firstChange n b) (changesBefore n b)
+    go true e =
+        let h = ltb-true b n e in
+        let none : changesBefore n b ≡ 0 = omega (arith, changes-before n b) in
+        rw none
+    go false e =
+        let h = ltb-false b n e in
+        sumFrom-same plusZero (F f) (F g) (firstChange n b) (changesBefore n b)
+        (λ j l. causal-same p f g b s j (omega (arith, first-change n b h)))
 
 pub causal-rsi-before : (n : ℕ) → Causal (rsiBefore n)
 unfolding rsiBefore
@@ -91,7 +114,3 @@ module _ (n i : ℕ) (g : Line) where
   none-needed e h =
       let enough : n - 1 ≤ 0 = omega arith in
       rw (e, le-leb _ _ enough)
-
--- Once there are enough changes there always are: a position that were reset where too few are there would be the same.
-pub enough-stays : (n i j : ℕ) → i ≤ j → n - 1 ≤ changesBefore n i → n - 1 ≤ changesBefore n j
-enough-stays n i j l h = omega arith

@@ -26,9 +26,9 @@ use Rattle.window_means.specs.inner.Row.{RowHolds}
 use Rattle.window_means.proofs.Row.{none-of-row, row-before, first-row, row-stands}
 use Rattle.changes.specs.Changes.{gain, gains, losses}
 use Rattle.changes.proofs.Causal.{causal-change}
-use Rattle.rules_rsi.specs.RsiReverse.{changesBefore, sumBefore, rsiBefore}
+use Rattle.rules_rsi.specs.RsiReverse.{firstChange, changesBefore, sumBefore, rsiBefore}
 use Rattle.rules_rsi.specs.inner.Stages.{part, parts, withParts, Changed, indexBy, eachIndex}
-use Rattle.rules_rsi.proofs.Index.{index-is}
+use Rattle.rules_rsi.proofs.Index.{changes-before, first-change, index-is}
 
 -- ---- a row of gains or losses
 
@@ -137,11 +137,10 @@ either-losses g i = either-gain _
 module _ {at bars : ℕ} {f : Line} {now : List Float} (row : RowHolds at 1 bars f now) (no : (i : ℕ) → EitherZero (f i))
   where
     -- the k cells of a row before bar i, summed in the slice
-    row-sum : (k i : ℕ) → (0 < k) × (k < i) × (i ≤ bars)
-        → windowSum k (line now) (at + i - 1) ≡ sumFrom plusZero f (i - k) k
+    row-sum : (k i first : ℕ) → (first + k ≡ i) × (0 < k) × (0 < first) × (i ≤ bars)
+        → windowSum k (line now) (at + i - 1) ≡ sumFrom plusZero f first k
     unfolding windowSum
-    row-sum k i (a, b, c) =
-        let first = i - k in
+    row-sum k i first (e, a, b, c) =
         let start : at + i - 1 + 1 - k ≡ at + first = omega arith in
         let cell : (j : ℕ) → at + first + j ≡ at + (first + j) = λ j. omega arith in
         rw start
@@ -153,16 +152,18 @@ module _ {at bars : ℕ} {f : Line} {now : List Float} (row : RowHolds at 1 bars
     pub sum-at : (n i : ℕ) → (0 < n) × (0 < changesBefore n i) × (i ≤ bars)
         → windowSum (changesBefore n i) (line now) (at + i - 1) ≡ sumBefore n f i
     unfolding sumBefore
-    sum-at n i (a, b, c) = row-sum (changesBefore n i) i (omega arith)
+    sum-at n i (a, b, c) = row-sum (changesBefore n i) i (firstChange n i)
+        (omega (arith, changes-before n i, first-change n i (omega (arith, changes-before n i))))
 
     -- of n changes, at bars side by side
     pub full-sum : (n i : ℕ) → (0 < n) × (2 * n ≤ i) × (i + 16 ≤ bars) → (j : ℕ) → j < 16
         → windowSum n (line now) (at + i - 1 + j) ≡ sumBefore n f (i + j)
     unfolding sumBefore
     full-sum n i (a, b, c) j l =
-        let count : changesBefore n (i + j) ≡ n = omega arith in
+        let count : changesBefore n (i + j) ≡ n = omega (arith, changes-before n (i + j)) in
+        let first = first-change n (i + j) (omega arith) in
         let bar : at + i - 1 + j ≡ at + (i + j) - 1 = omega arith in
-        rw (count, bar) (row-sum n (i + j) (omega arith))
+        rw (count, bar) (row-sum n (i + j) (firstChange n (i + j)) (omega arith))
 
 -- ---- eight indexes side by side
 
@@ -175,7 +176,7 @@ whole-sixteen n i bars e =
 full-index : (n j : ℕ) (g : Line) {x y : Float} → x ≡ sumBefore n (gains g) j → y ≡ sumBefore n (losses g) j → 2 * n ≤ j
     → indexBy (ofInt binary64 (pos n)) x y ≡ rsiBefore n g j
 full-index n j g p q h =
-    let count : changesBefore n j ≡ n = omega arith in
+    let count : changesBefore n j ≡ n = omega (arith, changes-before n j) in
     rw count at (index-is n j g p q (omega arith))
 
 pub eight-indexes : (n i : ℕ) (g : Line) {up down r : Eight} → EightOf (sumBefore n (gains g)) i up

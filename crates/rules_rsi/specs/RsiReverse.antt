@@ -2,7 +2,7 @@
 -- is Wilder's ("New Concepts in Technical Trading Systems", 1978), of plain averages. Assumes nothing.
 use mathlib.Core.Bool.{cond}
 use mathlib.Core.List.{List, [], _∷_}
-use Prim.Native.Nat.{ℕ, _-_, min}
+use Prim.Native.Nat.{ℕ, _-_, max}
 use lib.IntN.{ℤ}
 use lib.Ieee.{Float, lt, nan, eq}
 use lib.Dec.{leb}
@@ -33,14 +33,18 @@ turnsAt upper lower exit x = record {
 unfoldable pub turned : Float → Float → Float → Line → ℕ → ℤ
 turned upper lower exit g = hold (λ i. turnsAt upper lower exit (g i))
 
--- How many changes of means there are at bars max(0, i - n) to i - 1. The first is that of bar n, since the means begin
--- at bar n - 1; the present bar is left out.
-abbrev pub changesBefore : ℕ → ℕ → ℕ
-changesBefore n i = min (i - n) n
+-- The changes of means at bars max(0, i - n) to i - 1 are those of bar i; the present bar is left out. The means begin
+-- at bar n - 1 and their changes at bar n, so the first of them is at bar n or later.
+unfoldable pub firstChange : ℕ → ℕ → ℕ
+firstChange n i = max n (i - n)
+
+-- how many they are
+unfoldable pub changesBefore : ℕ → ℕ → ℕ
+changesBefore n i = i - firstChange n i
 
 -- a line's sum over those bars, from 0.0
 unfoldable pub sumBefore : ℕ → Line → Line
-sumBefore n f i = sumFrom plusZero f (i - changesBefore n i) (changesBefore n i)
+sumBefore n f i = sumFrom plusZero f (firstChange n i) (changesBefore n i)
 
 -- the index of the averages of k gains and losses, by their sums; 100 where the sum of the losses is 0
 abbrev pub indexOf : ℕ → Float → Float → Float

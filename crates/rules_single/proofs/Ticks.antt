@@ -44,7 +44,7 @@ module _ {l : ℕ} {f : Line} {t : ℕ → ℤ} (w : TickLine l f t) where
       let sum = windowTotal n (windowTotal n t) i in
       let m = w .small i h in
       let p = about-whole binary64 (t i) (omega arith) in
-      let q = mean-of-means-about w n N (omega arith) (omega arith) i b h in
+      let q = mean-of-means-about w n N (omega arith) n N (omega arith) i (omega arith) h in
       let s : n * n * (2 ^ 34 + 2 ^ 26) < 2 ^ 53 * 2 = omega (arith, mul-le-mul M M) in
       let order = about-order p q (λ e. d (e ∙ times-one sum)) (omega arith) in
       rw (from-bar (2 * n - 2) plusZero _ i (omega arith), w .is i h, about-some q (some-abs sum z) s)

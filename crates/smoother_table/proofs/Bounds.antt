@@ -9,6 +9,7 @@ use native.Mathlib.Numerals.{add-one}
 use lib.ListN.{length, getD}
 use lib.Ieee.{Float, nan, binary64, ofBits, mul, lt, eq, le}
 use Rattle.values.proofs.All.{and-parts}
+use Rattle.values.proofs.Rising.{rising, rising-at}
 use Rattle.cells.specs.Line.{plusZero}
 use Rattle.rounding.specs.Leaves.{magnitudeOf}
 use Rattle.smoother_table.specs.Recorded.{a1Bits, b1Bits}
@@ -21,11 +22,6 @@ everyPair : (Float → Float → Bool) → List Float → List Float → Bool
 everyPair test (x ∷ xs) (y ∷ ys) = test x y && everyPair test xs ys
 everyPair test [] ys = true
 everyPair test (x ∷ xs) [] = true
-
--- each entry is above x, and above those before it
-rising : Float → List Float → Bool
-rising x [] = true
-rising x (y ∷ ys) = lt x y && rising y ys
 
 bounds-computed : everyPair inBounds a1Table b1Table ≡ true
 unfolding a1Table b1Table a1Bits b1Bits everyPair ofBits lt le eq mul magnitudeOf
@@ -45,15 +41,6 @@ pair-at test (x ∷ xs) [] e k h l = absurd (not-suc-le-zero l)
 pair-at test (x ∷ xs) (y ∷ ys) e zero h l = and-parts (test x y) (everyPair test xs ys) e .0
 pair-at test (x ∷ xs) (y ∷ ys) e (suc k) h l =
     pair-at test xs ys (and-parts (test x y) (everyPair test xs ys) e .1) k (le-of-suc-le-suc h) (le-of-suc-le-suc l)
-
-rising-at : (x : Float) (xs : List Float) → rising x xs ≡ true
-    → (k : ℕ) → suc k < length xs → lt (getD xs k nan) (getD xs (suc k) nan) ≡ true
-unfolding rising
-rising-at x [] e k h = absurd (not-suc-le-zero h)
-rising-at x (y ∷ []) e k h = absurd (not-suc-le-zero (le-of-suc-le-suc h))
-rising-at x (y ∷ z ∷ zs) e zero h = and-parts (lt y z) (rising z zs) (and-parts (lt x y) (rising y (z ∷ zs)) e .1) .0
-rising-at x (y ∷ z ∷ zs) e (suc k) h = rising-at y (z ∷ zs) (and-parts (lt x y) (rising y (z ∷ zs)) e .1) k
-    (le-of-suc-le-suc h)
 
 read : (a1 b1 : Float) → inBounds a1 b1 ≡ true → InBounds a1 b1
 read a1 b1 e =

@@ -7,3 +7,4 @@ pub mod Quick
 pub mod Ticks
 pub mod TicksAccepted
 pub mod Zero
+pub mod Rising

@@ -2,13 +2,15 @@
 //! source's.
 
 use crate::call::{Kind, Value};
-use crate::catalogue::{self, Domain, Function};
+use crate::catalogue::{self, Domain, Function, Line};
 use crate::clock::by_turns;
+use crate::edges::{modest, with_windows};
 use crate::library::Lent;
+use crate::limits::{SERIES_LIMIT, WINDOW_LIMIT, within_limit};
 use crate::rng::Rng;
 
-const LENGTHS: &[usize] = &[512, 65_536];
-const WINDOWS: &[usize] = &[2, 5, 20, 60, 250, 1_000, 4_096];
+const LENGTHS: &[usize] = &[512, SERIES_LIMIT];
+const WINDOWS: &[usize] = &[2, 5, 20, 60, 250, 1_000, WINDOW_LIMIT];
 const PERIODS: &[usize] = &[2, 3, 4, 5, 20, 60, 250];
 
 /// What the series of a table are made of, each from the same walk of whole numbers.
@@ -76,7 +78,7 @@ pub fn run(prices: Prices, names: &[&str]) {
     let asked = |function: &Function| names.is_empty() || names.contains(&function.name);
     for function in catalogue::exported().filter(|function| prices.suit(function) && asked(function)) {
         for bars in LENGTHS {
-            for timing in timings(function.name, *bars) {
+            for timing in timings(function, *bars) {
                 let row = measure(function, *bars, timing, prices);
                 row.print();
                 rows.push(row);
@@ -97,8 +99,8 @@ struct Timing {
 impl Timing {
     /// One row for each of these windows that the series is long enough for.
     fn each(windows: &[usize], bars: usize, parameters: impl Fn(usize) -> Vec<Value>) -> Vec<Timing> {
-        let fitting = windows.iter().filter(|n| **n <= bars);
-        fitting.map(|n| Timing { window: Some(*n), parameters: parameters(*n) }).collect()
+        let fitting = within_limit(windows).filter(|n| *n <= bars);
+        fitting.map(|n| Timing { window: Some(n), parameters: parameters(n) }).collect()
     }
 
     /// One row.
@@ -108,11 +110,10 @@ impl Timing {
 }
 
 /// What a function is timed with.
-fn timings(name: &str, bars: usize) -> Vec<Timing> {
+fn timings(function: &Function, bars: usize) -> Vec<Timing> {
     use Value::{Count, Real};
     let windows = |parameters: fn(usize) -> Vec<Value>| Timing::each(WINDOWS, bars, parameters);
-    match name {
-        "true_range" => Timing::only(&[]),
+    match function.name {
         "exponential_smoothing" => Timing::only(&[Real(0.1)]),
         "ultimate_smoother" => Timing::only(&[Real(20.0)]),
         "rsx_ss2" => Timing::only(&[Count(14), Count(10)]),
@@ -126,7 +127,8 @@ fn timings(name: &str, bars: usize) -> Vec<Timing> {
         "boll_positions" | "boll_reverse_positions" => windows(|n| vec![Count(n), Real(1.5)]),
         "rsi_reverse_positions" => windows(|n| vec![Count(n), Real(70.0), Real(30.0), Real(50.0)]),
         "holt_winters" => windows(|n| vec![Count(n), Real(0.2), Real(0.1), Real(0.1)]),
-        _ => windows(|n| vec![Count(n)]),
+        _ if function.has_window() => Timing::each(WINDOWS, bars, |n| with_windows(function, n)),
+        _ => Timing::only(&modest(function)),
     }
 }
 
@@ -144,7 +146,7 @@ fn measure(function: &'static Function, bars: usize, timing: Timing, prices: Pri
     Row { name: function.name, bars, window, ours, source, ratio: turns.ratio }
 }
 
-/// One walk of prices, or the high, the low and the close of bars around it; for the true range the close before.
+/// One walk of prices, with high and low around it and the close before where a function takes them.
 fn series(function: &Function, bars: usize, prices: Prices) -> Vec<Vec<f64>> {
     let mut rng = Rng::new(0);
     let mut price = START;
@@ -154,11 +156,12 @@ fn series(function: &Function, bars: usize, prices: Prices) -> Vec<Vec<f64>> {
     };
     let close: Vec<i64> = (0..bars).map(|_| step()).collect();
     let line = |walk: &[i64]| walk.iter().map(|price| prices.of(*price)).collect::<Vec<f64>>();
-    if function.series == 1 {
-        return vec![line(&close)];
-    }
     let mut beside = |sign: i64| close.iter().map(|price| price + sign * rng.between(0, 30)).collect::<Vec<i64>>();
-    let (high, low) = (beside(1), beside(-1));
-    let before = [&close[..1], &close[..bars - 1]].concat();
-    vec![line(&high), line(&low), line(if function.name == "true_range" { &before } else { &close })]
+    let of = |series: &Line| match series {
+        Line::Price => line(&close),
+        Line::High => line(&beside(1)),
+        Line::Low => line(&beside(-1)),
+        Line::CloseBefore => line(&[&close[..1], &close[..bars - 1]].concat()),
+    };
+    function.series.iter().map(of).collect()
 }

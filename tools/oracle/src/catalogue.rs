@@ -1,9 +1,9 @@
 //! One entry for each function of the library: everything else here goes by this list.
 //!
-//! An entry gives the function of the Rust bindings and the name, the source's, the series, the parameters with their roles in
-//! document 01's table, the outputs, the type of their cells, `[work]` where there is a work slice,
-//! and how the expected cells are reckoned; `timed` where a benchmark runs something else. A function
-//! counts as exported once include/tegbalowu.h declares it.
+//! An entry gives the function of the Rust bindings and the name, the source's, the series and the parameters with their
+//! roles, the outputs, the type of their cells, `[work]` where there is a work slice, and how the expected cells are
+//! reckoned; `timed` where a benchmark runs something else. A function counts as exported once include/tegbalowu.h
+//! declares it.
 
 use std::hint::black_box;
 
@@ -11,11 +11,27 @@ use crate::call::{Answer, Call, Cell, Kind, Lines, Value};
 use crate::library::Lent;
 use crate::{restated, tick_mean, wilder_rsi};
 
-/// What a parameter is in the table; those that are f64 are refusal 6 where they are not finite.
+/// What a series is: how its values stand to those of the others.
+#[derive(Clone, Copy, Debug, PartialEq, Eq)]
+pub enum Line {
+    /// The price, or the close of bars.
+    Price,
+    /// The highest price of each bar.
+    High,
+    /// The lowest price of each bar.
+    Low,
+    /// The close before each bar.
+    CloseBefore,
+}
+
+/// What a parameter is in document 01's table. Refusals, the empty answer and the values that are tried go by this, and
+/// not by the type that C passes.
 #[derive(Clone, Copy, Debug, PartialEq, Eq)]
 pub enum Role {
-    /// An integer window: refusal 7 above 4,096.
+    /// An integer window: refusal 7 above the longest one.
     Window,
+    /// The bars of a season, which is a window.
+    Season,
     /// An integer smoother period: refusal 7 above 512.
     WholePeriod,
     /// A smoother period as f64: refusal 7 where it is not whole from 0 to 512.
@@ -30,6 +46,7 @@ pub enum Role {
 
 // The roles as the types that C passes.
 type Window = usize;
+type Season = usize;
 type WholePeriod = usize;
 type Period = f64;
 type Weight = f64;
@@ -37,8 +54,31 @@ type Multiple = f64;
 type Level = f64;
 
 impl Role {
-    pub fn is_whole(self) -> bool {
-        matches!(self, Role::Window | Role::WholePeriod)
+    /// Whether the longest window limits it.
+    pub fn is_window(self) -> bool {
+        matches!(self, Role::Window | Role::Season)
+    }
+
+    /// Whether it is a number of bars, which makes the answer empty where it is 0.
+    pub fn counts_bars(self) -> bool {
+        self.is_window() || self == Role::WholePeriod
+    }
+
+    /// Whether it is refusal 6 where it is not finite.
+    pub fn is_f64_parameter(self) -> bool {
+        matches!(self, Role::Period | Role::Weight | Role::Multiple | Role::Level)
+    }
+
+    pub fn is_level(self) -> bool {
+        self == Role::Level
+    }
+
+    /// The value that a word says.
+    pub fn value(self, word: &str) -> Value {
+        match self {
+            Role::Window | Role::Season | Role::WholePeriod => Value::Count(word.parse().expect("a whole number")),
+            Role::Period | Role::Weight | Role::Multiple | Role::Level => Value::Real(word.parse().expect("a number")),
+        }
     }
 }
 
@@ -51,7 +91,7 @@ pub enum Domain {
 
 pub struct Function {
     pub name: &'static str,
-    pub series: usize,
+    pub series: &'static [Line],
     pub roles: &'static [Role],
     pub outputs: usize,
     pub kind: Kind,
@@ -61,7 +101,9 @@ pub struct Function {
     pub rising: bool,
     /// The expected cells of a call that is answered.
     pub source: fn(&Call) -> Vec<Vec<u64>>,
-    /// What a benchmark runs: the same reckoning, or pure.rs itself, with nothing kept.
+    /// The cells of pure.rs itself where it has the function, for any call; else those of `source`.
+    pub given: fn(&Call) -> Vec<Vec<u64>>,
+    /// What a benchmark runs: the same, with nothing kept.
     pub timed: fn(&Call),
     pub library: Option<Exported>,
 }
@@ -70,6 +112,28 @@ impl Function {
     /// The work cells that a call of this many bars asks for.
     pub fn work_for(&self, bars: usize) -> usize {
         if self.work { 8 * bars } else { 0 }
+    }
+
+    /// The places of the parameters whose role is as asked.
+    pub fn places(&self, asked: fn(Role) -> bool) -> impl Iterator<Item = usize> {
+        (0..self.roles.len()).filter(move |place| asked(self.roles[*place]))
+    }
+
+    /// The call's parameters whose role is as asked.
+    pub fn values<'a, T: From<Value>>(&'a self, call: &'a Call, asked: fn(Role) -> bool) -> impl Iterator<Item = T> {
+        self.places(asked).map(|place| call.parameters[place].into())
+    }
+
+    pub fn has_window(&self) -> bool {
+        self.places(Role::is_window).next().is_some()
+    }
+
+    /// Makes a call of the library, and gives its answer and the cells that it counts of each output.
+    pub fn run(&self, call: &Call) -> (Answer, Vec<Vec<u64>>) {
+        let mut outputs: Vec<Lent> = call.outputs.iter().map(|len| Lent::filled(self.kind, *len, 1)).collect();
+        let mut work = Lent::filled(Kind::F64, call.work, 2);
+        let answer = (self.library.expect("the function is exported"))(call, &mut outputs, &mut work);
+        (answer, outputs.iter().map(|output| output.words()[..answer.count as usize].to_vec()).collect())
     }
 
     /// A call with just as much room as it asks for.
@@ -121,7 +185,7 @@ macro_rules! last {
 
 macro_rules! functions {
     ($($function:ident $name:literal {
-        series: [$($series:ident),+],
+        series: [$($series:ident: $line:ident),+],
         parameters: [$($parameter:ident: $role:ident),*],
         outputs: [$($output:ident),+],
         cells: $cell:ty,
@@ -135,9 +199,9 @@ macro_rules! functions {
                 $source
             }
 
-            fn timed(call: &Call) {
+            fn given(call: &Call) -> impl Lines {
                 take!(call, [$($series),+], [$($parameter: $role),*]);
-                drop(black_box(last!($source $(, $timed)?)));
+                last!($source $(, $timed)?)
             }
 
             #[cfg(exported = $name)]
@@ -154,13 +218,14 @@ macro_rules! functions {
 
             Function {
                 name: $name,
-                series: [$(stringify!($series)),+].len(),
+                series: &[$(Line::$line),+],
                 roles: &[$(Role::$role),*],
                 outputs: [$(stringify!($output)),+].len(),
                 kind: <$cell as Cell>::KIND,
                 work: !WORK.is_empty(),
                 source: |call| lines(call).words(),
-                timed,
+                given: |call| given(call).words(),
+                timed: |call| drop(black_box(given(call))),
                 library: LIBRARY,
                 $($field: $value,)*
                 ..PLAIN
@@ -172,7 +237,7 @@ macro_rules! functions {
 /// What holds where an entry says nothing else.
 const PLAIN: Function = Function {
     name: "",
-    series: 1,
+    series: &[],
     roles: &[],
     outputs: 1,
     kind: Kind::F64,
@@ -180,116 +245,117 @@ const PLAIN: Function = Function {
     domain: Domain::Accepted,
     rising: false,
     source: |_| Vec::new(),
+    given: |_| Vec::new(),
     timed: |_| (),
     library: None,
 };
 
 functions! {
     sma "sma" {
-        series: [series], parameters: [n: Window], outputs: [out], cells: f64, work: [],
+        series: [series: Price], parameters: [n: Window], outputs: [out], cells: f64, work: [],
         source: pure::sma(series, n),
     }
     ema "ema" {
-        series: [series], parameters: [period: Window], outputs: [out], cells: f64, work: [],
+        series: [series: Price], parameters: [period: Window], outputs: [out], cells: f64, work: [],
         source: pure::ema(series, period),
     }
     exponential_smoothing "exponential_smoothing" {
-        series: [series], parameters: [alpha: Weight], outputs: [out], cells: f64, work: [],
+        series: [series: Price], parameters: [alpha: Weight], outputs: [out], cells: f64, work: [],
         source: pure::exponential_smoothing(series, alpha),
     }
     double_sma_positions "double_sma_positions" {
-        series: [series], parameters: [n: Window, m: Window], outputs: [out], cells: f64, work: [],
+        series: [series: Price], parameters: [n: Window, m: Window], outputs: [out], cells: f64, work: [],
         source: pure::double_sma_positions(series, n, m),
         rising: true,
     }
     ultimate_smoother "ultimate_smoother" {
-        series: [price], parameters: [period: Period], outputs: [out], cells: f64, work: [],
+        series: [price: Price], parameters: [period: Period], outputs: [out], cells: f64, work: [],
         source: restated::ultimate_smoother(price, period); timed: pure::ultimate_smoother(price, period),
     }
     true_range "true_range" {
-        series: [high, low, close_prev], parameters: [], outputs: [out], cells: f64, work: [],
+        series: [high: High, low: Low, close_prev: CloseBefore], parameters: [], outputs: [out], cells: f64, work: [],
         source: pure::true_range(high, low, close_prev),
     }
     single_sma_positions "single_sma_positions" {
-        series: [series], parameters: [n: Window], outputs: [out], cells: f64, work: [work],
+        series: [series: Price], parameters: [n: Window], outputs: [out], cells: f64, work: [work],
         source: pure::single_sma_positions(series, n),
     }
     single_ema_positions "single_ema_positions" {
-        series: [series], parameters: [n: Window], outputs: [out], cells: f64, work: [work],
+        series: [series: Price], parameters: [n: Window], outputs: [out], cells: f64, work: [work],
         source: pure::single_ema_positions(series, n),
     }
     mid_positions "mid_positions" {
-        series: [series], parameters: [n: Window], outputs: [out], cells: f64, work: [work],
+        series: [series: Price], parameters: [n: Window], outputs: [out], cells: f64, work: [work],
         source: pure::mid_positions(series, n),
     }
     mms_positions "mms_positions" {
-        series: [series], parameters: [timeperiod: Window, window: Window], outputs: [out], cells: f64, work: [work],
+        series: [series: Price], parameters: [timeperiod: Window, window: Window], outputs: [out], cells: f64, work: [work],
         source: pure::mms_positions(series, timeperiod, window),
     }
     rank_positions "rank_positions" {
-        series: [series], parameters: [n: Window], outputs: [out], cells: f64, work: [work],
+        series: [series: Price], parameters: [n: Window], outputs: [out], cells: f64, work: [work],
         source: pure::rank_positions(series, n),
     }
     wilder_rsi "wilder_rsi" {
-        series: [series], parameters: [n: Window], outputs: [out], cells: f64, work: [work],
+        series: [series: Price], parameters: [n: Window], outputs: [out], cells: f64, work: [work],
         source: wilder_rsi::line(series, n),
     }
     rsx_ss2 "rsx_ss2" {
-        series: [close], parameters: [period: Window, smooth_period: WholePeriod],
+        series: [close: Price], parameters: [period: Window, smooth_period: WholePeriod],
         outputs: [out], cells: f64, work: [work],
         source: restated::rsx_ss2(close, period, smooth_period);
         timed: pure::rsx_ss2(close, period, smooth_period),
     }
     jurik_volty "jurik_volty" {
-        series: [close], parameters: [period: Window, power: Multiple], outputs: [out], cells: f64, work: [work],
+        series: [close: Price], parameters: [period: Window, power: Multiple], outputs: [out], cells: f64, work: [work],
         source: pure::jurik_volty(close, period, power),
     }
     ultimate_oscillator "ultimate_oscillator" {
-        series: [high, low, close], parameters: [short_period: Window, med_period: Window, long_period: Window],
+        series: [high: High, low: Low, close: Price], parameters: [short_period: Window, med_period: Window, long_period: Window],
         outputs: [out], cells: f64, work: [work],
         source: pure::ultimate_oscillator(high, low, close, short_period, med_period, long_period),
     }
     holt_winters "holt_winters" {
-        series: [series], parameters: [season_length: Window, alpha: Weight, beta: Weight, gamma: Weight],
+        series: [series: Price], parameters: [season_length: Season, alpha: Weight, beta: Weight, gamma: Weight],
         outputs: [out], cells: f64, work: [work],
         source: pure::holt_winters(series, season_length, alpha, beta, gamma),
     }
     triple_sma_positions "triple_sma_positions" {
-        series: [series], parameters: [m1: Window, m2: Window, m3: Window],
+        series: [series: Price], parameters: [m1: Window, m2: Window, m3: Window],
         outputs: [out], cells: i32, work: [work],
         source: pure::triple_sma_positions(series, m1, m2, m3),
         rising: true,
     }
     boll_positions "boll_positions" {
-        series: [series], parameters: [n: Window, k: Multiple], outputs: [out], cells: i32, work: [work],
+        series: [series: Price], parameters: [n: Window, k: Multiple], outputs: [out], cells: i32, work: [work],
         source: pure::boll_positions(series, n, k),
     }
     boll_reverse_positions "boll_reverse_positions" {
-        series: [series], parameters: [n: Window, k: Multiple], outputs: [out], cells: i32, work: [work],
+        series: [series: Price], parameters: [n: Window, k: Multiple], outputs: [out], cells: i32, work: [work],
         source: pure::boll_reverse_positions(series, n, k),
     }
     rsi_reverse_positions "rsi_reverse_positions" {
-        series: [series], parameters: [n: Window, rsi_upper: Level, rsi_lower: Level, rsi_exit: Level],
+        series: [series: Price], parameters: [n: Window, rsi_upper: Level, rsi_lower: Level, rsi_exit: Level],
         outputs: [out], cells: i32, work: [work],
         source: pure::rsi_reverse_positions(series, n, rsi_upper, rsi_lower, rsi_exit),
     }
     rolling_rank "rolling_rank" {
-        series: [series], parameters: [window: Window], outputs: [out], cells: u64, work: [work],
+        series: [series: Price], parameters: [window: Window], outputs: [out], cells: u64, work: [work],
         source: pure::rolling_rank(series, window),
     }
     tick_mean "tick_mean" {
-        series: [series], parameters: [n: Window], outputs: [out], cells: i64, work: [],
+        series: [series: Price], parameters: [n: Window], outputs: [out], cells: i64, work: [],
         source: tick_mean::line(series, n),
         domain: Domain::WholeTicks,
     }
     ultimate_bands "ultimate_bands" {
-        series: [close], parameters: [period: WholePeriod, std_multiplier: Multiple, smooth_period: WholePeriod],
+        series: [close: Price], parameters: [period: WholePeriod, std_multiplier: Multiple, smooth_period: WholePeriod],
         outputs: [middle, upper, lower], cells: f64, work: [work],
         source: restated::ultimate_bands(close, period, std_multiplier, smooth_period);
         timed: pure::ultimate_bands(close, period, std_multiplier, smooth_period),
     }
     ultimate_channel "ultimate_channel" {
-        series: [high, low, close], parameters: [period: WholePeriod, multiplier: Multiple],
+        series: [high: High, low: Low, close: Price], parameters: [period: WholePeriod, multiplier: Multiple],
         outputs: [middle, upper, lower], cells: f64, work: [work],
         source: restated::ultimate_channel(high, low, close, period, multiplier);
         timed: pure::ultimate_channel(high, low, close, period, multiplier),

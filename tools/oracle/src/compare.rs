@@ -7,6 +7,7 @@ use crate::generate;
 use crate::library::Lent;
 use crate::rng::Rng;
 use crate::source;
+use std::collections::BTreeMap;
 use std::sync::atomic::{AtomicUsize, Ordering};
 use std::thread;
 
@@ -17,7 +18,8 @@ const SHOWN: usize = 5;
 pub struct Tally {
     calls: usize,
     cells: u64,
-    by_refusal: [usize; 11],
+    /// How many calls are refused with a number; 0 is for those that are answered.
+    by_refusal: BTreeMap<u64, usize>,
     empty: usize,
     differ: usize,
 }
@@ -41,7 +43,7 @@ impl Trial {
         let expected = source::expected(self.function, call);
         self.tally.calls += 1;
         self.tally.cells += expected.answer.count * self.function.outputs as u64;
-        self.tally.by_refusal[expected.answer.refusal as usize] += 1;
+        *self.tally.by_refusal.entry(expected.answer.refusal).or_default() += 1;
         self.tally.empty += (expected.answer.refusal == 0 && expected.answer.count == 0) as usize;
         if let Some(what) = self.difference(call, salt, &expected) {
             self.tally.differ += 1;
@@ -71,13 +73,13 @@ impl Trial {
     }
 
     fn print(&self) {
-        let refused = (1..=10).filter(|r| self.tally.by_refusal[*r] > 0);
-        let refused: String = refused.map(|r| format!(" {r}:{}", self.tally.by_refusal[r])).collect();
+        let refused = self.tally.by_refusal.iter().filter(|(refusal, _)| **refusal != 0);
+        let refused: String = refused.map(|(refusal, calls)| format!(" {refusal}:{calls}")).collect();
         println!(
             "{}: {} calls, {} answered with {} cells, {} of them empty, refused{refused}, {} differ",
             self.function.name,
             self.tally.calls,
-            self.tally.by_refusal[0],
+            self.tally.by_refusal.get(&0).unwrap_or(&0),
             self.tally.cells,
             self.tally.empty,
             self.tally.differ

@@ -2,9 +2,10 @@
 
 use crate::call::{Call, Value};
 use crate::catalogue::{Domain, Function, Role};
-use crate::generate::{ODD_PERIODS, ODD_REALS, ODD_WHOLE_PERIODS, ODD_WINDOWS, PERIOD_LIMIT, WINDOW_LIMIT, plain};
+use crate::generate::{ODD_PERIODS, ODD_REALS, ODD_WHOLE_PERIODS, ODD_WINDOWS, plain, put};
+use crate::limits::{PERIOD_LIMIT, SERIES_LIMIT, WINDOW_LIMIT, within_limit};
 use crate::rng::Rng;
-use crate::series::{DAMAGED, SERIES_LIMIT, damage, large, near_ties, walk, wide};
+use crate::series::{DAMAGED, damage, large, near_ties, walk, wide};
 use crate::ties::ties;
 
 pub fn edges(rng: &mut Rng, function: &Function) -> Vec<Call> {
@@ -31,13 +32,15 @@ pub fn edges(rng: &mut Rng, function: &Function) -> Vec<Call> {
 /// Small parameters that the function takes.
 pub fn modest(function: &Function) -> Vec<Value> {
     let value = |(place, role): (usize, &Role)| match role {
-        Role::Window | Role::WholePeriod => Value::Count(2 + place),
+        Role::Window | Role::Season | Role::WholePeriod => Value::Count(2 + place),
         Role::Period => Value::Real(20.0),
         Role::Weight => Value::Real(0.25),
         Role::Multiple => Value::Real(0.5),
-        Role::Level => Value::Real([70.0, 30.0, 50.0][place - 1]),
+        Role::Level => Value::Real(50.0),
     };
-    function.roles.iter().enumerate().map(value).collect()
+    let mut parameters: Vec<Value> = function.roles.iter().enumerate().map(value).collect();
+    put(function, &mut parameters, Role::is_level, [70.0, 30.0, 50.0].map(Value::Real));
+    parameters
 }
 
 /// Modest parameters but for one.
@@ -53,7 +56,9 @@ pub fn edge_values(role: Role, len: usize) -> Vec<Value> {
     let reals = |list: &[f64]| list.iter().map(|x| Value::Real(*x)).collect();
     let counts = |lists: &[&[usize]]| lists.concat().into_iter().map(Value::Count).collect();
     match role {
-        Role::Window => counts(&[&[1, 2, len / 2, len / 2 + 1, len.div_ceil(2) + 1], &around, ODD_WINDOWS]),
+        Role::Window | Role::Season => {
+            counts(&[&[1, 2, len / 2, len / 2 + 1, len.div_ceil(2) + 1], &around, ODD_WINDOWS])
+        }
         Role::WholePeriod => counts(&[&[1, 2, 3, 4, 5], &around, ODD_WHOLE_PERIODS]),
         Role::Period => reals(ODD_PERIODS),
         Role::Weight | Role::Multiple | Role::Level => reals(ODD_REALS),
@@ -62,7 +67,7 @@ pub fn edge_values(role: Role, len: usize) -> Vec<Value> {
 
 fn every_place_damaged(rng: &mut Rng, function: &Function, calls: &mut Vec<Call>) {
     for len in [1, 2, 3, 7, 8, 9, 33] {
-        for series in 0..function.series {
+        for series in 0..function.series.len() {
             for place in 0..len {
                 for odd in DAMAGED {
                     let mut call = plain(rng, function, len, modest(function));
@@ -78,15 +83,19 @@ fn every_place_damaged(rng: &mut Rng, function: &Function, calls: &mut Vec<Call>
 /// values are tested several at a time: beside values of both signs and of one, and beside a parameter that is refused.
 fn every_place_at_the_limit(rng: &mut Rng, function: &Function, calls: &mut Vec<Call>) {
     let largest = if function.domain == Domain::WholeTicks { DAMAGED[2] } else { DAMAGED[0] };
-    let refused = function.roles.iter().enumerate().map(|(place, role)| match role {
-        Role::Window | Role::WholePeriod => with_parameter(function, place, Value::Count(usize::MAX)),
-        _ => with_parameter(function, place, Value::Real(f64::INFINITY)),
-    });
+    // A role that no value makes a refusal of has none.
+    let refused = |role: &Role| match role {
+        Role::Window | Role::Season | Role::WholePeriod => Some(Value::Count(usize::MAX)),
+        Role::Period | Role::Weight | Role::Multiple | Role::Level => Some(Value::Real(f64::INFINITY)),
+    };
+    let refused = function.roles.iter().map(refused).enumerate();
+    let refused = refused.filter_map(|(place, value)| Some(with_parameter(function, place, value?)));
     let parameters: Vec<Vec<Value>> = std::iter::once(modest(function)).chain(refused.take(1)).collect();
-    for (len, at) in (0..function.series).flat_map(|at| (40..44).map(move |len| (len, at))) {
+    for (len, at) in (0..function.series.len()).flat_map(|at| (40..44).map(move |len| (len, at))) {
         for (place, parameters) in (0..len).flat_map(|place| parameters.iter().map(move |p| (place, p))) {
             for (turn, value) in [largest, -largest, largest.next_up(), -largest.next_up()].into_iter().enumerate() {
-                let mut series: Vec<Vec<f64>> = (0..function.series).map(|_| wide(rng, function.domain, len)).collect();
+                let wide = |_| wide(rng, function.domain, len);
+                let mut series: Vec<Vec<f64>> = function.series.iter().map(wide).collect();
                 if (turn + place) % 4 == 0 {
                     series.iter_mut().flatten().for_each(|x| *x = x.abs());
                 }
@@ -115,7 +124,7 @@ fn every_parameter(rng: &mut Rng, function: &Function, calls: &mut Vec<Call>) {
 
 /// Every choice of small windows and whole periods, from 0 on.
 fn all_small_windows(rng: &mut Rng, function: &Function, calls: &mut Vec<Call>) {
-    let places: Vec<usize> = (0..function.roles.len()).filter(|place| function.roles[*place].is_whole()).collect();
+    let places: Vec<usize> = function.places(Role::counts_bars).collect();
     let end: usize = [1, 13, 7, 5][places.len()];
     for len in [1, 4, 9, 30] {
         for choice in 0..end.pow(places.len() as u32) {
@@ -146,11 +155,11 @@ fn every_period(rng: &mut Rng, function: &Function, calls: &mut Vec<Call>) {
 fn all_levels(rng: &mut Rng, function: &Function, calls: &mut Vec<Call>) {
     let levels = [0.0, 30.0, 50.0, 70.0, 100.0];
     for choice in 0..levels.len().pow(3) {
-        if function.roles.contains(&Role::Level) {
-            let [upper, lower, exit] =
-                [choice % 5, choice / 5 % 5, choice / 25].map(|place| Value::Real(levels[place]));
-            let n = Value::Count(1 + choice % 4);
-            calls.push(plain(rng, function, 24, vec![n, upper, lower, exit]));
+        if function.places(Role::is_level).next().is_some() {
+            let chosen = [choice % 5, choice / 5 % 5, choice / 25].map(|place| Value::Real(levels[place]));
+            let mut parameters = with_windows(function, 1 + choice % 4);
+            put(function, &mut parameters, Role::is_level, chosen);
+            calls.push(plain(rng, function, 24, parameters));
         }
     }
 }
@@ -177,9 +186,9 @@ fn every_room(rng: &mut Rng, function: &Function, calls: &mut Vec<Call>) {
 /// Series of which one is shorter or longer than the others, also beyond the limit.
 fn unequal(rng: &mut Rng, function: &Function, calls: &mut Vec<Call>) {
     for len in [0, 1, 5, SERIES_LIMIT] {
-        for place in 0..function.series {
+        for place in 0..function.series.len() {
             for other in [0, 1, len + 1, len + 2, SERIES_LIMIT + 1] {
-                if function.series > 1 {
+                if function.series.len() > 1 {
                     let mut call = plain(rng, function, len, modest(function));
                     call.series[place].resize(other, 1.0);
                     calls.push(call);
@@ -218,13 +227,13 @@ impl Fault {
 /// Each fault that a call of `len` bars can have.
 fn faults(function: &Function, len: usize) -> Vec<Fault> {
     let mut faults = vec![Fault::Work];
-    for place in 0..function.series {
+    for place in 0..function.series.len() {
         faults.extend([Fault::Length(place, SERIES_LIMIT + 1), Fault::Length(place, len - 1), Fault::Value(place)]);
     }
     faults.extend((0..function.outputs).map(Fault::Output));
     for (place, role) in function.roles.iter().enumerate() {
         let values: &[Value] = match role {
-            Role::Window => &[0, len + 2, WINDOW_LIMIT + 1].map(Value::Count),
+            Role::Window | Role::Season => &[0, len + 2, WINDOW_LIMIT + 1].map(Value::Count),
             Role::WholePeriod => &[0, len + 2, PERIOD_LIMIT + 1].map(Value::Count),
             Role::Period => &[0.5, 513.0, f64::NAN].map(Value::Real),
             Role::Weight | Role::Multiple | Role::Level => &[Value::Real(f64::INFINITY)],
@@ -257,11 +266,12 @@ fn wide_windows(rng: &mut Rng, function: &Function, calls: &mut Vec<Call>) {
     }
 }
 
-/// Whole ticks with windows around 1,023, from where the one-average rule has another form, and with cells of few bars.
+/// Whole ticks with long windows and with cells of few bars: around 720, and around 1,023, from where the one-average
+/// rule has another form.
 fn ticks_of_long_windows(rng: &mut Rng, function: &Function, calls: &mut Vec<Call>) {
-    for n in [1_022, 1_023, 1_025].into_iter().filter(|_| function.roles.contains(&Role::Window)) {
+    for n in within_limit(&[363, 719, 720, 1_022, 1_023, 1_025]).filter(|_| function.has_window()) {
         for more in [0, 1, 20, 41] {
-            let series = (0..function.series).map(|_| walk(rng, 2 * n - 1 + more)).collect();
+            let series = function.series.iter().map(|_| walk(rng, 2 * n - 1 + more)).collect();
             calls.push(function.call(series, with_windows(function, n)));
         }
     }
@@ -272,7 +282,7 @@ fn zeros_first(rng: &mut Rng, function: &Function, calls: &mut Vec<Call>) {
     for (n, zeros) in [2, 5, 13, 14, 30].into_iter().flat_map(|n| [n - 1, n, n + 1, 2 * n + 3].map(|zeros| (n, zeros)))
     {
         for more in [3 * n, 3 * n + 1] {
-            let mut series: Vec<Vec<f64>> = (0..function.series).map(|_| walk(rng, zeros + more)).collect();
+            let mut series: Vec<Vec<f64>> = function.series.iter().map(|_| walk(rng, zeros + more)).collect();
             series.iter_mut().for_each(|series| series[..zeros].fill(0.0));
             calls.push(function.call(series, with_windows(function, n)));
         }
@@ -286,7 +296,7 @@ fn multiples(rng: &mut Rng, function: &Function, calls: &mut Vec<Call>) {
             for n in [2, 3, 5] {
                 let mut parameters = with_windows(function, n);
                 parameters[place] = Value::Real(multiple);
-                let series = (0..function.series).map(|_| large(rng, 40)).collect();
+                let series = function.series.iter().map(|_| large(rng, 40)).collect();
                 calls.push(function.call(series, parameters));
             }
         }
@@ -295,7 +305,7 @@ fn multiples(rng: &mut Rng, function: &Function, calls: &mut Vec<Call>) {
 
 /// Windows around those from which running sums decide, on hundredths with prices at their average or near it.
 fn at_the_average(rng: &mut Rng, function: &Function, calls: &mut Vec<Call>) {
-    if function.series == 1 && function.domain == Domain::Accepted {
+    if function.series.len() == 1 && function.domain == Domain::Accepted {
         for n in [24, 39, 40, 41, 60, 100, 250] {
             for series in near_ties(rng, 3 * n + 8, n) {
                 calls.push(function.call(vec![series], with_windows(function, n)));
@@ -320,7 +330,7 @@ fn long(rng: &mut Rng, function: &Function, calls: &mut Vec<Call>) {
 /// The longest series with the longest window. pure.rs sorts every window of `rolling_rank` anew, so fewer bars there.
 pub fn extreme(rng: &mut Rng, function: &Function) -> Call {
     let len = if function.name == "rolling_rank" { 3 * WINDOW_LIMIT } else { SERIES_LIMIT };
-    let series = (0..function.series).map(|_| wide(rng, function.domain, len)).collect();
+    let series = function.series.iter().map(|_| wide(rng, function.domain, len)).collect();
     function.call(series, with_windows(function, WINDOW_LIMIT))
 }
 
@@ -329,7 +339,7 @@ pub fn with_windows(function: &Function, n: usize) -> Vec<Value> {
     let mut parameters = modest(function);
     let mut window = n;
     for (value, role) in parameters.iter_mut().zip(function.roles).rev() {
-        if *role == Role::Window {
+        if role.is_window() {
             *value = Value::Count(window);
             window = window.div_ceil(2).saturating_sub(1).max(1);
         }

@@ -1,14 +1,13 @@
 //! Demand 3 of document 01 on whole ticks: what the library's cells must be by whole-number arithmetic alone.
 
-use crate::call::{Call, Kind, Value};
-use crate::catalogue::{self, Function};
+use crate::call::{Call, Value};
+use crate::catalogue::{self, Function, Role};
 use crate::generate;
-use crate::library::Lent;
-use crate::nearly::{TICK_LIMIT, nearly_averaged, nearly_equal_means, nearly_in_the_middle, window_sums};
+use crate::limits::{TICK_LIMIT, WINDOW_LIMIT};
+use crate::nearly::{nearly_averaged, nearly_equal_means, nearly_in_the_middle, window_sums};
 use crate::rng::Rng;
 
-const WINDOW_LIMIT: usize = 4_096;
-/// The largest window for which the one-average rule's sign is promised.
+/// The largest window for which document 01 promises the one-average rule's sign.
 const ONE_AVERAGE_LIMIT: usize = 720;
 const SHOWN: usize = 5;
 
@@ -66,10 +65,8 @@ pub fn run(seeds: &[u64], series: usize) -> bool {
 
 /// The cells of each output that the library gives for a call, or none where it does not answer with all its bars.
 fn cells(function: &Function, call: &Call) -> Option<Vec<Vec<u64>>> {
-    let mut outputs: Vec<Lent> = call.outputs.iter().map(|len| Lent::filled(function.kind, *len, 1)).collect();
-    let mut work = Lent::filled(Kind::F64, call.work, 2);
-    let answer = (function.library.unwrap())(call, &mut outputs, &mut work);
-    (answer.refusal == 0 && answer.count == call.bars() as u64).then(|| outputs.iter().map(Lent::words).collect())
+    let (answer, cells) = function.run(call);
+    (answer.refusal == 0 && answer.count == call.bars() as u64).then_some(cells)
 }
 
 fn of_ticks(function: &Function, ticks: &[i64], windows: &[usize]) -> Vec<f64> {
@@ -149,7 +146,7 @@ fn double(rng: &mut Rng, function: &Function, fact: &mut Fact) {
 }
 
 fn one_average(rng: &mut Rng, function: &Function, fact: &mut Fact) {
-    let n = window(rng, ONE_AVERAGE_LIMIT);
+    let n = window(rng, ONE_AVERAGE_LIMIT.min(WINDOW_LIMIT));
     let extra = rng.below(20);
     let mut ticks = ticks(rng, 2 * n - 1 + extra);
     let want = rng.between(-1, 1);
@@ -172,7 +169,7 @@ fn one_average(rng: &mut Rng, function: &Function, fact: &mut Fact) {
 
 fn middle(rng: &mut Rng, function: &Function, fact: &mut Fact) {
     let limit = if rng.one_in(40) { WINDOW_LIMIT } else { 600 };
-    let n = window(rng, limit);
+    let n = window(rng, limit.min(WINDOW_LIMIT));
     let extra = rng.below(20);
     let mut ticks = ticks(rng, 2 * n - 1 + extra);
     nearly_in_the_middle(rng, &mut ticks, n);
@@ -220,7 +217,8 @@ fn earlier_cells(rng: &mut Rng, function: &Function, fact: &mut Fact) {
         to[..shared].copy_from_slice(&from[..shared]);
     }
     // Document 01 speaks of Holt-Winters from the season's last bar on.
-    let first = if function.name == "holt_winters" { usize::from(whole.parameters[0]).saturating_sub(1) } else { 0 };
+    let season = function.values(&whole, |role| role == Role::Season).next();
+    let first = season.map_or(0, |bars: usize| bars.saturating_sub(1));
     if let (Some(a), Some(b)) = (cells(function, &whole), cells(function, &other)) {
         let differs = |bar: &usize| a.iter().zip(&b).any(|(a, b)| !function.kind.same(a[*bar], b[*bar]));
         let wrong = (first..shared).find(differs);

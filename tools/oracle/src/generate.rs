@@ -2,11 +2,9 @@
 
 use crate::call::{Call, Value};
 use crate::catalogue::{Function, Role};
+use crate::limits::{PERIOD_LIMIT, WINDOW_LIMIT};
 use crate::rng::Rng;
 use crate::series::{bars, damage, series};
-
-pub const WINDOW_LIMIT: usize = 4_096;
-pub const PERIOD_LIMIT: usize = 512;
 
 pub const ODD_WINDOWS: &[usize] =
     &[0, WINDOW_LIMIT - 1, WINDOW_LIMIT, WINDOW_LIMIT + 1, 1 << 31, 1 << 32, 1 << 63, usize::MAX];
@@ -78,7 +76,7 @@ fn real(rng: &mut Rng, usual: f64) -> f64 {
 
 fn parameter(rng: &mut Rng, role: Role, len: usize) -> Value {
     match role {
-        Role::Window => Value::Count(window(rng, len)),
+        Role::Window | Role::Season => Value::Count(window(rng, len)),
         Role::WholePeriod => Value::Count(whole_period(rng, len)),
         Role::Period => Value::Real(match rng.below(100) {
             0..90 => rng.below(PERIOD_LIMIT + 1) as f64,
@@ -105,31 +103,42 @@ fn parameter(rng: &mut Rng, role: Role, len: usize) -> Value {
 fn parameters(rng: &mut Rng, function: &Function, len: usize) -> Vec<Value> {
     let mut values: Vec<Value> = function.roles.iter().map(|role| parameter(rng, *role, len)).collect();
     if function.rising && !rng.one_in(8) {
-        rise(&mut values);
+        rise(function, &mut values);
     }
-    if function.roles.contains(&Role::Level) && !rng.one_in(3) {
+    if function.places(Role::is_level).next().is_some() && !rng.one_in(3) {
         let (upper, lower) = (rng.between(50, 80) as f64, rng.between(20, 50) as f64);
         let exit = rng.pick(&[50.0, 45.0, 55.0, upper, lower]);
-        values.splice(1.., [upper, lower, exit].map(Value::Real));
+        put(function, &mut values, Role::is_level, [upper, lower, exit].map(Value::Real));
     }
     values
 }
 
-/// Sorts windows, and moves each that is not above the one before it to just above.
-fn rise(windows: &mut [Value]) {
-    windows.sort_by_key(|window| usize::from(*window));
-    for place in 1..windows.len() {
-        let least = usize::from(windows[place - 1]).saturating_add(1);
-        windows[place] = Value::Count(usize::from(windows[place]).max(least));
-    }
+/// Puts values in the places of the parameters whose role is as asked.
+pub fn put(
+    function: &Function,
+    parameters: &mut [Value],
+    asked: fn(Role) -> bool,
+    values: impl IntoIterator<Item = Value>,
+) {
+    function.places(asked).zip(values).for_each(|(place, value)| parameters[place] = value);
 }
 
-/// A call with enough room and nothing damaged.
+/// Sorts the windows, and moves each that is not above the one before it to just above.
+fn rise(function: &Function, parameters: &mut [Value]) {
+    let mut windows: Vec<usize> = function.places(Role::is_window).map(|place| parameters[place].into()).collect();
+    windows.sort();
+    for place in 1..windows.len() {
+        windows[place] = windows[place].max(windows[place - 1].saturating_add(1));
+    }
+    put(function, parameters, Role::is_window, windows.into_iter().map(Value::Count));
+}
+
+/// A call with enough room and nothing damaged; of several series half are bars as a market has them.
 pub fn plain(rng: &mut Rng, function: &Function, len: usize, parameters: Vec<Value>) -> Call {
-    let series = if function.series == 3 && rng.one_in(2) {
-        bars(rng, function.domain, len)
+    let series = if function.series.len() > 1 && rng.one_in(2) {
+        bars(rng, function, len)
     } else {
-        (0..function.series).map(|_| series(rng, function.domain, len)).collect()
+        function.series.iter().map(|_| series(rng, function.domain, len)).collect()
     };
     function.call(series, parameters)
 }
@@ -140,11 +149,11 @@ pub fn random(rng: &mut Rng, function: &Function) -> Call {
     let parameters = parameters(rng, function, len);
     let mut call = plain(rng, function, len, parameters);
     if rng.one_in(10) {
-        let place = rng.below(function.series);
+        let place = rng.below(function.series.len());
         damage(rng, &mut call.series[place]);
     }
-    if function.series > 1 && rng.one_in(16) {
-        let place = rng.below(function.series);
+    if function.series.len() > 1 && rng.one_in(16) {
+        let place = rng.below(function.series.len());
         let other = length(rng);
         call.series[place].resize(other, 1.0);
     }

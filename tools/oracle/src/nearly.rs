@@ -1,8 +1,7 @@
 //! Whole ticks changed so that a rule has a tie at the last bar, or misses it by one.
 
+use crate::limits::TICK_LIMIT;
 use crate::rng::Rng;
-
-pub const TICK_LIMIT: i64 = 16_777_216;
 
 /// The sum of the last n at each bar from n-1 on, at place bar - (n-1).
 pub fn window_sums(ticks: &[i64], n: usize) -> Vec<i128> {

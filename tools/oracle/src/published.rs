@@ -2,8 +2,9 @@
 //! them. All are of StockCharts' ChartSchool: "Moving Averages - Simple and Exponential" (10 days), "Relative Strength
 //! Index (RSI)" (14 days) and "Average True Range (ATR)" (the column of true ranges).
 
-use crate::call::{Call, Value};
+use crate::call::Call;
 use crate::catalogue::Function;
+use crate::edges::{modest, with_windows};
 use crate::source;
 
 /// Half of a figure's last digit, and a little for the sum's own rounding.
@@ -63,7 +64,8 @@ pub fn call(function: &Function) -> Option<Call> {
     };
     let bars = series[0].len();
     let series = series.into_iter().map(<[f64]>::to_vec).collect();
-    let call = function.call(series, window.map(Value::Count).into_iter().collect());
+    let parameters = window.map_or_else(|| modest(function), |n| with_windows(function, n));
+    let call = function.call(series, parameters);
     let cells = source::expected(function, &call).cells.remove(0);
     let last = &cells[bars - figures.len()..];
     let same = last.iter().zip(figures).all(|(cell, figure)| (f64::from_bits(*cell) - figure).abs() <= tolerance);

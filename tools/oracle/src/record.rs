@@ -4,10 +4,11 @@
 use crate::call::{Call, Kind, Value};
 use crate::catalogue::{self, Function, Role};
 use crate::edges::{edge_values, modest, with_windows};
-use crate::generate::{self, PERIOD_LIMIT, WINDOW_LIMIT, plain};
+use crate::generate::{self, plain};
+use crate::limits::{PERIOD_LIMIT, SERIES_LIMIT, WINDOW_LIMIT};
 use crate::published;
 use crate::rng::Rng;
-use crate::series::{DAMAGED, SERIES_LIMIT};
+use crate::series::DAMAGED;
 use crate::source;
 
 /// The longest series that is written out.
@@ -89,7 +90,7 @@ fn short_edges(rng: &mut Rng, function: &Function) -> Vec<Call> {
     }
     for (place, odd) in DAMAGED.iter().enumerate() {
         let mut call = plain(rng, function, LEN, modest(function));
-        call.series[place % function.series][place % LEN] = *odd;
+        call.series[place % function.series.len()][place % LEN] = *odd;
         calls.push(call);
     }
     let full = plain(rng, function, LEN, modest(function));
@@ -103,7 +104,7 @@ fn short_edges(rng: &mut Rng, function: &Function) -> Vec<Call> {
     if function.work {
         calls.extend([full.work - 1, full.work + 3].map(|work| Call { work, ..full.clone() }));
     }
-    for place in 1..function.series {
+    for place in 1..function.series.len() {
         let mut call = full.clone();
         call.series[place].pop();
         calls.push(call);
@@ -115,11 +116,11 @@ fn short_edges(rng: &mut Rng, function: &Function) -> Vec<Call> {
 /// all its means; the longest smoother period and one above it.
 fn long(function: &Function) -> Vec<Call> {
     let call = |bars: usize, parameters: Vec<Value>| {
-        let line = (0..function.series).map(|place| by_rule(place, bars)).collect();
+        let line = (0..function.series.len()).map(|place| by_rule(place, bars)).collect();
         function.call(line, parameters)
     };
     let mut calls: Vec<Call> = [SERIES_LIMIT, SERIES_LIMIT + 1].map(|bars| call(bars, modest(function))).into();
-    if function.roles.contains(&Role::Window) {
+    if function.has_window() {
         calls.extend([0, 1].map(|more| call(2 * WINDOW_LIMIT + 8, with_windows(function, WINDOW_LIMIT + more))));
     }
     for (place, role) in function.roles.iter().enumerate() {

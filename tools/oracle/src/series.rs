@@ -1,11 +1,8 @@
 //! Series to try: values that are accepted, of many shapes, and values at and beyond the edges of refusal 5.
 
-use crate::catalogue::Domain;
+use crate::catalogue::{Domain, Function, Line};
+use crate::limits::{SERIES_LIMIT, TICK_LIMIT, VALUE_LIMIT};
 use crate::rng::Rng;
-
-pub const SERIES_LIMIT: usize = 65_536;
-const TICK_LIMIT: i64 = 16_777_216;
-const VALUE_LIMIT: f64 = 1_073_741_824.0;
 
 /// Values at and beyond the edges of refusal 5; the first few are accepted by some functions.
 pub const DAMAGED: &[f64] = &[
@@ -181,13 +178,23 @@ pub fn within_limits(x: f64) -> f64 {
     x.clamp(-VALUE_LIMIT, VALUE_LIMIT) + 0.0
 }
 
-/// High, low and close of bars as a market has them: the close lies between the others, often on one of them.
-pub fn bars(rng: &mut Rng, domain: Domain, len: usize) -> Vec<Vec<f64>> {
-    let close = series(rng, domain, len);
-    let unit = rng.pick(&[0.0, 1e-8, 0.01, 1.0, 1.0, 40.0]);
-    let mut beside =
-        |unit: f64| -> Vec<f64> { close.iter().map(|x| within_limits(x + unit * rng.below(4) as f64)).collect() };
-    vec![beside(unit), beside(-unit), close]
+/// The series of bars as a market has them: the close lies between low and high, often on one of them.
+pub fn bars(rng: &mut Rng, function: &Function, len: usize) -> Vec<Vec<f64>> {
+    let close = series(rng, function.domain, len);
+    let (units, limit): (&[f64], f64) = match function.domain {
+        Domain::Accepted => (&[0.0, 1e-8, 0.01, 1.0, 1.0, 40.0], VALUE_LIMIT),
+        Domain::WholeTicks => (&[0.0, 1.0, 1.0, 40.0], TICK_LIMIT as f64),
+    };
+    let unit = rng.pick(units);
+    let mut beside = |unit: f64| -> Vec<f64> {
+        close.iter().map(|x| (x + unit * rng.below(4) as f64).clamp(-limit, limit) + 0.0).collect()
+    };
+    let line = |line: &Line| match line {
+        Line::High => beside(unit),
+        Line::Low => beside(-unit),
+        Line::Price | Line::CloseBefore => close.clone(),
+    };
+    function.series.iter().map(line).collect()
 }
 
 /// Puts one to three odd values into a series.

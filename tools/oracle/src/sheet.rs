@@ -3,7 +3,7 @@
 use std::io::{BufRead, Read, Result, Write};
 
 use crate::call::Value;
-use crate::catalogue::{self, Function};
+use crate::catalogue::{self, Function, Role};
 use crate::source;
 
 const HEADER: &[usize] = &[4, 4, 6, 6, 6];
@@ -36,8 +36,8 @@ pub fn run(mut input: impl BufRead, mut output: impl Write) -> Result<()> {
 /// Prints the answer of one request, and gives 1 if it is refused.
 fn answer(request: Request, output: &mut impl Write) -> Result<usize> {
     let function = rule(request.rule).expect("the rule was read");
-    let windows = [request.n, request.m];
-    let parameters = windows.iter().take(function.roles.len()).map(|n| Value::Count(*n)).collect();
+    let windows = [request.n, request.m].map(Value::Count);
+    let parameters = function.places(Role::is_window).zip(windows).map(|(_, window)| window).collect();
     let call = function.call(vec![request.prices], parameters);
     let expected = source::expected(function, &call);
     print_head(output, request.desk, request.rule, expected.answer.refusal, expected.answer.count)?;

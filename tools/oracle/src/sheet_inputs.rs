@@ -1,5 +1,6 @@
 //! Inputs for the sheet program: good ones, ones at each edge, and damaged ones.
 
+use crate::limits::WINDOW_LIMIT;
 use crate::rng::Rng;
 
 /// Document 01's example.
@@ -13,12 +14,17 @@ fn lines(prices: impl Iterator<Item = i64>) -> String {
     prices.map(|price| format!("{price:12}\n")).collect()
 }
 
+/// A desk: mostly one of the sixteen, else one beside them or of four columns.
+fn desk(rng: &mut Rng) -> usize {
+    if rng.one_in(12) { rng.pick(&[0, 17, 9_999]) } else { 1 + rng.below(16) }
+}
+
 /// A request with this many bars of a walk of ticks, and windows that mostly fit.
 pub fn request(rng: &mut Rng, bars: usize) -> String {
     let rule = 1 + rng.below(3);
     let n = rng.below(bars / 2 + 2);
     let m = n + rng.below(bars / 2 + 3);
-    let desk = rng.below(10_000);
+    let desk = desk(rng);
     let spread = rng.pick(&[0, 1, 3, 100]);
     let mut price = rng.between(-300, 300);
     let mut step = |_| {
@@ -68,11 +74,11 @@ pub fn edges(rng: &mut Rng) -> Vec<Vec<u8>> {
         (1, 2, 5, 0, 4),
         (1, 2, 3, 3, 4),
         (1, 2, 4, 3, 4),
-        (1, 2, 1, 4096, 4),
-        (1, 2, 1, 4097, 4),
+        (1, 2, 1, WINDOW_LIMIT, 4),
+        (1, 2, 1, WINDOW_LIMIT + 1, 4),
         (1, 2, 999_999, 999_999, 4),
-        (1, 1, 4096, 999_999, 4),
-        (1, 1, 4097, 0, 4),
+        (1, 1, WINDOW_LIMIT, 999_999, 4),
+        (1, 1, WINDOW_LIMIT + 1, 0, 4),
         (1, 3, 999_999, 0, 0),
         (1, 3, 0, 0, 4),
         (1, 4, 1, 2, 4),
@@ -83,6 +89,9 @@ pub fn edges(rng: &mut Rng) -> Vec<Vec<u8>> {
         (1, 3, 257, 0, 512),
         (1, 2, 511, 512, 512),
         (1, 1, 2, 0, 999_999),
+        (16, 1, 2, 0, 3),
+        (17, 1, 2, 0, 3),
+        (17, 3, 999_999, 0, 3),
     ] {
         let text = header(desk, rule, n, m, bars) + &lines((0..bars.min(600) as i64).map(|_| rng.between(-9, 9)));
         texts.push(text.clone());

@@ -12,7 +12,6 @@ const LARGEST_TICK: f64 = 16_777_216.0;
 /// The first refusal that applies, the empty answer between 7 and 8, or as many cells as bars.
 pub fn answer(function: &Function, call: &Call) -> Answer {
     let bars = call.bars();
-    let whole: Vec<usize> = whole_parameters(call).collect();
     if call.series.iter().any(|s| s.len() > LONGEST_SERIES) {
         return Answer::refused(1);
     }
@@ -28,19 +27,19 @@ pub fn answer(function: &Function, call: &Call) -> Answer {
     if !call.series.iter().flatten().all(|x| accepted(function.domain, *x)) {
         return Answer::refused(5);
     }
-    if real_parameters(call).any(|x| !x.is_finite()) {
+    if function.values(call, Role::is_f64_parameter).any(|x: f64| !x.is_finite()) {
         return Answer::refused(6);
     }
     if function.roles.iter().zip(&call.parameters).any(|(role, value)| too_long(*role, *value)) {
         return Answer::refused(7);
     }
-    if is_empty(function.name, bars, &whole) {
+    if is_empty(function, call) {
         return Answer::cells(0);
     }
-    if has_too_few_bars(function.name, bars, &whole) {
+    if has_too_few_bars(function, call) {
         return Answer::refused(8);
     }
-    if function.rising && !whole.is_sorted_by(|n, m| n < m) {
+    if function.rising && !function.values(call, Role::is_window).is_sorted_by(|n: &usize, m| n < m) {
         return Answer::refused(9);
     }
     Answer::cells(bars)
@@ -49,21 +48,6 @@ pub fn answer(function: &Function, call: &Call) -> Answer {
 /// How many work cells hold +0.0 after a call that was not refused.
 pub fn cleared(function: &Function, call: &Call, answer: Answer) -> usize {
     if answer.refusal == 0 { function.work_for(call.bars()) } else { 0 }
-}
-
-/// The integer parameters in order: windows and smoother periods.
-fn whole_parameters(call: &Call) -> impl Iterator<Item = usize> {
-    call.parameters.iter().filter_map(|value| match value {
-        Value::Count(n) => Some(*n),
-        Value::Real(_) => None,
-    })
-}
-
-fn real_parameters(call: &Call) -> impl Iterator<Item = f64> {
-    call.parameters.iter().filter_map(|value| match value {
-        Value::Real(x) => Some(*x),
-        Value::Count(_) => None,
-    })
 }
 
 /// Refusal 5 is for the values that are not accepted.
@@ -79,7 +63,7 @@ fn accepted(domain: Domain, x: f64) -> bool {
 /// Refusal 7. A period of -0.0 is the whole number 0.
 fn too_long(role: Role, value: Value) -> bool {
     match role {
-        Role::Window => usize::from(value) > LONGEST_WINDOW,
+        Role::Window | Role::Season => usize::from(value) > LONGEST_WINDOW,
         Role::WholePeriod => usize::from(value) > LONGEST_PERIOD,
         Role::Period => {
             let period = f64::from(value);
@@ -90,21 +74,26 @@ fn too_long(role: Role, value: Value) -> bool {
 }
 
 /// The empty answer. A window of 0 is none for `rolling_rank`; the period of `ultimate_smoother` is not an integer.
-fn is_empty(name: &str, bars: usize, whole: &[usize]) -> bool {
-    let a_zero = name != "rolling_rank" && whole.contains(&0);
-    let a_part = match name {
-        "holt_winters" => whole[0] > bars,
-        "ultimate_bands" => bars < whole[0],
+fn is_empty(function: &Function, call: &Call) -> bool {
+    let bars = call.bars();
+    let a_zero = function.name != "rolling_rank" && counts(function, call).contains(&0);
+    let a_part = match function.name {
+        "holt_winters" | "ultimate_bands" => counts(function, call)[0] > bars,
         _ => false,
     };
     bars == 0 || a_zero || a_part
 }
 
 /// Refusal 8.
-fn has_too_few_bars(name: &str, bars: usize, whole: &[usize]) -> bool {
-    match name {
-        "triple_sma_positions" => whole[2] > bars,
-        "ultimate_channel" => whole[0] > bars + 1,
+fn has_too_few_bars(function: &Function, call: &Call) -> bool {
+    match function.name {
+        "triple_sma_positions" => counts(function, call)[2] > call.bars(),
+        "ultimate_channel" => counts(function, call)[0] > call.bars() + 1,
         _ => false,
     }
+}
+
+/// The parameters that count bars, in order: windows, the season and integer smoother periods.
+fn counts(function: &Function, call: &Call) -> Vec<usize> {
+    function.values(call, Role::counts_bars).collect()
 }

@@ -1,8 +1,9 @@
 //! Calls on which a rule has ties that rounding decides, or misses them by the last digit of a price.
 
 use crate::call::{Call, Value};
-use crate::catalogue::{Domain, Function, Role};
+use crate::catalogue::{Domain, Function, Line, Role};
 use crate::edges::with_windows;
+use crate::limits::within_limit;
 use crate::nearly::nearly_averaged;
 use crate::rng::Rng;
 use crate::series::{series, within_limits};
@@ -15,7 +16,10 @@ pub fn ties(rng: &mut Rng, function: &Function, calls: &mut Vec<Call>) {
     if function.name == "single_sma_positions" {
         averaged(rng, function, calls);
     }
-    if function.name.ends_with("_positions") || function.name == "rolling_rank" {
+    if function.name == "rank_positions" {
+        half_ranks(function, calls);
+    }
+    if function.series.len() == 1 && (function.name.ends_with("_positions") || function.name == "rolling_rank") {
         at_changes(rng, function, calls);
     }
 }
@@ -44,15 +48,19 @@ const SCALES: &[(i64, f64)] = &[
     ((1 << 53) - (1 << 20), (1 << 23) as f64),
 ];
 
-/// Each pattern in each scale, as it is and with the sign turned at every second bar, so that sums are near 0. Of three
-/// series the first is a unit higher and the second a unit lower than the third.
+/// Each pattern in each scale, as it is and with the sign turned at every second bar, so that sums are near 0. Highs are
+/// a unit higher and lows a unit lower.
 fn patterns(function: &Function, calls: &mut Vec<Call>) {
     for (n, turned) in [24, 60, 250].into_iter().flat_map(|n| [(n, false), (n, true)]) {
         for ((level, one), pattern) in SCALES.iter().flat_map(|scale| PATTERNS.iter().map(move |p| (scale, p))) {
             let units = |bar: i64| (level + pattern(bar)) * if turned && bar % 2 == 1 { -1 } else { 1 };
             let line = |more: i64| (0..2 * n + 21).map(|bar| (units(bar) + more) as f64 / one).collect();
-            let beside = if function.series == 3 { &[1, -1, 0][..] } else { &[0] };
-            let series = beside.iter().map(|more| line(*more)).collect();
+            let of = |series: &Line| match series {
+                Line::High => line(1),
+                Line::Low => line(-1),
+                Line::Price | Line::CloseBefore => line(0),
+            };
+            let series = function.series.iter().map(of).collect();
             calls.push(function.call(series, with_windows(function, n as usize)));
         }
     }
@@ -61,8 +69,8 @@ fn patterns(function: &Function, calls: &mut Vec<Call>) {
 /// Whole ticks and hundredths in which at a bar n² times the price is the sum D of the window sums, or one beside it; the
 /// bar is the last, or others follow.
 fn averaged(rng: &mut Rng, function: &Function, calls: &mut Vec<Call>) {
-    let windows = [13, 14, 15, 24, 60, 250, 1_022, 1_023, 2_000];
-    for (n, want) in windows.into_iter().flat_map(|n| [-1, 0, 1].map(|want| (n, want))) {
+    let windows = within_limit(&[13, 14, 15, 24, 60, 250, 363, 719, 720, 1_022, 1_023, 2_000]);
+    for (n, want) in windows.flat_map(|n| [-1, 0, 1].map(|want| (n, want))) {
         for (one, after) in [(1.0, 0), (1.0, 12), (100.0, 0), (100.0, 12)] {
             let level = rng.between(-30_000, 30_000);
             let mut ticks: Vec<i64> = (0..2 * n + 3).map(|_| level + rng.between(-50, 50)).collect();
@@ -74,6 +82,19 @@ fn averaged(rng: &mut Rng, function: &Function, calls: &mut Vec<Call>) {
     }
 }
 
+/// Ranks whose hundredfold lies in the middle of two whole numbers, or would but for rounding: from n 17 on, where 1 of
+/// 16 means below gives -87.5, to n 401, where 199 of 400 give a number next to -0.5. After n prices of 0 come n-2 of 1,
+/// so that the window sums rise from 0 by 1, and then a price that takes the sum to the count of those below it.
+fn half_ranks(function: &Function, calls: &mut Vec<Call>) {
+    let is_half = |n: usize, below: usize| 400 * below % (n - 1) == 0 && 400 * below / (n - 1) % 2 == 1;
+    let pairs = (2..=401).flat_map(|n| (0..n).filter(move |below| is_half(n, *below)).map(move |below| (n, below)));
+    for (n, below) in pairs {
+        let last = below as f64 - (n - 2) as f64;
+        let series = [vec![0.0; n], vec![1.0; n - 2], vec![last, 2.0, 0.5]].concat();
+        calls.push(function.call(vec![series], with_windows(function, n)));
+    }
+}
+
 /// Rules whose averages of averages may be taken by running sums, which round otherwise than sums afresh.
 const AVERAGED_TWICE: &[&str] = &["single_sma_positions", "single_ema_positions", "triple_sma_positions"];
 
@@ -82,7 +103,8 @@ const AVERAGED_TWICE: &[&str] = &["single_sma_positions", "single_ema_positions"
 fn at_changes(rng: &mut Rng, function: &Function, calls: &mut Vec<Call>) {
     let mut windows = vec![(2, 8), (3, 8), (5, 8), (13, 6), (24, 6), (60, 4), (250, 1)];
     if AVERAGED_TWICE.contains(&function.name) {
-        windows.extend([(60, 24), (250, 6), (1_100, 2)]);
+        windows.extend([(60, 24), (250, 6)]);
+        windows.extend(within_limit(&[720, 1_100]).map(|n| (n, 2)));
     }
     for (n, times) in windows {
         for turn in 0..times {

@@ -7,7 +7,7 @@ use lib.Ieee.{ofBits, div}
 use Rattle.cells.specs.Line.{line}
 use Rattle.windows.specs.Window.{mean}
 use Rattle.windows.proofs.Window.{count-is-float}
-use Rattle.rules_rsi.proofs.Index.{index-is, too-few, none-needed}
+use Rattle.rules_rsi.proofs.Index.{changes-before, index-is, too-few, none-needed}
 use Rattle.rules_rsi.proofs.Rows.{either-gains, either-losses, sum-at}
 use Rattle.rules_rsi.proofs.bar.index_at.Statement.{statement}
 use Rattle.rules_rsi.proofs.bar.index_at.Tie as tie
@@ -37,12 +37,16 @@ index-at-spec =
     (λ c. unfold ofBits in none-needed _ _ _ (omega arith) (omega arith))  -- returns-2
     (λ c. search needs)  -- add-sum-at
     (λ c. search needs)  -- sub-sum-at
-    (λ c κs. search needs)  -- sum-at-requires
+    -- sum-at-requires
+    (λ c κs. let a = c .before .before .before .before .before .args in search (needs, changes-before (a .n) (a .i)))
     (λ c. search needs)  -- mul-sum-at
     (λ c. search needs)  -- add-sum-at-2
     (λ c. search needs)  -- sub-sum-at-2
-    (λ c κs. search needs)  -- sum-at-requires-2
-    (λ c. count-is-float _ (omega arith))  -- int-to-float-index-by
+    -- sum-at-requires-2
+    (λ c κs. let a = c .before .before .before .before .before .before .args in
+    search (needs, changes-before (a .n) (a .i)))
+    (λ c. let a = c .before .before .before .before .before .before .before .before .args in
+    count-is-float _ (omega (arith, changes-before (a .n) (a .i))))  -- int-to-float-index-by
     (λ c κs. search needs)  -- index-by-requires
     returns-3
     )

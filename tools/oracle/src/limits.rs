@@ -1,0 +1,17 @@
+//! The limits of document 01 for the calls that are made here. table.rs, which says what is refused, has its own.
+
+/// The longest series.
+pub const SERIES_LIMIT: usize = 65_536;
+/// The longest window.
+pub const WINDOW_LIMIT: usize = 4_096;
+/// The longest smoother period.
+pub const PERIOD_LIMIT: usize = 512;
+/// The largest value that is accepted.
+pub const VALUE_LIMIT: f64 = 1_073_741_824.0;
+/// The largest whole tick.
+pub const TICK_LIMIT: i64 = 16_777_216;
+
+/// Those of the windows that are not above the limit.
+pub fn within_limit(windows: &[usize]) -> impl Iterator<Item = usize> {
+    windows.iter().copied().filter(|n| *n <= WINDOW_LIMIT)
+}
