@@ -1,6 +1,6 @@
 /*
  * The sheet program's main: how the program is used, and its exit status. What it reads, answers and writes is
- * `tegbalowu_sheet`, which is proved (crates/sheet_exit) and answers 0 only where all was read and all was written.
+ * `tegbalowu_sheet`, which is proved (crates/sheet_run) and answers 0 only where all was read and all was written.
  *
  * tools/sheet/build compiles this with the toolchain's compiler, which has no headers, so the functions and the
  * numbers of the C library of x86-64 Linux are declared here.

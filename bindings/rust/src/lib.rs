@@ -32,6 +32,9 @@ mod refusal;
 
 pub use refusal::Refusal;
 
+/// The bytes of output that [`sheet_text`] may need beyond one for each byte of its input: enough for every input.
+pub const SHEET_ROOM: usize = 32;
+
 /// A work slice for a series of so many bars: 8 cells for each.
 pub fn work_for(bars: usize) -> Vec<f64> {
     vec![0.0; 8 * bars]
@@ -54,15 +57,21 @@ impl Answer {
     }
 }
 
+/// The type of an input's values: f64 where none is named.
+macro_rules! value {
+    () => { f64 };
+    ($of:ty) => { $of };
+}
+
 /// Declares the C functions and makes the safe ones. An entry has the C name and the Rust name, then the series, the
 /// parameters, the outputs with the type of their cells, and the work slice where there is one.
 macro_rules! functions {
     ($($(#[$words:meta])* $symbol:ident $name:ident(
-        $($series:ident),+; $($parameter:ident: $of:ty),*; $($output:ident: $cell:ty),+ $(; $work:ident)?
+        $($series:ident $(: $value:ty)?),+; $($parameter:ident: $of:ty),*; $($output:ident: $cell:ty),+ $(; $work:ident)?
     );)*) => {
         unsafe extern "C" {
             $(fn $symbol(
-                $($series: *const f64, _: usize,)+
+                $($series: *const value!($($value)?), _: usize,)+
                 $($parameter: $of,)*
                 $($output: *mut $cell, _: usize,)+
                 $($work: *mut f64, _: usize,)?
@@ -72,7 +81,7 @@ macro_rules! functions {
         $($(#[$words])*
         #[inline]
         pub fn $name(
-            $($series: &[f64],)+
+            $($series: &[value!($($value)?)],)+
             $($parameter: $of,)*
             $($output: &mut [$cell],)+
             $($work: &mut [f64],)?
@@ -279,4 +288,16 @@ functions! {
     /// assert_eq!(out, [0, 1, 2]);
     /// ```
     tegbalowu_rolling_rank rolling_rank(series; window: usize; out: u64; work);
+
+    /// The sheet of the input: what the program `sheet` writes for these bytes, any bytes. The output's first bytes,
+    /// as many as the count, are the whole sheet, refused requests and broken lines included. Refusal 3 where the
+    /// output is shorter than `input.len() + SHEET_ROOM`.
+    ///
+    /// ```
+    /// let input = b"   7   2     1     2     2\n          10\n          12\n";
+    /// let mut out = vec![0; input.len() + tegbalowu::SHEET_ROOM];
+    /// let count = tegbalowu::sheet_text(input, &mut out).unwrap();
+    /// assert_eq!(&out[..count], b"   7   2   0     2\n   0\n   1\n           0\n");
+    /// ```
+    tegbalowu_sheet_text sheet_text(input: u8; ; out: u8);
 }

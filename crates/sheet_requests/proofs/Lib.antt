@@ -1,6 +1,7 @@
 pub mod Answered
 pub mod Lines
 pub mod Prices
+pub mod Short
 pub mod Steps
 pub mod Strict
 pub mod Ends

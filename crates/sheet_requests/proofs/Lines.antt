@@ -12,13 +12,8 @@ use lib.Seq.{slice, drop-drop, take-all, take-suc, take-append-le}
 use Rattle.sheet_lines.specs.Header.{columned}
 use Rattle.cells.proofs.Kept.{take-drop}
 use Rattle.sheet_requests.specs.declared.Counts.{Counts}
-use Rattle.sheet_requests.specs.inner.Place.{finally}
+use Rattle.sheet_requests.specs.inner.Place.{noFeed, finally}
 use Rattle.sheet_requests.specs.Sheet.{lengthen, lines, State, stopped, Step, broken, step, ending, outcome}
-
--- no line feed
-abbrev pub noFeed : List ℕ → Bool
-noFeed [] = true
-noFeed (b ∷ rest) = not (eqb b 10) && noFeed rest
 
 -- so many columns with no line feed among them, and then a line feed
 abbrev pub clean : ℕ → List ℕ → Bool
@@ -92,7 +87,7 @@ pub record Reader {A : Type 0} (s : State) (w : ℕ) (counts : Counts) (read : L
 module _ {A : Type 0} {s : State} {w : ℕ} {counts : Counts} {read : List ℕ → A} {then : A → Step}
     (reader : Reader s w counts read then) where
   -- an unclean first line
-  unclean : {bytes : List ℕ} (f : First bytes) (rest : List (List ℕ)) → clean w (f .first) ≡ false
+  pub unclean : {bytes : List ℕ} (f : First bytes) (rest : List (List ℕ)) → clean w (f .first) ≡ false
       → outcome s (lines bytes) ≡ finally (broken counts) rest
   unfolding outcome
   unclean f rest e =

@@ -28,8 +28,9 @@ use Rattle.sheet_lines.specs.declared.Header.the-variants.{Malformed}
 use Rattle.sheet_lines.specs.Header.{columned, given, requestOf, readHeader, readPriceLine}
 use Rattle.sheet_requests.specs.declared.Counts.{Counts}
 use Rattle.sheet_requests.specs.Sheet.{waiting, collecting, begun, priced}
+use Rattle.sheet_requests.specs.inner.Place.{noFeed}
 use Rattle.cells.proofs.Kept.{take-drop}
-use Rattle.sheet_requests.proofs.Lines.{noFeed, clean, Reader}
+use Rattle.sheet_requests.proofs.Lines.{clean, Reader}
 
 -- a line feed is no digit
 digits-fed : (digits : List ℕ) (v : ℕ) → noFeed digits ≡ false → numberAfter v digits ≡ Broken

@@ -6,17 +6,19 @@ use sheet_lines::columns::Price;
 ghost use mathlib.Core.Path.{_≡_};
 ghost use mathlib.Core.List.{List};
 ghost use Prim.Native.Nat.{_<_, _≤_, _+_, _-_};
-ghost use lib.ListN.{length};
+ghost use mathlib.Core.Bool.{false, not};
+ghost use lib.ListN.{length, drop};
 ghost use lib.Ieee.{Float};
 ghost use Rattle.sheet_lines.specs.Header.{mostBars};
 ghost use Rattle.sheet_lines.specs.Printed.{headBytes};
 ghost use Rattle.sheet_requests.specs.Sheet.{broken};
-ghost use Rattle.sheet_requests.specs.inner.Place.{beginning, due, Stepped, Ran};
+ghost use Rattle.sheet_requests.specs.inner.Place.{noFeed, beginning, due, Stepped, Ran};
 ghost use Rattle.sheet_requests.specs.inner.Taken.{textRoom, Well, Taken};
 
-// The room for text beyond a byte for each byte read: the longest answer.
+// The room for text beyond a byte for each byte read: the longest answer, and the refusal of a broken line.
 pub const TEXT_ROOM: usize = sheet_lines::text::HEAD_BYTES
-    + sheet_lines::text::POSITION_BYTES * sheet_lines::MOST_BARS;
+    + sheet_lines::text::POSITION_BYTES * sheet_lines::MOST_BARS
+    + sheet_lines::text::HEAD_BYTES;
 
 // Where a request stands: before its first line; with so many of its prices; or where a line broke its columns.
 pub enum Stage {
@@ -167,6 +169,34 @@ pub fn take_lines(place: Place, block: &[u8], series: &mut [f64], text: &mut [u8
             filled: place.filled,
         },
     }
+}
+
+// Whether a line feed is among the bytes from `at` on.
+pub fn has_feed(block: &[u8], at: usize) -> bool
+    requires { ⌜ at ≤ length (now block) ⌝ }
+    ensures { λ r. ⌜ r ≡ not (noFeed (drop at (now (block .entry)))) ⌝ }
+{
+    let mut i = at;
+    while i < block.len() {
+        if block[i] == b'\n' {
+            return true;
+        }
+        i += 1;
+    }
+    false
+}
+
+// A line that ends before its columns are there is broken.
+pub fn take_short(place: Place, block: &[u8], text: &mut [u8]) -> Place
+    requires { ⌜ (length (now block) - place .at < due (place .sheet .stage))
+        × (noFeed (drop (place .at) (now block)) ≡ false)
+        × Well (now block) place × (length (now block) + textRoom ≤ length (now text)) ⌝ }
+    ensures { λ r. ⌜ ((series : List Float)
+        → Taken (now (block .entry)) place series (now (text .entry)) r series (now (text .exit)))
+        × (r .sheet .stage ≡ Stage.Stopped) × (r .at ≡ length (now (block .entry))) ⌝ }
+{
+    let sheet = place.sheet;
+    stop(sheet.counts, block.len(), text, place.filled)
 }
 
 // How many bytes the next line has.

@@ -11,7 +11,7 @@ use Rattle.sheet_requests.specs.declared.status.Status.the-variants.{Reading, D
 use Rattle.sheet_requests.specs.Sheet.{State}
 use Rattle.sheet_requests.specs.Whole.{Reached, last}
 use Rattle.sheet_requests.specs.inner.Place.{stateOf}
-use Rattle.sheet_run.specs.inner.Block.{Fed}
+use Rattle.sheet_text.specs.inner.Block.{Fed}
 use Rattle.sheet_run.proofs.Whole.{reached-none, reached-block, reached-end}
 use Rattle.sheet_run.specs.declared.carried.Carried.{Carried}
 use Rattle.sheet_run.specs.inner.Start.{start}

@@ -12,7 +12,7 @@ use Rattle.sheet_requests.specs.declared.blocks.Place.{Place}
 use Rattle.sheet_requests.specs.declared.blocks.Sheet.{Sheet}
 use Rattle.sheet_requests.specs.Whole.{Reached}
 use Rattle.sheet_requests.specs.inner.Place.{stateOf}
-use Rattle.sheet_run.specs.inner.Block.{Fed}
+use Rattle.sheet_text.specs.inner.Block.{Fed}
 
 -- before the first byte
 pub reached-none : {state : State} → state ≡ waiting noneRefused → Reached [] [] state []

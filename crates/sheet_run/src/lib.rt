@@ -7,20 +7,14 @@ use carried::Carried;
 use input::Output;
 use sheet_lines::MOST_BARS;
 use sheet_requests::WORK_CELLS;
-use sheet_requests::blocks::Place;
-use sheet_requests::blocks::Sheet;
 use sheet_requests::blocks::TEXT_ROOM;
 use sheet_requests::status::Status;
 ghost use mathlib.Core.Path.{_≡_};
-ghost use Prim.Native.Nat.{_≤_, _+_, _-_};
+ghost use Prim.Native.Nat.{_≤_, _-_};
 ghost use lib.ListN.{length};
-ghost use Rattle.sheet_requests.specs.inner.Place.{Sound};
-ghost use Rattle.sheet_requests.specs.inner.Lent.{Lent};
-ghost use Rattle.sheet_requests.specs.inner.Taken.{textRoom};
 ghost use Rattle.sheet_requests.specs.inner.Finished.{cutBytes, Finished};
 ghost use Rattle.sheet_run.specs.inner.Stands.{statusOf};
 ghost use Rattle.sheet_run.specs.Run.{Ran, Exits};
-ghost use Rattle.sheet_run.specs.inner.Block.{Fed};
 ghost use Rattle.sheet_run.specs.inner.Buffers.{Buffers};
 ghost use Rattle.sheet_run.specs.inner.Turn.{Carrying, Turned};
 
@@ -28,32 +22,6 @@ ghost use Rattle.sheet_run.specs.inner.Turn.{Carrying, Turned};
 const BLOCK_BYTES: usize = 65536;
 
 const TEXT_BYTES: usize = BLOCK_BYTES + TEXT_ROOM;
-
-// Reads a block as far as its bytes make whole lines, and prints the answers from the start of the text on.
-fn feed(
-    sheet: Sheet,
-    block: &[u8],
-    series: &mut [f64],
-    out: &mut [f64],
-    work: &mut [f64],
-    text: &mut [u8],
-) -> Place
-    requires { ⌜ Sound (sheet .stage) × Lent (now series) (now out) (now work)
-        × (length (now block) + textRoom ≤ length (now text)) ⌝ }
-    ensures { λ r. ⌜ Fed sheet (now (block .entry)) (now (series .entry)) r (now (series .exit)) (now (text .exit))
-        × (now (work .exit) ≡ now (work .entry)) ⌝ }
-{
-    let mut place = Place {
-        sheet: sheet,
-        at: 0,
-        filled: 0,
-    };
-    while sheet_requests::blocks::wanted(place) <= block.len() - place.at {
-        let read = sheet_requests::blocks::take_lines(place, block, series, text);
-        place = sheet_requests::answers::gather(read, series, out, work, text);
-    }
-    place
-}
 
 // Moves the bytes that are left to the front of the block, reads
 // once behind them, feeds them all, and writes the answers.
@@ -74,7 +42,7 @@ fn turn(
     let read = input::refill(block, place.at, carried.end);
     let end = read.end;
     let input = read.input;
-    let next = feed(place.sheet, &block[..end], series, out, work, text);
+    let next = sheet_text::feed(place.sheet, &block[..end], series, out, work, text);
     let output = input::write_text(text, next.filled);
     Carried {
         place: next,

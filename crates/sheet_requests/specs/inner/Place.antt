@@ -1,9 +1,10 @@
 -- Where a request stands in a block of bytes, in the program's numbers
 -- and buffers, and what reading its prices promises. Assumes nothing.
 use mathlib.Core.Path.{_≡_}
-use mathlib.Core.Bool.{true, cond}
-use mathlib.Core.List.{List, [], _++_}
+use mathlib.Core.Bool.{Bool, true, not, cond, _&&_}
+use mathlib.Core.List.{List, [], _∷_, _++_}
 use Prim.Native.Nat.{ℕ, _+_, _-_, _*_, _<_, _≤_}
+use lib.Dec.{eqb}
 use lib.ListN.{length, take, drop}
 use lib.Ieee.{Float}
 use Rattle.sheet_lines.specs.inner.Adds.{Adds}
@@ -18,6 +19,11 @@ use Rattle.sheet_requests.specs.declared.blocks.Sheet.{Sheet}
 use Rattle.sheet_requests.specs.declared.blocks.Place.{Place}
 use Rattle.sheet_requests.specs.declared.blocks.Run.{Run}
 use Rattle.sheet_requests.specs.Sheet.{State, waiting, collecting, stopped, Step, broken, gathered, lines, outcome}
+
+-- no line feed
+abbrev pub noFeed : List ℕ → Bool
+noFeed [] = true
+noFeed (b ∷ rest) = not (eqb b 10) && noFeed rest
 
 -- the state that a stage stands for, with the counts and the prices that lie in the series
 abbrev pub stateOf : Stage → Counts → List Float → State
@@ -35,10 +41,10 @@ due Waiting = 27
 due (Collecting r got) = 13
 due Stopped = 1
 
--- how many bytes are to be printed for what was read
+-- how many bytes are to be printed for what was read, and for a line that may be broken
 abbrev pub owed : Stage → ℕ
-owed Waiting = 0
-owed (Collecting r got) = headBytes + positionBytes * got
+owed Waiting = headBytes
+owed (Collecting r got) = headBytes + positionBytes * got + headBytes
 owed Stopped = 0
 
 -- of a request that is not answered some price is missing, and all fit the series

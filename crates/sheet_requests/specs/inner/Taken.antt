@@ -10,9 +10,9 @@ use Rattle.sheet_lines.specs.Printed.{headBytes, positionBytes}
 use Rattle.sheet_requests.specs.Sheet.{lines, outcome}
 use Rattle.sheet_requests.specs.inner.Place.{stateOf, owed, pending, Sound, Fits, finally}
 
--- The room for text beyond a byte for each byte read: the longest answer. src/lib.rt has a constant of the same number.
+-- The room for text beyond a byte for each byte read: the longest answer, and the refusal of a broken line. src/lib.rt has a constant of the same number.
 abbrev pub textRoom : ℕ
-textRoom = headBytes + positionBytes * mostBars
+textRoom = headBytes + positionBytes * mostBars + headBytes
 
 -- What holds between two lines: the place is in the block, and what is owed has room.
 pub record Well (block : List ℕ) (p : Place) : Type 0 where

@@ -5,7 +5,7 @@ use Prim.Native.Nat.{ℕ, _+_, _-_, _≤_}
 use lib.ListN.{take}
 use lib.Seq.{slice}
 use lib.Ieee.{Float}
-use Rattle.sheet_run.specs.inner.Block.{Fed, Between}
+use Rattle.sheet_text.specs.inner.Block.{Fed, Between}
 use Rattle.sheet_run.specs.declared.carried.Carried.{Carried}
 use Rattle.sheet_run.specs.Run.{came}
 use Rattle.sheet_run.specs.inner.Buffers.{blockBytes}

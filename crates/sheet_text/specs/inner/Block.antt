@@ -2,15 +2,16 @@
 use mathlib.Core.Path.{_≡_}
 use mathlib.Core.List.{List, _++_}
 use Prim.Native.Nat.{ℕ, _-_, _<_}
-use lib.ListN.{length}
+use mathlib.Core.Bool.{true}
+use lib.ListN.{length, drop}
 use lib.Ieee.{Float}
 use Rattle.sheet_requests.specs.declared.blocks.Sheet.{Sheet}
 use Rattle.sheet_requests.specs.declared.blocks.Place.{Place}
 use Rattle.sheet_requests.specs.Sheet.{lines, outcome}
-use Rattle.sheet_requests.specs.inner.Place.{stateOf, due, Sound}
+use Rattle.sheet_requests.specs.inner.Place.{noFeed, stateOf, due, Sound}
 use Rattle.sheet_requests.specs.inner.Taken.{Well, total}
 
--- A block was read up to where too few bytes for a line are left.
+-- A block was read up to where too few bytes for a line are left, and no line feed among them.
 pub record Fed (sheet : Sheet) (block : List ℕ) (series : List Float) (q : Place) (series′ : List Float)
     (text : List ℕ) : Type 0 where
   pub same : (more : List ℕ)
@@ -18,6 +19,7 @@ pub record Fed (sheet : Sheet) (block : List ℕ) (series : List Float) (q : Pla
       ≡ total block q series′ text more
   pub well : Well block q
   pub few : length block - q .at < due (q .sheet .stage)
+  pub unended : noFeed (drop (q .at) block) ≡ true
 
 -- What holds between two blocks: `kept` bytes are left, too few for the next line.
 pub record Between (sheet : Sheet) (kept : ℕ) : Type 0 where

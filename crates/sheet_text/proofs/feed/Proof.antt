@@ -1,13 +1,15 @@
 -- `feed` meets its contract: each step goes onward, and the last one leaves too few bytes for a line. Assumes nothing.
 use mathlib.Core.Path.{refl, _∙_}
-use Prim.Native.Nat.{_-_}
+use Prim.Native.Nat.{_-_, _<_}
 use native.Mathlib.Nat.{zero-add}
 use native.Mathlib.Omega.{arith}
 use borrow.Author.Needs.{needs}
+use denote.Ref.{now}
 use lib.ListN.{length}
-use Rattle.sheet_run.proofs.Feeding.{Feeding, onward, owed-few}
-use Rattle.sheet_run.proofs.feed.Statement.{statement}
-use Rattle.sheet_run.proofs.feed.Tie as tie
+use Rattle.sheet_requests.specs.inner.Place.{due}
+use Rattle.sheet_text.proofs.Feeding.{Feeding, onward, owed-few, fed-of, unfed-of, stopped}
+use Rattle.sheet_text.proofs.feed.Statement.{statement}
+use Rattle.sheet_text.proofs.feed.Tie as tie
 
 abbrev Inv-loop : tie.InvT-loop
 Inv-loop block series₀ out₀ work₀ text₀ place₀ series out work text place =
@@ -86,13 +88,45 @@ loop-again c =
       long = search needs;
     }
 
+-- too few bytes are left
+few : (c : tie.Else1 Inv-loop μ-loop) →
+    let at = c .before .before .before in
+    length (now (at .before .before .before .before .before .before .args .block)) - at .loop .place .at < due (at .loop .place .sheet .stage)
+few c = rw (← c .before .before .wanted .ensures) (c .if1 .left)
+
+take-short-requires : tie.Need-take-short-requires Inv-loop μ-loop
+take-short-requires c κs =
+    let test = c .before in
+    let told = test .before in
+    let at = told .before .before .before .before in
+    let inv = at .loop .inv in (
+      few (told .before),
+      fed-of _ _ (told .has-feed .ensures) (test .if2 .taken),
+      inv .well,
+      rw (inv .long) (at .before .before .before .before .before .before .pre .2),
+    )
+
 returns : tie.Need-returns Inv-loop μ-loop
 returns c =
-    let inv = c .before .before .before .loop .inv in (
+    let short = c .before .before in
+    let at = c .before .before .before .before .before .before .before .before .before in
+    let inv = at .loop .inv in
+    let (taken, stage, end) = short .take-short .ensures in
+    let a = at .before .before .before .before .before .before .args in (
+      stopped (a .sheet) (now (a .block)) (now (a .series)) (inv .same) (taken (at .loop .series)) stage end,
+      inv .clear,
+    )
+
+returns-2 : tie.Need-returns-2 Inv-loop μ-loop
+returns-2 c =
+    let told = c .before in
+    let at = told .before .before .before .before in
+    let inv = at .loop .inv in (
       record {
         same = inv .same;
         well = inv .well;
-        few = rw (← c .before .before .wanted .ensures) (c .if1 .left);
+        few = few (told .before);
+        unended = unfed-of _ _ (told .has-feed .ensures) (c .if2 .left);
       },
       inv .clear,
     )
@@ -110,9 +144,16 @@ feed-spec =
     gather-requires
     loop-less
     loop-again
+    (λ c κs. c .before .before .before .loop .inv .well .within)  -- has-feed-requires
+    take-short-requires
     (λ c. search needs)  -- same-length
     (λ c. search needs)  -- same-length-2
     (λ c. search needs)  -- same-length-3
-    (λ c. c .before .before .before .loop .inv .long)  -- same-length-4
+    (λ c. c .before .before .take-short .kept .1 .1 .0 ∙ c .before .before .before .before .before .before .before .before .before .loop .inv .long)  -- same-length-4
     returns
+    (λ c. search needs)  -- same-length-5
+    (λ c. search needs)  -- same-length-6
+    (λ c. search needs)  -- same-length-7
+    (λ c. c .before .before .before .before .before .loop .inv .long)  -- same-length-8
+    returns-2
     )
