@@ -1,4 +1,5 @@
 pub mod Answered
+pub mod Counting
 pub mod Lines
 pub mod Prices
 pub mod Short

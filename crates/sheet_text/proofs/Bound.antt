@@ -18,11 +18,14 @@ use Rattle.sheet_lines.specs.Print.{leading, printField}
 use Rattle.sheet_lines.specs.declared.Request.{Request}
 use Rattle.sheet_lines.specs.declared.Header.{Header}
 use Rattle.sheet_lines.specs.declared.Header.the-variants.{Asked, Malformed}
-use Rattle.sheet_lines.specs.Header.{columned, readHeader, readPriceLine}
-use Rattle.sheet_lines.specs.Printed.{headLine, positionLine, positionLines, answerText, lastLine}
+use Rattle.sheet_lines.specs.Header.{headerBytes, priceBytes, columned, readHeader, readPriceLine}
+use Rattle.sheet_lines.specs.Printed.{brokenLine, headLine, positionLine, positionLines, answerText, lastLine}
+use Rattle.sheet_lines.specs.declared.reasons.Reason.{Reason}
+use Rattle.sheet_lines.specs.declared.reasons.Reason.the-variants.{InputEnds}
+use Rattle.sheet_lines.specs.Reason.{headerReason, priceReason}
 use Rattle.sheet_requests.specs.declared.Counts.{Counts}
 use Rattle.sheet_requests.specs.Answer.{ruleAnswer, ruleLine}
-use Rattle.sheet_requests.specs.Counts.{noneRefused, closing, afterBroken}
+use Rattle.sheet_requests.specs.Counts.{noneYet, afterLines, closing, afterBroken}
 use Rattle.sheet_requests.specs.Sheet.{
   State,
   waiting,
@@ -32,13 +35,14 @@ use Rattle.sheet_requests.specs.Sheet.{
   lengthen,
   lines,
   broken,
-  settled,
-  gathered,
+  completed,
+  withPrices,
   begun,
   priced,
   step,
   ending,
   outcome,
+  whole,
   sheet,
 }
 use Rattle.sheet_requests.proofs.Answered.{rule-most}
@@ -70,7 +74,8 @@ length-position : (x : Float) → length (positionLine x) ≡ 5
 length-position x = go (lt plusZero x) (lt x plusZero)
   where
     go : (s t : Bool)
-        → length {A = ℕ} (cond s (32 ∷ 32 ∷ 32 ∷ 49 ∷ 10 ∷ []) (cond t (32 ∷ 32 ∷ 45 ∷ 49 ∷ 10 ∷ []) (32 ∷ 32 ∷ 32 ∷ 48 ∷ 10 ∷ [])))
+        → length {A = ℕ} (cond s (32 ∷ 32 ∷ 32 ∷ 49 ∷ 10 ∷ [])
+        (cond t (32 ∷ 32 ∷ 45 ∷ 49 ∷ 10 ∷ []) (32 ∷ 32 ∷ 32 ∷ 48 ∷ 10 ∷ [])))
         ≡ 5
     go true t = refl
     go false true = refl
@@ -117,13 +122,13 @@ all-lines (b ∷ rest) = go (eqb b 10) (lines rest) (all-lines rest)
 abbrev owing : State → ℕ
 owing (waiting c) = 32
 owing (collecting c r prices) = 51 + 5 * length prices
-owing (stopped c) = 13
+owing (stopped c reason) = 13
 
 -- a request with these prices is answered, or waits
-gathered-few : (c : Counts) (r : Request) (prices : List Float)
-    → length (gathered c r prices .prints) + owing (gathered c r prices .state) ≤ 51 + 5 * length prices
-unfolding gathered answerText
-gathered-few c r prices = go (eqb (length prices) (r .bars))
+with-prices-few : (c : Counts) (r : Request) (prices : List Float)
+    → length (withPrices c r prices .prints) + owing (withPrices c r prices .state) ≤ 51 + 5 * length prices
+unfolding withPrices answerText
+with-prices-few c r prices = go (eqb (length prices) (r .bars))
   where
     a : Answer
     a = ruleAnswer r prices
@@ -141,72 +146,81 @@ gathered-few c r prices = go (eqb (length prices) (r .bars))
         )
         (omega (arith, rule-most r prices))
 
-    go : (t : Bool) → let s : Step = cond t (settled c r prices) (record { prints = []; state = collecting c r prices }) in
+    go : (t : Bool) →
+        let s : Step = cond t (completed c r prices) (record { prints = []; state = collecting c r prices }) in
         length (s .prints) + owing (s .state) ≤ 51 + 5 * length prices
     go true = omega (arith, long)
     go false = omega arith
 
-broken-few : (c : Counts) → length (broken c .prints) ≡ 19
-broken-few c = length-head 0 0 10 0
+broken-few : (c : Counts) (reason : Reason) → length (broken c reason .prints) ≡ 19
+broken-few c reason = length-head 0 0 brokenLine 0
 
-asked-long : (line : List ℕ) (r : Request) → readHeader line ≡ Asked r → length line ≡ 27
+asked-long : (line : List ℕ) (r : Request) → readHeader line ≡ Asked r → length line ≡ headerBytes
 unfolding readHeader
 asked-long line r e = go (columned 26 line) _ (columned-long 26 line) e
   where
-    go : (t : Bool) (x : Header) → (t ≡ true → length line ≡ 27) → cond t x Malformed ≡ Asked r → length line ≡ 27
+    go : (t : Bool) (x : Header) → (t ≡ true → length line ≡ headerBytes) → cond t x Malformed ≡ Asked r
+        → length line ≡ headerBytes
     go true _ f e = f refl
     go false _ f e = let z : _≡_ {A = ℕ} 0 1 = cc in absurd (omega arith)
 
-priced-long : (line : List ℕ) (x : Float) → readPriceLine line ≡ Ticks x → length line ≡ 13
+priced-long : (line : List ℕ) (x : Float) → readPriceLine line ≡ Ticks x → length line ≡ priceBytes
 unfolding readPriceLine
 priced-long line x e = go (columned 12 line) _ (columned-long 12 line) e
   where
-    go : (t : Bool) (p : Price) → (t ≡ true → length line ≡ 13) → cond t p Unpriced ≡ Ticks x → length line ≡ 13
+    go : (t : Bool) (p : Price) → (t ≡ true → length line ≡ priceBytes) → cond t p Unpriced ≡ Ticks x
+        → length line ≡ priceBytes
     go true _ f e = f refl
     go false _ f e = let z : _≡_ {A = ℕ} 0 1 = cc in absurd (omega arith)
 
 -- a line prints no more than it and the state before it allow
 stepped : (s : State) (line : List ℕ)
     → length (step s line .prints) + owing (step s line .state) ≤ owing s + length line
-stepped (stopped c) line = omega arith
+stepped (stopped c reason) line = omega arith
 stepped (waiting c) line = go (readHeader line) (asked-long line)
   where
-    go : (h : Header) → ((r : Request) → h ≡ Asked r → length line ≡ 27)
-        → length (begun c h .prints) + owing (begun c h .state) ≤ 32 + length line
-    go (Asked r) f = omega (arith, gathered-few c r [], f r refl)
-    go Malformed f = omega (arith, broken-few c)
+    go : (h : Header) → ((r : Request) → h ≡ Asked r → length line ≡ headerBytes)
+        → length (begun c line h .prints) + owing (begun c line h .state) ≤ 32 + length line
+    go (Asked r) f = omega (arith, with-prices-few (afterLines 1 c) r [], f r refl)
+    go Malformed f = omega (arith, broken-few c (headerReason line))
 stepped (collecting c r prices) line = go (readPriceLine line) (priced-long line)
   where
-    go : (p : Price) → ((x : Float) → p ≡ Ticks x → length line ≡ 13)
-        → length (priced c r prices p .prints) + owing (priced c r prices p .state)
+    go : (p : Price) → ((x : Float) → p ≡ Ticks x → length line ≡ priceBytes)
+        → length (priced c r prices line p .prints) + owing (priced c r prices line p .state)
         ≤ 51 + 5 * length prices + length line
-    go (Ticks x) f = omega (arith, gathered-few c r (prices ++ (x ∷ [])), length-append prices (x ∷ []), f x refl)
-    go Unpriced f = omega (arith, broken-few c)
+    go (Ticks x) f =
+        omega (
+          arith,
+          with-prices-few (afterLines 1 c) r (prices ++ (x ∷ [])),
+          length-append prices (x ∷ []),
+          f x refl,
+        )
+    go Unpriced f = omega (arith, broken-few c (priceReason line))
 
-ends-few : (s : State) → length (ending s) ≤ owing s
+ends-few : (s : State) → length (ending s .text) ≤ owing s
 unfolding ending closing
 ends-few (waiting c) = omega (arith, length-last (c .refused))
 ends-few (collecting c r prices) =
     omega (
       arith,
-      length-append (broken c .prints) (closing (afterBroken c)),
-      broken-few c,
+      length-append (broken c InputEnds .prints) (closing (afterBroken c)),
+      broken-few c InputEnds,
       length-last (afterBroken c .refused),
     )
-ends-few (stopped c) = omega (arith, length-last (c .refused))
+ends-few (stopped c reason) = omega (arith, length-last (c .refused))
 
-outcome-few : (s : State) (ls : List (List ℕ)) → length (outcome s ls) ≤ owing s + all ls
+outcome-few : (s : State) (ls : List (List ℕ)) → length (outcome s ls .text) ≤ owing s + all ls
 unfolding outcome
 outcome-few s [] = omega (arith, ends-few s)
 outcome-few s (line ∷ rest) =
     omega (
       arith,
-      length-append (step s line .prints) (outcome (step s line .state) rest),
+      length-append (step s line .prints) (outcome (step s line .state) rest .text),
       stepped s line,
       outcome-few (step s line .state) rest,
     )
 
 -- the sheet of any input has room
 pub sheet-few : (input : List ℕ) → length (sheet input) ≤ length input + sheetRoom
-unfolding sheet
-sheet-few input = omega (arith, outcome-few (waiting noneRefused) (lines input), all-lines input)
+unfolding whole
+sheet-few input = omega (arith, outcome-few (waiting noneYet) (lines input), all-lines input)

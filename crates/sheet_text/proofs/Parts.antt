@@ -1,22 +1,25 @@
 -- A part of the input fed, and what it prints written behind what is written. Assumes nothing.
 use mathlib.Core.Path.{_≡_, refl, sym, ap, _∙_}
+use mathlib.Core.Bool.{true}
 use mathlib.Core.List.{List, [], _++_, append-assoc, append-nil}
 use Prim.Native.Nat.{ℕ, _+_, _-_, _<_, _≤_}
 use native.Mathlib.Omega.{arith}
 use lib.ListN.{length, take, drop, getD, length-append, length-drop, take-append-drop, List·getD-append}
-use lib.Seq.{length-take-le, drop-append-le, drop-drop, getD-append-add, getD-take}
+use lib.Seq.{length-take-le, take-all, drop-append-le, drop-drop, getD-append-add, getD-take}
 use lib.Ieee.{Float}
 use Rattle.cells.specs.Written.{Writing}
 use Rattle.cells.proofs.Written.{none-written, stands, then-written}
+use Rattle.sheet_lines.specs.Header.{headerBytes}
+use Rattle.sheet_lines.specs.Reason.{noFeed}
 use Rattle.sheet_requests.specs.declared.blocks.Place.{Place}
 use Rattle.sheet_requests.specs.declared.blocks.Stage.{Stage}
 use Rattle.sheet_requests.specs.declared.blocks.Stage.the-variants.{Waiting, Collecting, Stopped}
-use Rattle.sheet_requests.specs.inner.Place.{stateOf, beginning, due}
+use Rattle.sheet_requests.specs.inner.Place.{stateOf, beginning, nextLineBytes}
 use Rattle.sheet_requests.specs.inner.Taken.{textRoom}
 use Rattle.sheet_requests.specs.inner.Finished.{Finished}
 use Rattle.sheet_requests.specs.declared.status.Status.the-variants.{Done}
 use Rattle.sheet_text.specs.inner.Block.{Fed}
-use Rattle.sheet_requests.specs.Sheet.{lines, outcome, sheet}
+use Rattle.sheet_requests.specs.Sheet.{lines, Outcome, outcome, whole, sheet}
 use Rattle.sheet_text.specs.SheetText.{sheetRoom, bytesOf}
 use Rattle.sheet_text.specs.inner.Standing.{partBytes, textBytes, Copied, Standing, Parted}
 use Rattle.sheet_text.proofs.Bound.{sheet-few}
@@ -63,27 +66,34 @@ module _ {input old : List ℕ} {p q : Place} {series series′ : List Float} {t
 
   rest-is : drop (q .at) (partOf (p .at) end input) ++ after ≡ drop (p .at + q .at) input
   rest-is =
-      sym (drop-append-le (q .at) (partOf (p .at) end input) after (fed .well .within))
+      sym (drop-append-le (q .at) (partOf (p .at) end input) after (fed .placed .within))
       ∙ ap (λ (t : List ℕ). drop (q .at) t) apart ∙ drop-drop (q .at) (p .at) input
 
   -- what is still to come
-  abbrev others : List ℕ
+  abbrev others : Outcome
   others = outcome (stateOf (q .sheet .stage) (q .sheet .counts) series′) (lines (drop (p .at + q .at) input))
 
-  same-after : sheet input ≡ w .done ++ (take (q .filled) text ++ others)
+  same-after : sheet input ≡ w .done ++ (take (q .filled) text ++ others .text)
   same-after =
       let fed-same = fed .same after in
-      w .same ∙ ap (λ (t : List ℕ). w .done ++ t) (rw (apart, rest-is) at fed-same)
+      w .same ∙ ap (λ (o : Outcome). w .done ++ o .text) (rw (apart, rest-is) at fed-same)
+
+  -- up to the end of the input no line feed is left
+  all-fed : end ≡ length input → noFeed (drop (p .at + q .at) input) ≡ true
+  all-fed e =
+      let all : partOf (p .at) end input ≡ drop (p .at) input =
+      take-all (end - p .at) (drop (p .at) input) (rw (length-drop (p .at) input) (omega arith)) in
+      rw (← drop-drop (q .at) (p .at) input, ← all) (fed .unended)
 
   pub up-to : p .at + q .at ≤ end
-  up-to = omega (arith, fit .0, rw long-block at (fed .well .within))
+  up-to = omega (arith, fit .0, rw long-block at (fed .placed .within))
 
   pub text-fits : q .filled ≤ length text
-  text-fits = omega (arith, fed .well .room, up-to, fit .2, fit .3)
+  text-fits = omega (arith, fed .placed .room, up-to, fit .2, fit .3)
 
   -- what it prints has room in the output
   pub out-fits : p .filled + q .filled ≤ length input + sheetRoom
-  out-fits = omega (arith, reaches (w .done) text others same-after (w .long) text-fits, sheet-few input)
+  out-fits = omega (arith, reaches (w .done) text (others .text) same-after (w .long) text-fits, sheet-few input)
 
   pub parted : {out′ : List ℕ} → Copied text (q .filled) (p .filled) out out′
       → Parted input old p end
@@ -95,13 +105,14 @@ module _ {input old : List ℕ} {p q : Place} {series series′ : List Float} {t
           same = rw append-assoc same-after;
           long = rw (length-append, length-take-le (q .filled) text text-fits, w .long);
           within = omega (arith, up-to, fit .1);
-          sound = fed .well .sound;
+          incomplete = fed .placed .incomplete;
           written = copied .is (bytesOf (sheet input)) old (w .written)
-              (byte (w .done) text others same-after (w .long) text-fits);
+              (byte (w .done) text (others .text) same-after (w .long) text-fits);
         };
         more = omega arith;
         upto = up-to;
         few = omega (arith, rw long-block at (fed .few), up-to, fit .0);
+        unended = all-fed;
       }
 
 -- ---- from part to part
@@ -115,7 +126,7 @@ stand-on w =
       same = w .same;
       long = w .long;
       within = w .within;
-      sound = w .sound;
+      incomplete = w .incomplete;
       written = stands (w .written);
     }
 
@@ -128,49 +139,50 @@ stand-over v t =
       same = w .same;
       long = w .long;
       within = w .within;
-      sound = w .sound;
+      incomplete = w .incomplete;
       written = then-written (v .written) (w .written) (t .more);
     }
 
 -- before the first byte
 pub stand-first : (input : List ℕ) (series : List Float) (out : List ℕ)
     → Standing input out (record { sheet = beginning; at = 0; filled = 0 }) series out
-unfolding sheet
+unfolding whole
 stand-first input series out =
-    record { done = []; same = refl; long = refl; within = omega arith; sound = tt; written = none-written }
+    record { done = []; same = refl; long = refl; within = omega arith; incomplete = tt; written = none-written }
 
 -- no line is longer
-pub due-few : (stage : Stage) → due stage ≤ 27
-due-few Waiting = omega arith
-due-few (Collecting r got) = omega arith
-due-few Stopped = omega arith
+pub next-line-few : (stage : Stage) → nextLineBytes stage ≤ headerBytes
+next-line-few Waiting = omega arith
+next-line-few (Collecting r got) = omega arith
+next-line-few (Stopped reason) = omega arith
 
 -- a part that is full goes onward
 pub goes-on : {input old : List ℕ} {p q : Place} {end : ℕ} {series : List Float} {out : List ℕ}
     → Parted input old p end q series out → end ≡ p .at + partBytes → p .at < q .at
-goes-on {q = q} t e = omega (arith, t .few, t .upto, due-few (q .sheet .stage))
+goes-on {q = q} t e = omega (arith, t .few, t .upto, next-line-few (q .sheet .stage))
 
 -- ---- the end
 
 module _ {input old : List ℕ} {p : Place} {series : List Float} {out text : List ℕ} {r : ℕ}
     (w : Standing input old p series out)
-    (last : Finished Done (p .sheet) (length input - p .at) r text) where
-  whole : sheet input ≡ w .done ++ (take r text ++ [])
-  whole =
+    (last : Finished Done (p .sheet) (length input - p .at) r text)
+    (unended : noFeed (drop (p .at) input) ≡ true) where
+  all-of : sheet input ≡ w .done ++ (take r text ++ [])
+  all-of =
       w .same
       ∙ ap (λ (t : List ℕ). w .done ++ t)
-      (sym (last .is series (drop (p .at) input) (length-drop (p .at) input)) ∙ sym (append-nil _))
+      (sym (last .is series (drop (p .at) input) (length-drop (p .at) input) unended) ∙ sym (append-nil _))
 
   pub end-fits : p .filled + r ≤ length input + sheetRoom
-  end-fits = omega (arith, reaches (w .done) text [] whole (w .long) (last .within), sheet-few input)
+  end-fits = omega (arith, reaches (w .done) text [] all-of (w .long) (last .within), sheet-few input)
 
   all-of-it : p .filled + r ≡ length (sheet input)
   all-of-it =
-      rw (whole, append-nil, length-append (w .done) (take r text), length-take-le r text (last .within), w .long)
+      rw (all-of, append-nil, length-append (w .done) (take r text), length-take-le r text (last .within), w .long)
 
   pub all-written : {out′ : List ℕ} → Copied text r (p .filled) out out′
       → (p .filled + r ≡ length (sheet input)) × Writing (p .filled + r) (bytesOf (sheet input)) old out′
   all-written copied = (
     all-of-it,
-    copied .is (bytesOf (sheet input)) old (w .written) (byte (w .done) text [] whole (w .long) (last .within)),
+    copied .is (bytesOf (sheet input)) old (w .written) (byte (w .done) text [] all-of (w .long) (last .within)),
   )

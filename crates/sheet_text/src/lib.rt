@@ -11,7 +11,7 @@ ghost use mathlib.Core.Path.{_≡_};
 ghost use Prim.Native.Nat.{_≤_, _+_};
 ghost use lib.ListN.{length};
 ghost use Rattle.cells.specs.Written.{Writing};
-ghost use Rattle.sheet_requests.specs.inner.Place.{Sound};
+ghost use Rattle.sheet_requests.specs.inner.Place.{Incomplete};
 ghost use Rattle.sheet_requests.specs.inner.Taken.{textRoom};
 ghost use Rattle.sheet_requests.specs.inner.Lent.{Lent};
 ghost use Rattle.sheet_requests.specs.Sheet.{sheet};
@@ -36,7 +36,7 @@ pub fn feed(
     work: &mut [f64],
     text: &mut [u8],
 ) -> Place
-    requires { ⌜ Sound (sheet .stage) × Lent (now series) (now out) (now work)
+    requires { ⌜ Incomplete (sheet .stage) × Lent (now series) (now out) (now work)
         × (length (now block) + textRoom ≤ length (now text)) ⌝ }
     ensures { λ r. ⌜ Fed sheet (now (block .entry)) (now (series .entry)) r (now (series .exit)) (now (text .exit))
         × (now (work .exit) ≡ now (work .entry)) ⌝ }
@@ -46,11 +46,11 @@ pub fn feed(
         at: 0,
         filled: 0,
     };
-    while sheet_requests::blocks::wanted(place) <= block.len() - place.at {
+    while sheet_requests::blocks::next_line_bytes(place) <= block.len() - place.at {
         let read = sheet_requests::blocks::take_lines(place, block, series, text);
-        place = sheet_requests::answers::gather(read, series, out, work, text);
+        place = sheet_requests::answers::answer_if_complete(read, series, out, work, text);
     }
-    if sheet_requests::blocks::has_feed(block, place.at) {
+    if sheet_lines::reasons::has_feed(block, place.at, block.len()) {
         sheet_requests::blocks::take_short(place, block, text)
     } else {
         place

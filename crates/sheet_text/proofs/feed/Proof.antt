@@ -6,8 +6,8 @@ use native.Mathlib.Omega.{arith}
 use borrow.Author.Needs.{needs}
 use denote.Ref.{now}
 use lib.ListN.{length}
-use Rattle.sheet_requests.specs.inner.Place.{due}
-use Rattle.sheet_text.proofs.Feeding.{Feeding, onward, owed-few, fed-of, unfed-of, stopped}
+use Rattle.sheet_requests.specs.inner.Place.{nextLineBytes}
+use Rattle.sheet_text.proofs.Feeding.{Feeding, onward, text-owed-few, fed-rest, unfed-rest, stopped}
 use Rattle.sheet_text.proofs.feed.Statement.{statement}
 use Rattle.sheet_text.proofs.feed.Tie as tie
 
@@ -23,10 +23,10 @@ loop-holds c =
     let start = c .before .before .before .before .before in
     record {
       same = λ more. refl;
-      well = record {
-        sound = start .pre .0;
+      placed = record {
+        incomplete = start .pre .0;
         within = omega arith;
-        room = rw zero-add (owed-few (start .args .sheet .stage) (start .pre .0));
+        room = rw zero-add (text-owed-few (start .args .sheet .stage) (start .pre .0));
       };
       lent = start .pre .1;
       clear = refl;
@@ -39,14 +39,14 @@ take-lines-requires c κs =
     let at = test .before .before .before in
     let start = at .before .before .before .before .before .before in
     let inv = at .loop .inv in (
-      rw (← test .before .before .wanted .ensures) (test .if1 .taken),
-      inv .well,
+      rw (← test .before .before .next-line-bytes .ensures) (test .if1 .taken),
+      inv .placed,
       inv .lent .series-long,
       rw (inv .long) (start .pre .2),
     )
 
-gather-requires : tie.Need-gather-requires Inv-loop μ-loop
-gather-requires c κs =
+answer-if-complete-requires : tie.Need-answer-if-complete-requires Inv-loop μ-loop
+answer-if-complete-requires c κs =
     let take = c .before .before .before .before .before .before .before .before in
     let at = take .before .before .before .before .before .before in
     let start = at .before .before .before .before .before .before in
@@ -62,27 +62,27 @@ gather-requires c κs =
 
 loop-less : tie.Need-loop-less Inv-loop μ-loop
 loop-less c =
-    let gather = c .before .before .before .before .before .before in
-    let take = gather .before .before .before .before .before .before .before .before .before in
+    let answer = c .before .before .before .before .before .before in
+    let take = answer .before .before .before .before .before .before .before .before .before in
     let at = take .before .before .before .before .before .before in
-    let on = onward (take .take-lines .ensures) (gather .gather .ensures .0) in
-    omega (arith, on .forth, on .well .within, at .loop .inv .well .within)
+    let on = onward (take .take-lines .ensures) (answer .answer-if-complete .ensures .0) in
+    omega (arith, on .forth, on .placed .within, at .loop .inv .placed .within)
 
 loop-again : tie.Need-loop-again Inv-loop μ-loop
 loop-again c =
-    let gather = c .before .before .before .before .before .before in
-    let take = gather .before .before .before .before .before .before .before .before .before in
+    let answer = c .before .before .before .before .before .before in
+    let take = answer .before .before .before .before .before .before .before .before .before in
     let at = take .before .before .before .before .before .before in
-    let on = onward (take .take-lines .ensures) (gather .gather .ensures .0) in
-    let kept = gather .gather .kept in
+    let on = onward (take .take-lines .ensures) (answer .answer-if-complete .ensures .0) in
+    let kept = answer .answer-if-complete .kept in
     let kept-read = take .take-lines .kept in
-    let clear = gather .gather .ensures .1 in
+    let clear = answer .answer-if-complete .ensures .1 in
     let inv = at .loop .inv in
     let lent = inv .lent in
     let long = inv .long in
     record {
       same = λ more. inv .same more ∙ on .same more;
-      well = on .well;
+      placed = on .placed;
       lent = record { series-long = search needs; out-long = search needs; work-clear = clear ∙ lent .work-clear };
       clear = clear ∙ inv .clear;
       long = search needs;
@@ -91,20 +91,27 @@ loop-again c =
 -- too few bytes are left
 few : (c : tie.Else1 Inv-loop μ-loop) →
     let at = c .before .before .before in
-    length (now (at .before .before .before .before .before .before .args .block)) - at .loop .place .at < due (at .loop .place .sheet .stage)
-few c = rw (← c .before .before .wanted .ensures) (c .if1 .left)
+    let block = now (at .before .before .before .before .before .before .args .block) in
+    length block - at .loop .place .at < nextLineBytes (at .loop .place .sheet .stage)
+few c = rw (← c .before .before .next-line-bytes .ensures) (c .if1 .left)
 
 take-short-requires : tie.Need-take-short-requires Inv-loop μ-loop
 take-short-requires c κs =
     let test = c .before in
     let told = test .before in
     let at = told .before .before .before .before in
+    let block = now (at .before .before .before .before .before .before .args .block) in
     let inv = at .loop .inv in (
       few (told .before),
-      fed-of _ _ (told .has-feed .ensures) (test .if2 .taken),
-      inv .well,
+      fed-rest block (at .loop .place .at) (told .has-feed .ensures) (test .if2 .taken),
+      inv .placed,
       rw (inv .long) (at .before .before .before .before .before .before .pre .2),
     )
+
+same-length-4 : tie.Need-same-length-4 Inv-loop μ-loop
+same-length-4 c =
+    let short = c .before .before in
+    short .take-short .kept .1 .1 .0 ∙ short .before .before .before .before .before .before .before .loop .inv .long
 
 returns : tie.Need-returns Inv-loop μ-loop
 returns c =
@@ -121,12 +128,13 @@ returns-2 : tie.Need-returns-2 Inv-loop μ-loop
 returns-2 c =
     let told = c .before in
     let at = told .before .before .before .before in
+    let block = now (at .before .before .before .before .before .before .args .block) in
     let inv = at .loop .inv in (
       record {
         same = inv .same;
-        well = inv .well;
+        placed = inv .placed;
         few = few (told .before);
-        unended = unfed-of _ _ (told .has-feed .ensures) (c .if2 .left);
+        unended = unfed-rest block (at .loop .place .at) (told .has-feed .ensures) (c .if2 .left);
       },
       inv .clear,
     )
@@ -138,18 +146,18 @@ feed-spec =
     Inv-loop
     μ-loop
     loop-holds
-    (λ c κs. search needs)  -- wanted-requires
+    (λ c κs. search needs)  -- next-line-bytes-requires
     (λ c. search needs)  -- sub-if1
     take-lines-requires
-    gather-requires
+    answer-if-complete-requires
     loop-less
     loop-again
-    (λ c κs. c .before .before .before .loop .inv .well .within)  -- has-feed-requires
+    (λ c κs. (c .before .before .before .loop .inv .placed .within, omega arith))  -- has-feed-requires
     take-short-requires
     (λ c. search needs)  -- same-length
     (λ c. search needs)  -- same-length-2
     (λ c. search needs)  -- same-length-3
-    (λ c. c .before .before .take-short .kept .1 .1 .0 ∙ c .before .before .before .before .before .before .before .before .before .loop .inv .long)  -- same-length-4
+    same-length-4
     returns
     (λ c. search needs)  -- same-length-5
     (λ c. search needs)  -- same-length-6

@@ -98,15 +98,20 @@ module _ (c : tie.After-part2 Inv-loop μ-loop) where
   abbrev start : tie.Start Inv-loop μ-loop
   start = at .before .before .before .before .before .before .before .before
 
-  standing : Standing (now (start .args .input)) (now (start .args .out)) (c .part2 .result) (c .part2 .last .1 .1 .1 .0)
-      (c .part2 .last .1 .1 .1 .1 .1 .1 .1 .0)
+  standing : Standing (now (start .args .input)) (now (start .args .out)) (c .part2 .result)
+      (c .part2 .last .1 .1 .1 .0) (c .part2 .last .1 .1 .1 .1 .1 .1 .1 .0)
   standing = stand-over (at .loop .inv .0) (c .part2 .ensures .0)
 
   text-long : length (c .part2 .last .1 .1 .1 .1 .1 .1 .0) ≡ textBytes
   text-long = c .part2 .kept .1 .1 .1 .1 .1 .1 .0 ∙ at .loop .inv .2
 
+-- and from the end back to it
+abbrev last-part : tie.After-finish Inv-loop μ-loop → tie.After-part2 Inv-loop μ-loop
+last-part c = c .before .before .before .before .before .before .before .before .before .before .before .before .before
+
 sub-finish : tie.Need-sub-finish Inv-loop μ-loop
-sub-finish c = standing (c .before .before .before .before .before .before .before .before .before .before .before) .within
+sub-finish c =
+    standing (c .before .before .before .before .before .before .before .before .before .before .before) .within
 
 finish-requires : tie.Need-finish-requires Inv-loop μ-loop
 finish-requires c κs =
@@ -116,11 +121,11 @@ finish-requires c κs =
 copy-requires : tie.Need-copy-requires Inv-loop μ-loop
 copy-requires c κs =
     let finish = c .before .before .before .before in
-    let part = finish .before .before .before .before .before .before .before .before .before .before .before .before .before in (
+    let part = last-part finish in (
       finish .finish .ensures .within,
       omega (
         arith,
-        end-fits (standing part) (finish .finish .ensures),
+        end-fits (standing part) (finish .finish .ensures) (part .part2 .ensures .0 .unended refl),
         start part .pre .2,
         standing part .written .long,
       ),
@@ -129,46 +134,47 @@ copy-requires c κs =
 add-result : tie.Need-add-result Inv-loop μ-loop
 add-result c =
     let finish = c .before .before .before .before .before .before .before .before in
-    let part = finish .before .before .before .before .before .before .before .before .before .before .before .before .before in
+    let part = last-part finish in
     omega (
       arith,
-      end-fits (standing part) (finish .finish .ensures),
+      end-fits (standing part) (finish .finish .ensures) (part .part2 .ensures .0 .unended refl),
       start part .pre .2,
       start part .good .1 .1 .1 .1 .1 .0 .0,
     )
 
 same-length : tie.Need-same-length Inv-loop μ-loop
 same-length c =
-    let part = c .before .before .before .before .before .before .before .before .before .before .before .before .before .before .before .before .before .before .before .before .before in
+    let part = last-part (c .before .before .before .before .before .before .before .before) in
     part .part2 .kept .1 .1 .1 .0 ∙ at part .loop .inv .1 .series-long ∙ sym (start part .pre .0 .series-long)
 
 same-length-2 : tie.Need-same-length-2 Inv-loop μ-loop
 same-length-2 c =
-    let part = c .before .before .before .before .before .before .before .before .before .before .before .before .before .before .before .before .before .before .before .before .before in
+    let part = last-part (c .before .before .before .before .before .before .before .before) in
     part .part2 .kept .1 .1 .1 .1 .0 ∙ at part .loop .inv .1 .out-long ∙ sym (start part .pre .0 .out-long)
 
 same-length-3 : tie.Need-same-length-3 Inv-loop μ-loop
 same-length-3 c =
-    let part = c .before .before .before .before .before .before .before .before .before .before .before .before .before .before .before .before .before .before .before .before .before in
+    let part = last-part (c .before .before .before .before .before .before .before .before) in
     part .part2 .kept .1 .1 .1 .1 .1 .0
     ∙ ap length (at part .loop .inv .1 .work-clear ∙ sym (start part .pre .0 .work-clear))
 
 same-length-4 : tie.Need-same-length-4 Inv-loop μ-loop
 same-length-4 c =
     let finish = c .before .before .before .before .before .before .before .before in
-    let part = finish .before .before .before .before .before .before .before .before .before .before .before .before .before in
+    let part = last-part finish in
     finish .finish .kept .1 .1 .1 .0 ∙ text-long part ∙ sym (start part .pre .1)
 
 same-length-5 : tie.Need-same-length-5 Inv-loop μ-loop
 same-length-5 c =
-    let part = c .before .before .before .before .before .before .before .before .before .before .before .before .before .before .before .before .before .before .before .before .before in
+    let part = last-part (c .before .before .before .before .before .before .before .before) in
     c .before .before .before .copy .kept .1 .1 .0 ∙ standing part .written .long
 
 returns : tie.Need-returns Inv-loop μ-loop
 returns c =
     let finish = c .before .before .before .before .before .before .before .before in
-    let part = finish .before .before .before .before .before .before .before .before .before .before .before .before .before in
-    all-written (standing part) (finish .finish .ensures) (c .before .before .before .copy .ensures)
+    let part = last-part finish in
+    all-written (standing part) (finish .finish .ensures) (part .part2 .ensures .0 .unended refl)
+    (c .before .before .before .copy .ensures)
 
 pub fill-spec : {M : Type 1} → statement M
 fill-spec =

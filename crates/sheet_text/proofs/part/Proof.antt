@@ -14,7 +14,7 @@ feed-requires : tie.Need-feed-requires
 feed-requires c κs =
     let start = c .before .before .before .before .before .before .before .before .before .before .before in
     let (standing, lent, long, some, within, few, room) = start .pre in (
-      standing .sound,
+      standing .incomplete,
       lent,
       rw (length-part (start .args .place .at) (start .args .end) (now (start .args .input)) within) (omega arith),
     )
