@@ -277,7 +277,7 @@ tegbalowu_answer tegbalowu_rsi_reverse_positions(const double *series, size_t se
  * The sheet of the input: what sheet(1) writes for these bytes, any bytes. The first count bytes of
  * the output are the whole sheet, and later bytes stay. A request that is refused, and a line that
  * breaks its columns, are part of the sheet; the call itself has refusal 3 alone: an output shorter
- * than input_len + TEGBALOWU_SHEET_ROOM. It takes 48 KB of stack.
+ * than input_len + TEGBALOWU_SHEET_ROOM. It takes some 50 KB of stack.
  */
 tegbalowu_answer tegbalowu_sheet_text(const uint8_t *input, size_t input_len, uint8_t *out, size_t out_len);
 
