@@ -51,6 +51,9 @@
 extern "C" {
 #endif
 
+/* The version of this header and of the library that it came with. */
+#define TEGBALOWU_VERSION "0.1.0"
+
 typedef struct {
     uint64_t refusal;
     uint64_t count;
@@ -267,6 +270,19 @@ tegbalowu_answer tegbalowu_boll_reverse_positions(const double *series, size_t s
 tegbalowu_answer tegbalowu_rsi_reverse_positions(const double *series, size_t series_len, size_t n, double rsi_upper,
                                                  double rsi_lower, double rsi_exit, int32_t *out, size_t out_len,
                                                  double *work, size_t work_len);
+
+/* The sheet of sheet(1), for those who have the whole input in memory. */
+
+/* The bytes of output that an input may need beyond one for each of its own: enough for every input. */
+#define TEGBALOWU_SHEET_ROOM 32
+
+/*
+ * The sheet of the input: what sheet(1) writes for these bytes, any bytes. The first count bytes of
+ * the output are the whole sheet, and later bytes stay. A request that is refused, and a line that
+ * breaks its columns, are part of the sheet; the call itself has refusal 3 alone: an output shorter
+ * than input_len + TEGBALOWU_SHEET_ROOM. It takes some 50 KB of stack.
+ */
+tegbalowu_answer tegbalowu_sheet_text(const uint8_t *input, size_t input_len, uint8_t *out, size_t out_len);
 
 #ifdef __cplusplus
 }

@@ -35,6 +35,9 @@ mod refusal;
 
 pub use refusal::Refusal;
 
+/// The bytes of output that [`sheet_text`] may need beyond one for each byte of its input: enough for every input.
+pub const SHEET_ROOM: usize = 32;
+
 /// A work slice for a series of so many bars: 8 cells for each.
 pub fn work_for(bars: usize) -> Vec<f64> {
     vec![0.0; 8 * bars]
@@ -311,4 +314,16 @@ functions! {
     /// assert_eq!(out, [0, 1, 2]);
     /// ```
     tegbalowu_rolling_rank rolling_rank(series: &[f64], window: usize, out: &mut [u64], work: &mut [f64]);
+
+    /// The sheet of the input: what the program `sheet` writes for these bytes, any bytes. The output's first bytes,
+    /// as many as the count, are the whole sheet, refused requests and broken lines included. Refusal 3 where the
+    /// output is shorter than `input.len() + SHEET_ROOM`.
+    ///
+    /// ```
+    /// let input = b"   7   2     1     2     2\n          10\n          12\n";
+    /// let mut out = vec![0; input.len() + tegbalowu::SHEET_ROOM];
+    /// let count = tegbalowu::sheet_text(input, &mut out).unwrap();
+    /// assert_eq!(&out[..count], b"   7   2   0     2\n   0\n   1\n           0\n");
+    /// ```
+    tegbalowu_sheet_text sheet_text(input: &[u8], out: &mut [u8]);
 }

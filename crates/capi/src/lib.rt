@@ -26,6 +26,7 @@ ghost use Rattle.rules_mms.specs.Mms.{MmsCall};
 ghost use Rattle.rules_rank.specs.Rank.{RankCall};
 ghost use Rattle.rules_rank.specs.RollingRank.{RollingRankCall};
 ghost use Rattle.rules_triple.specs.Triple.{TripleCall};
+ghost use Rattle.sheet_text.specs.SheetText.{SheetCall};
 
 #[no_mangle]
 pub extern "C" fn tegbalowu_sma(series: &[f64], n: usize, out: &mut [f64]) -> CAnswer
@@ -391,4 +392,11 @@ pub extern "C" fn tegbalowu_rsi_reverse_positions(
         out,
         work,
     ))
+}
+
+#[no_mangle]
+pub extern "C" fn tegbalowu_sheet_text(input: &[u8], out: &mut [u8]) -> CAnswer
+    ensures { λ r. ⌜ InNumbers (λ a. SheetCall (now (input .entry)) (now (out .entry)) a (now (out .exit))) r ⌝ }
+{
+    calls::numbers::numbers(sheet_text::sheet_text(input, out))
 }

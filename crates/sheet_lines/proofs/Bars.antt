@@ -6,14 +6,22 @@ use Prim.Native.Nat.{ℕ, _≤_}
 use native.Mathlib.Omega.{arith}
 use borrow.Author.Tests.{leb-true}
 use lib.Dec.{leb}
-use lib.Seq.{slice}
 use Rattle.sheet_lines.specs.declared.columns.Field.{Field}
 use Rattle.sheet_lines.specs.declared.columns.Field.the-variants.{Value, Broken}
-use Rattle.sheet_lines.specs.Read.{readField}
+use Rattle.sheet_lines.specs.declared.Fields.{Fields}
 use Rattle.sheet_lines.specs.declared.Request.{Request}
 use Rattle.sheet_lines.specs.declared.Header.{Header}
 use Rattle.sheet_lines.specs.declared.Header.the-variants.{Asked, Malformed}
-use Rattle.sheet_lines.specs.Header.{mostBars, columned, given, accepted, requestOf, readHeader}
+use Rattle.sheet_lines.specs.Header.{
+  mostBars,
+  columned,
+  given,
+  isRule,
+  accepted,
+  requestOf,
+  readFields,
+  readHeader,
+}
 
 record Small (h : Header) : Type 0 where
   few : (r : Request) → h ≡ Asked r → r .bars ≤ mostBars
@@ -34,19 +42,16 @@ accepted-small true t r h e =
     record { few = λ q d. let same : r ≡ q = cc in rw (← same) (h e) }
 accepted-small false t r h e = absurd (false≢true e)
 
-request-small : (desk rule n m bars : Field) → Small (requestOf desk rule n m bars)
+request-small : (f : Fields) → Small (requestOf f)
 unfolding requestOf
-request-small desk rule n m bars =
-    given-small desk (λ d. given-small rule (λ r. given-small n (λ a. given-small m (λ b. given-small bars (λ l.
+request-small f =
+    given-small (f .desk) (λ d. given-small (f .rule) (λ r. given-small (f .n) (λ a. given-small (f .m) (λ b.
+    given-small (f .bars) (λ l.
     cond-small (accepted r l)
-    (accepted-small (leb 1 r && leb r 3) (leb l mostBars) (record { desk = d; rule = r; n = a; m = b; bars = l })
+    (accepted-small (isRule r) (leb l mostBars) (record { desk = d; rule = r; n = a; m = b; bars = l })
     (leb-true l mostBars))
     no-request)))))
 
 pub header-small : (line : List ℕ) (r : Request) → readHeader line ≡ Asked r → r .bars ≤ mostBars
 unfolding readHeader
-header-small line =
-    cond-small (columned 26 line) (λ e.
-    request-small (readField (slice 0 4 line)) (readField (slice 4 8 line)) (readField (slice 8 14 line))
-    (readField (slice 14 20 line)) (readField (slice 20 26 line)))
-    no-request .few
+header-small line = cond-small (columned 26 line) (λ e. request-small (readFields line)) no-request .few

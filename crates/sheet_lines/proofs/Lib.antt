@@ -3,4 +3,5 @@ pub mod Reading
 pub mod Signs
 pub mod Bars
 pub mod Places
+pub mod LineLength
 pub mod Positions

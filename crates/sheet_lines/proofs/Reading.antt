@@ -12,7 +12,7 @@ use lib.ListN.{length, getD}
 use lib.Seq.{slice, slice-empty, slice-cons, length-slice}
 use Rattle.sheet_lines.specs.declared.columns.Field.the-variants.{Value, Broken}
 use Rattle.sheet_lines.specs.declared.columns.Price.the-variants.{Unpriced}
-use Rattle.sheet_lines.specs.Read.{unpadded, numberAfter, number, above, below, signed}
+use Rattle.sheet_lines.specs.Read.{unpadded, numberAfter, number, positive, negative, signed}
 use Rattle.sheet_lines.specs.inner.Adds.{Few}
 
 -- the columns from i on, and the byte in column i
@@ -40,11 +40,11 @@ module _ (line : List ℕ) (i to : ℕ) (h : i < to) (k : to ≤ length line) wh
   unfolding number
   some-columns = rw next-column
 
-  pub minus-column : getD line i 0 ≡ 45 → signed (slice i to line) ≡ below (number (slice (i + 1) to line))
+  pub minus-column : getD line i 0 ≡ 45 → signed (slice i to line) ≡ negative (number (slice (i + 1) to line))
   unfolding signed
   minus-column e = rw (next-column, eq-eqb _ _ e)
 
-  pub plain-column : (getD line i 0 ≡ 45 → ⊥) → signed (slice i to line) ≡ above (number (slice i to line))
+  pub plain-column : (getD line i 0 ≡ 45 → ⊥) → signed (slice i to line) ≡ positive (number (slice i to line))
   unfolding signed
   plain-column e = rw (next-column, ne-eqb _ _ e)
 

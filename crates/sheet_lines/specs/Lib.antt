@@ -6,3 +6,4 @@ pub mod inner
 pub mod LineCases
 pub mod Header
 pub mod Printed
+pub mod Reason

@@ -10,7 +10,7 @@ use Rattle.sheet_lines.specs.Print.{printField}
 use Rattle.sheet_lines.specs.declared.Request.{Request}
 
 -- the bytes of an answer's first line, of a position's line and of the last
--- line, each with its line feed; src/lib.rt has constants of the same numbers
+-- line, each with its line feed; src/text.rt has constants of the same numbers
 abbrev pub headBytes : ℕ
 headBytes = 19
 
@@ -19,6 +19,10 @@ positionBytes = 5
 
 abbrev pub lastBytes : ℕ
 lastBytes = 13
+
+-- the refusal of a line that breaks its columns; src/text.rt has a constant of the same number
+abbrev pub brokenLine : ℕ
+brokenLine = 10
 
 -- desk in 4 columns, rule in 4, refusal in 4, count in 6
 unfoldable pub headLine : ℕ → ℕ → ℕ → ℕ → List ℕ

@@ -35,18 +35,18 @@ unfoldable pub readField : List ℕ → Field
 readField columns = number (unpadded columns)
 
 -- so many ticks, and so many below zero; -0 is 0
-abbrev pub above : Field → Price
-above (Value v) = Ticks (ofInt binary64 (pos v))
-above Broken = Unpriced
+abbrev pub positive : Field → Price
+positive (Value v) = Ticks (ofInt binary64 (pos v))
+positive Broken = Unpriced
 
-abbrev pub below : Field → Price
-below (Value v) = Ticks (ofInt binary64 (negℤ (pos v)))
-below Broken = Unpriced
+abbrev pub negative : Field → Price
+negative (Value v) = Ticks (ofInt binary64 (negℤ (pos v)))
+negative Broken = Unpriced
 
 -- a number of ticks with or without a minus
 unfoldable pub signed : List ℕ → Price
 signed [] = Unpriced
-signed (b ∷ rest) = cond (eqb b 45) (below (number rest)) (above (number (b ∷ rest)))
+signed (b ∷ rest) = cond (eqb b 45) (negative (number rest)) (positive (number (b ∷ rest)))
 
 -- the price that its columns say
 unfoldable pub readPrice : List ℕ → Price

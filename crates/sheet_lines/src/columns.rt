@@ -3,7 +3,7 @@ ghost use mathlib.Core.Path.{_≡_};
 ghost use Prim.Native.Nat.{_+_, _-_, _<_, _≤_};
 ghost use lib.ListN.{length};
 ghost use lib.Seq.{slice};
-ghost use Rattle.sheet_lines.specs.Read.{unpadded, number, readField, above, below, readPrice};
+ghost use Rattle.sheet_lines.specs.Read.{unpadded, number, readField, positive, negative, readPrice};
 ghost use Rattle.sheet_lines.specs.inner.Adds.{Few, Adds};
 ghost use Rattle.sheet_lines.specs.Print.{column, leading, printField};
 
@@ -78,16 +78,16 @@ pub fn read_price(line: &[u8], from: usize, to: usize) -> Price
         return Price::Unpriced;
     }
     if line[first] == b'-' {
-        below_zero(digits(line, first + 1, to))
+        negative(digits(line, first + 1, to))
     } else {
-        above_zero(digits(line, first, to))
+        positive(digits(line, first, to))
     }
 }
 
 // So many ticks.
-fn above_zero(ticks: Field) -> Price
+fn positive(ticks: Field) -> Price
     requires { ⌜ Few ticks ⌝ }
-    ensures { λ r. ⌜ r ≡ above ticks ⌝ }
+    ensures { λ r. ⌜ r ≡ positive ticks ⌝ }
 {
     match ticks {
         Field::Value(v) => Price::Ticks(v as f64),
@@ -96,9 +96,9 @@ fn above_zero(ticks: Field) -> Price
 }
 
 // So many ticks below zero; there is no -0.
-fn below_zero(ticks: Field) -> Price
+fn negative(ticks: Field) -> Price
     requires { ⌜ Few ticks ⌝ }
-    ensures { λ r. ⌜ r ≡ below ticks ⌝ }
+    ensures { λ r. ⌜ r ≡ negative ticks ⌝ }
 {
     match ticks {
         Field::Value(v) => {

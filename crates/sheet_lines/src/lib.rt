@@ -1,5 +1,6 @@
 // A request's lines read, on byte slices.
 pub mod columns;
+pub mod reasons;
 pub mod text;
 
 use columns::Field;
@@ -8,10 +9,22 @@ ghost use mathlib.Core.Path.{_≡_};
 ghost use Prim.Native.Nat.{_+_, _≤_};
 ghost use lib.ListN.{length};
 ghost use lib.Seq.{slice};
-ghost use Rattle.sheet_lines.specs.Header.{requestOf, readHeader, readPriceLine};
+ghost use Rattle.sheet_lines.specs.Header.{
+  headerBytes,
+  priceBytes,
+  requestOf,
+  readFields,
+  readHeader,
+  readPriceLine,
+};
 
 // The most bars of one request.
 pub const MOST_BARS: usize = 512;
+
+// The bytes of a request's first line and of a price's line, each with its line feed.
+pub const HEADER_BYTES: usize = 27;
+
+pub const PRICE_BYTES: usize = 13;
 
 // What a request's first line asks.
 pub struct Request {
@@ -28,10 +41,43 @@ pub enum Header {
     Malformed,
 }
 
-// The request that its five numbers make.
-fn request_of(desk: Field, rule: Field, n: Field, m: Field, bars: Field) -> Header
-    ensures { λ r. ⌜ r ≡ requestOf desk rule n m bars ⌝ }
+// The five fields of a request's first line.
+pub struct Fields {
+    pub desk: Field,
+    pub rule: Field,
+    pub n: Field,
+    pub m: Field,
+    pub bars: Field,
+}
+
+// The fields in the line from `at` on.
+pub fn read_fields(block: &[u8], at: usize) -> Fields
+    requires { ⌜ at + headerBytes ≤ length (now block) ⌝ }
+    ensures { λ r. ⌜ r ≡ readFields (slice at (at + headerBytes) (now (block .entry))) ⌝ }
 {
+    let desk = columns::read_field(block, at, at + 4);
+    let rule = columns::read_field(block, at + 4, at + 8);
+    let n = columns::read_field(block, at + 8, at + 14);
+    let m = columns::read_field(block, at + 14, at + 20);
+    let bars = columns::read_field(block, at + 20, at + 26);
+    Fields {
+        desk: desk,
+        rule: rule,
+        n: n,
+        m: m,
+        bars: bars,
+    }
+}
+
+// The request that its five numbers make.
+fn request_of(fields: Fields) -> Header
+    ensures { λ r. ⌜ r ≡ requestOf fields ⌝ }
+{
+    let desk = fields.desk;
+    let rule = fields.rule;
+    let n = fields.n;
+    let m = fields.m;
+    let bars = fields.bars;
     let Field::Value(desk) = desk else {
         return Header::Malformed;
     };
@@ -65,27 +111,23 @@ fn request_of(desk: Field, rule: Field, n: Field, m: Field, bars: Field) -> Head
     })
 }
 
-// The request in the 27 bytes from `at` on, its line feed with it.
+// The request in the line from `at` on, its line feed with it.
 pub fn read_header(block: &[u8], at: usize) -> Header
-    requires { ⌜ at + 27 ≤ length (now block) ⌝ }
-    ensures { λ r. ⌜ r ≡ readHeader (slice at (at + 27) (now (block .entry))) ⌝ }
+    requires { ⌜ at + headerBytes ≤ length (now block) ⌝ }
+    ensures { λ r. ⌜ r ≡ readHeader (slice at (at + headerBytes) (now (block .entry))) ⌝ }
 {
-    let desk = columns::read_field(block, at, at + 4);
-    let rule = columns::read_field(block, at + 4, at + 8);
-    let n = columns::read_field(block, at + 8, at + 14);
-    let m = columns::read_field(block, at + 14, at + 20);
-    let bars = columns::read_field(block, at + 20, at + 26);
+    let fields = read_fields(block, at);
     if block[at + 26] == b'\n' {
-        request_of(desk, rule, n, m, bars)
+        request_of(fields)
     } else {
         Header::Malformed
     }
 }
 
-// The price in the 13 bytes from `at` on, its line feed with it.
+// The price in the line from `at` on, its line feed with it.
 pub fn read_price_line(block: &[u8], at: usize) -> Price
-    requires { ⌜ at + 13 ≤ length (now block) ⌝ }
-    ensures { λ r. ⌜ r ≡ readPriceLine (slice at (at + 13) (now (block .entry))) ⌝ }
+    requires { ⌜ at + priceBytes ≤ length (now block) ⌝ }
+    ensures { λ r. ⌜ r ≡ readPriceLine (slice at (at + priceBytes) (now (block .entry))) ⌝ }
 {
     if block[at + 12] == b'\n' {
         columns::read_price(block, at, at + 12)

@@ -26,6 +26,9 @@ pub const POSITION_BYTES: usize = 5;
 
 pub const LAST_BYTES: usize = 13;
 
+// The refusal of a line that breaks its columns.
+pub const BROKEN_LINE: u64 = 10;
+
 // Prints an answer's first line from `at` on.
 pub fn print_head(text: &mut [u8], at: usize, desk: u64, rule: u64, refusal: u64, count: u64)
     requires { ⌜ at + headBytes ≤ length (now text) ⌝ }

@@ -1,7 +1,7 @@
 -- What the loop that reads a request's prices goes by. Assumes nothing.
 use mathlib.Core.Path.{_≡_, refl, _∙_}
 use mathlib.Core.List.{List, [], _++_}
-use Prim.Native.Nat.{ℕ, _+_, _-_, _*_, _<_, _≤_}
+use Prim.Native.Nat.{ℕ, suc, _+_, _-_, _*_, _<_, _≤_}
 use native.Mathlib.Numerals.{add-one}
 use native.Mathlib.Omega.{arith}
 use borrow.Author.Tests.{eq-eqb, ne-eqb}
@@ -11,69 +11,78 @@ use lib.Ieee.{Float}
 use Rattle.sheet_lines.specs.declared.columns.Price.{Price}
 use Rattle.sheet_lines.specs.declared.columns.Price.the-variants.{Ticks, Unpriced}
 use Rattle.sheet_lines.specs.declared.Request.{Request}
-use Rattle.sheet_lines.specs.Header.{readPriceLine}
+use Rattle.sheet_lines.specs.Header.{priceBytes, readPriceLine}
+use Rattle.sheet_lines.specs.Reason.{priceReason}
 use Rattle.sheet_requests.specs.declared.Counts.{Counts}
-use Rattle.sheet_requests.specs.Sheet.{collecting, broken, settled, gathered, priced, lines, outcome}
+use Rattle.sheet_requests.specs.Counts.{afterLines}
+use Rattle.sheet_requests.specs.Sheet.{collecting, broken, completed, withPrices, priced, lines, outcome}
 use Rattle.sheet_requests.specs.inner.Place.{finally}
 use Rattle.sheet_requests.proofs.Lines.{finally-broken, line-at}
 use Rattle.sheet_requests.proofs.Strict.{price-reader}
 
 module _ (counts : Counts) (r : Request) (series : List Float) (got : ℕ) (h : got ≤ length series) where
   -- some price is missing: the request waits for it
-  pub waits : (got ≡ r .bars → ⊥) → gathered counts r (take got series) ≡ record {
+  pub waits : (got ≡ r .bars → ⊥) → withPrices counts r (take got series) ≡ record {
     prints = [];
     state = collecting counts r (take got series);
   }
-  unfolding gathered
+  unfolding withPrices
   waits e = rw (length-take-le got series h, ne-eqb _ _ e)
 
   -- all are there
-  pub all-there : got ≡ r .bars → gathered counts r (take got series) ≡ settled counts r (take (r .bars) series)
-  unfolding gathered
+  pub all-there : got ≡ r .bars → withPrices counts r (take got series) ≡ completed counts r (take (r .bars) series)
+  unfolding withPrices
   all-there e = rw (length-take-le got series h, eq-eqb _ _ e, e)
 
 -- The prices from `got` to i are those of the lines from `at`
 -- to `place`, of any request that has room for `end` prices.
-pub record Gathering (block : List ℕ) (at end got : ℕ) (old : List Float) (place i : ℕ)
+pub record PricesSoFar (block : List ℕ) (at end got : ℕ) (old : List Float) (place i : ℕ)
     (now : List Float) : Type 0 where
   pub same : (r : Request) → end ≤ r .bars → (counts : Counts) (more : List ℕ)
       → outcome (collecting counts r (take got old)) (lines (drop at block ++ more))
-      ≡ finally (gathered counts r (take i now)) (lines (drop place block ++ more))
-  pub pace : place ≡ at + 13 * (i - got)
+      ≡ finally (withPrices (afterLines (i - got) counts) r (take i now)) (lines (drop place block ++ more))
+  pub pace : place ≡ at + priceBytes * (i - got)
   pub long : length now ≡ length old
 
 module _ {block : List ℕ} {at end got : ℕ} {old : List Float} where
-  pub none-gathered : (got < end) × (end ≤ length old) → Gathering block at end got old at got old
-  none-gathered (h, l) =
+  pub none-read : (got < end) × (end ≤ length old) → PricesSoFar block at end got old at got old
+  none-read (h, l) =
       record {
-        same = λ r e counts more. rw (waits counts r old got (omega arith) (λ z. omega arith));
+        same = λ r e counts more.
+            let none : got - got ≡ 0 = omega arith in
+            rw (none, waits counts r old got (omega arith) (λ z. omega arith));
         pace = omega arith;
         long = refl;
       }
 
-  module _ {place i : ℕ} {now : List Float} {read : Price} (w : Gathering block at end got old place i now)
-      (is : read ≡ readPriceLine (slice place (place + 13) block))
-      (fit : (place + 13 ≤ length block) × (got ≤ i) × (i < end) × (end ≤ length old)) where
+  module _ {place i : ℕ} {now : List Float} {read : Price} (w : PricesSoFar block at end got old place i now)
+      (is : read ≡ readPriceLine (slice place (place + priceBytes) block))
+      (fit : (place + priceBytes ≤ length block) × (got ≤ i) × (i < end) × (end ≤ length old)) where
     -- what the next line is read as
     next : (r : Request) → end ≤ r .bars → (counts : Counts) (more : List ℕ)
         → outcome (collecting counts r (take got old)) (lines (drop at block ++ more))
-        ≡ finally (priced counts r (take i now) read) (lines (drop (place + 13) block ++ more))
+        ≡ finally (priced (afterLines (i - got) counts) r (take i now) (slice place (place + priceBytes) block) read)
+        (lines (drop (place + priceBytes) block ++ more))
     next r e counts more =
         let (p, q, h, l) = fit in
-        rw (w .same r e counts more, waits counts r now i (omega (arith, w .long)) (λ z. omega arith), is)
-        (line-at (price-reader counts r (take i now)) block more place p)
+        let before = afterLines (i - got) counts in
+        rw (w .same r e counts more, waits before r now i (omega (arith, w .long)) (λ z. omega arith), is)
+        (line-at (price-reader before r (take i now)) block more place p)
 
-    pub one-gathered : {x : Float} → read ≡ Ticks x → Gathering block at end got old (place + 13) (i + 1) (set now i x)
-    one-gathered {x} t =
+    pub one-read : {x : Float} → read ≡ Ticks x
+        → PricesSoFar block at end got old (place + priceBytes) (i + 1) (set now i x)
+    one-read {x} t =
         let (p, q, h, l) = fit in
         record {
-          same = λ r e counts more. next r e counts more
-              ∙ rw (t, add-one, take-suc-set now i x (omega (arith, w .long)));
+          same = λ r e counts more.
+              let one-more : i + 1 - got ≡ suc (i - got) = omega arith in
+              next r e counts more ∙ rw (t, one-more, add-one i, take-suc-set now i x (omega (arith, w .long)));
           pace = omega (arith, w .pace);
           long = length-set now i x ∙ w .long;
         }
 
     pub one-broken : read ≡ Unpriced → (r : Request) → end ≤ r .bars → (counts : Counts) (more : List ℕ)
         → outcome (collecting counts r (take got old)) (lines (drop at block ++ more))
-        ≡ finally (broken counts) (lines (drop place block ++ more))
-    one-broken t r e counts more = next r e counts more ∙ rw t (finally-broken counts _ _)
+        ≡ finally (broken (afterLines (i - got) counts) (priceReason (slice place (place + priceBytes) block)))
+        (lines (drop place block ++ more))
+    one-broken t r e counts more = next r e counts more ∙ rw t (finally-broken (afterLines (i - got) counts) _ _ _)

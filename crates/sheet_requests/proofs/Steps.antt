@@ -9,9 +9,10 @@ use Rattle.sheet_requests.specs.declared.blocks.Place.{Place}
 use Rattle.sheet_requests.specs.declared.blocks.Stage.{Stage}
 use Rattle.sheet_requests.specs.declared.blocks.Stage.the-variants.{Stopped}
 use Rattle.sheet_lines.specs.Printed.{headBytes}
+use Rattle.sheet_lines.specs.declared.reasons.Reason.{Reason}
 use Rattle.sheet_requests.specs.declared.Counts.{Counts}
 use Rattle.sheet_requests.specs.Sheet.{Step, broken, lines, outcome}
-use Rattle.sheet_requests.specs.inner.Place.{stateOf, pending, finally, Stepped}
+use Rattle.sheet_requests.specs.inner.Place.{stateOf, answerIfComplete, finally, Stepped}
 use Rattle.sheet_requests.specs.inner.Taken.{textRoom, Taken}
 use Rattle.sheet_requests.proofs.Lines.{finally-broken}
 
@@ -22,27 +23,28 @@ Comes block p series t at =
     ≡ finally t (lines (drop at block ++ more))
 
 -- where nothing is read any more, no step is to be made
-none-pending : (stage : Stage) (counts : Counts) (series : List Float) → stage ≡ Stopped
-    → pending stage counts series ≡ record { prints = []; state = stateOf stage counts series }
-none-pending stage counts series e = rw e
+none-to-answer : (stage : Stage) (counts : Counts) (series : List Float) {reason : Reason} → stage ≡ Stopped reason
+    → answerIfComplete stage counts series ≡ record { prints = []; state = stateOf stage counts series }
+none-to-answer stage counts series e = rw e
 
 module _ {block : List ℕ} {p q : Place} {series series′ : List Float} {text text′ : List ℕ} where
   -- a broken line was met, and the rest of the block is passed
-  pub stops : (at : ℕ) → let counts = p .sheet .counts in
-      ((series : List Float)
-      → Stepped (broken counts) series (length block) (p .filled) q text text′) × (q .sheet .stage ≡ Stopped)
+  pub stops : (at : ℕ) (counts : Counts) (reason : Reason)
+      → ((series : List Float)
+      → Stepped (broken counts reason) series (length block) (p .filled) q text text′)
+      × (q .sheet .stage ≡ Stopped reason)
       × (q .filled ≡ p .filled + headBytes)
-      → Comes block p series (broken counts) at
+      → Comes block p series (broken counts reason) at
       → (p .at < length block) × (p .filled + headBytes ≤ length block + textRoom)
       → Taken block p series text q series′ text′
-  stops at (made, stage, filled) comes (forth, room) =
+  stops at counts reason (made, stage, filled) comes (forth, room) =
       let made′ = made series′ in
       let at-end = made′ .place in
       record {
         same = λ more. rw (
-          comes more,
-          finally-broken (p .sheet .counts) (lines (drop at block ++ more)) (lines (drop (q .at) block ++ more)),
-          none-pending (q .sheet .stage) (q .sheet .counts) series′ stage,
+          comes more
+              ∙ finally-broken counts reason (lines (drop at block ++ more)) (lines (drop (q .at) block ++ more)),
+          none-to-answer (q .sheet .stage) (q .sheet .counts) series′ stage,
           made′ .state,
           made′ .text .text,
           append-assoc,

@@ -19,17 +19,19 @@ use Rattle.sheet_lines.specs.Read.{
   readField,
   signed,
   readPrice,
-  above,
-  below,
+  positive,
+  negative,
 }
 use Rattle.sheet_lines.specs.declared.Request.{Request}
 use Rattle.sheet_lines.specs.declared.Header.{Header}
 use Rattle.sheet_lines.specs.declared.Header.the-variants.{Malformed}
-use Rattle.sheet_lines.specs.Header.{columned, given, requestOf, readHeader, readPriceLine}
+use Rattle.sheet_lines.specs.declared.Fields.{Fields}
+use Rattle.sheet_lines.specs.Header.{columned, given, requestOf, readFields, readHeader, readPriceLine}
+use Rattle.sheet_lines.specs.Reason.{noFeed, clean, headerReason, priceReason}
 use Rattle.sheet_requests.specs.declared.Counts.{Counts}
-use Rattle.sheet_requests.specs.Sheet.{waiting, collecting, begun, priced}
+use Rattle.sheet_requests.specs.Sheet.{waiting, collecting}
 use Rattle.cells.proofs.Kept.{take-drop}
-use Rattle.sheet_requests.proofs.Lines.{noFeed, clean, Reader}
+use Rattle.sheet_requests.proofs.Lines.{Reader}
 
 -- a line feed is no digit
 digits-fed : (digits : List ℕ) (v : ℕ) → noFeed digits ≡ false → numberAfter v digits ≡ Broken
@@ -68,7 +70,7 @@ unfolding signed
 signed-fed [] e = refl
 signed-fed (b ∷ rest) e = go (eqb b 45) (eqb-true b 45)
   where
-    go : (t : Bool) → (t ≡ true → b ≡ 45) → cond t (below (number rest)) (above (number (b ∷ rest))) ≡ Unpriced
+    go : (t : Bool) → (t ≡ true → b ≡ 45) → cond t (negative (number rest)) (positive (number (b ∷ rest))) ≡ Unpriced
     go true f = rw (number-fed rest (rw (f refl) at e))
     go false f = rw (number-fed (b ∷ rest) e)
 
@@ -98,19 +100,21 @@ given-bad (Value v) next h = h v
 given-bad Broken next h = refl
 
 -- one broken field breaks the request
-request-fed : (t1 t2 t3 t4 t5 : Bool) {f1 f2 f3 f4 f5 : Field}
-    → (t1 ≡ false → f1 ≡ Broken) → (t2 ≡ false → f2 ≡ Broken) → (t3 ≡ false → f3 ≡ Broken) → (t4 ≡ false → f4 ≡ Broken)
-    → (t5 ≡ false → f5 ≡ Broken)
-    → (((t1 && t2) && t3) && t4) && t5 ≡ false → requestOf f1 f2 f3 f4 f5 ≡ Malformed
+request-fed : (t1 t2 t3 t4 t5 : Bool) (f : Fields)
+    → (t1 ≡ false → f .desk ≡ Broken) → (t2 ≡ false → f .rule ≡ Broken) → (t3 ≡ false → f .n ≡ Broken)
+    → (t4 ≡ false → f .m ≡ Broken) → (t5 ≡ false → f .bars ≡ Broken)
+    → (((t1 && t2) && t3) && t4) && t5 ≡ false → requestOf f ≡ Malformed
 unfolding requestOf
-request-fed false t2 t3 t4 t5 h1 h2 h3 h4 h5 e = rw (h1 refl)
-request-fed true false t3 t4 t5 {f1} h1 h2 h3 h4 h5 e = given-bad f1 _ (λ d. rw (h2 refl))
-request-fed true true false t4 t5 {f1} {f2} h1 h2 h3 h4 h5 e = given-bad f1 _ (λ d. given-bad f2 _ (λ r. rw (h3 refl)))
-request-fed true true true false t5 {f1} {f2} {f3} h1 h2 h3 h4 h5 e =
-    given-bad f1 _ (λ d. given-bad f2 _ (λ r. given-bad f3 _ (λ n. rw (h4 refl))))
-request-fed true true true true false {f1} {f2} {f3} {f4} h1 h2 h3 h4 h5 e =
-    given-bad f1 _ (λ d. given-bad f2 _ (λ r. given-bad f3 _ (λ n. given-bad f4 _ (λ m. rw (h5 refl)))))
-request-fed true true true true true h1 h2 h3 h4 h5 e = absurd (true≢false e)
+request-fed false t2 t3 t4 t5 f h1 h2 h3 h4 h5 e = rw (h1 refl)
+request-fed true false t3 t4 t5 f h1 h2 h3 h4 h5 e = given-bad (f .desk) _ (λ d. rw (h2 refl))
+request-fed true true false t4 t5 f h1 h2 h3 h4 h5 e =
+    given-bad (f .desk) _ (λ d. given-bad (f .rule) _ (λ r. rw (h3 refl)))
+request-fed true true true false t5 f h1 h2 h3 h4 h5 e =
+    given-bad (f .desk) _ (λ d. given-bad (f .rule) _ (λ r. given-bad (f .n) _ (λ n. rw (h4 refl))))
+request-fed true true true true false f h1 h2 h3 h4 h5 e =
+    given-bad (f .desk) _ (λ d. given-bad (f .rule) _ (λ r. given-bad (f .n) _ (λ n. given-bad (f .m) _ (λ m.
+    rw (h5 refl)))))
+request-fed true true true true true f h1 h2 h3 h4 h5 e = absurd (true≢false e)
 
 -- what a line that is not clean is, whatever is read of its columns
 unclean-read : {A : Type 0} (c n : Bool) (x bad : A) → c && n ≡ false → (n ≡ false → x ≡ bad) → cond c x bad ≡ bad
@@ -122,7 +126,7 @@ unfolding readHeader
 header-strict line e =
     unclean-read (columned 26 line) (noFeed (take 26 line)) _ Malformed e (λ d.
     request-fed (noFeed (slice 0 4 line)) (noFeed (slice 4 8 line)) (noFeed (slice 8 14 line))
-    (noFeed (slice 14 20 line)) (noFeed (slice 20 26 line))
+    (noFeed (slice 14 20 line)) (noFeed (slice 20 26 line)) (readFields line)
     (field-fed (slice 0 4 line))
     (field-fed (slice 4 8 line))
     (field-fed (slice 8 14 line))
@@ -136,9 +140,11 @@ price-strict line e = unclean-read (columned 12 line) (noFeed (take 12 line)) _ 
 
 -- ---- the two states that read
 
-pub header-reader : (counts : Counts) → Reader (waiting counts) 26 counts readHeader (begun counts)
-header-reader counts = record { bad = Malformed; steps = λ line. refl; strict = header-strict; breaks = refl }
+pub header-reader : (counts : Counts) → Reader (waiting counts) 26 counts headerReason
+unfolding headerReason
+header-reader counts = record { breaks = λ line e. rw (header-strict line e); tells = λ line e. rw e }
 
 pub price-reader : (counts : Counts) (r : Request) (prices : List Float)
-    → Reader (collecting counts r prices) 12 counts readPriceLine (priced counts r prices)
-price-reader counts r prices = record { bad = Unpriced; steps = λ line. refl; strict = price-strict; breaks = refl }
+    → Reader (collecting counts r prices) 12 counts priceReason
+unfolding priceReason
+price-reader counts r prices = record { breaks = λ line e. rw (price-strict line e); tells = λ line e. rw e }

@@ -17,15 +17,26 @@ use Rattle.sheet_lines.specs.Read.{number, readField, signed, readPrice}
 use Rattle.sheet_lines.specs.Print.{printField}
 use Rattle.sheet_lines.specs.Header.{requestOf, readHeader, readPriceLine}
 use Rattle.sheet_lines.specs.Printed.{headLine, positionLines, answerText, lastLine}
+use Rattle.sheet_lines.specs.declared.reasons.Reason.the-variants.{LineLength, PriceField, InputEnds}
+use Rattle.sheet_lines.specs.Reason.{headerReason, priceReason}
+use Rattle.sheet_requests.specs.declared.status.Fault.the-variants.{Nowhere, At}
 use Rattle.sheet_requests.specs.Answer.{ruleAnswer, ruleLine}
 use Rattle.sheet_requests.specs.Counts.{closing}
-use Rattle.sheet_requests.specs.Sheet.{lines, gathered, ending, outcome, sheet}
+use Rattle.sheet_requests.specs.Sheet.{
+  lines,
+  withPrices,
+  ending,
+  outcome,
+  whole,
+  sheet,
+  brokenAt,
+}
 
 -- document 01's example
 example :
     sheet (bytes "   7   2     1     2     4\n          10\n          12\n          12\n          11\n")
     ≡ bytes "   7   2   0     4\n   0\n   1\n   1\n  -1\n           0\n"
-unfolding sheet outcome lines gathered ending closing
+unfolding whole outcome lines withPrices ending closing
     readHeader requestOf readPriceLine readField readPrice signed number
     answerText headLine positionLines lastLine printField
     ruleAnswer ruleLine answered doubleAnswer slices checked windowed accepted
@@ -54,10 +65,29 @@ sheets :
     ∷ "   3   3   0     1\n   0\n   0   0  10     0\n           1\n"
     ∷ []
     )
-unfolding sheet outcome lines gathered ending closing
+unfolding whole outcome lines withPrices ending closing
     readHeader requestOf readPriceLine readField readPrice signed number
     answerText headLine positionLines lastLine printField
     ruleAnswer ruleLine answered doubleAnswer slices checked windowed accepted
     singleLine doubleLine midLine mean windowSum extreme pickFrom runningMean runningSum recur sumFrom fromBar signOf
     add sub div ofInt lt eq le toBits
 sheets = refl
+
+-- no input and a whole request break nowhere; the second price is none; an input
+-- ends after its second line, and inside its first; the line after a request is short
+faults :
+    map (λ input. brokenAt (bytes input))
+    (
+    ""
+    ∷ "   0   1     1     0     1\n           5\n"
+    ∷ "   1   1     1     0     2\n           5\n           x\n   7"
+    ∷ "   1   1     1     0     2\n           5\n"
+    ∷ "   7   2"
+    ∷ "   0   1     1     0     1\n           5\nbad\n"
+    ∷ []
+    )
+    ≡ Nowhere ∷ Nowhere ∷ At 3 PriceField ∷ At 3 InputEnds ∷ At 1 InputEnds ∷ At 3 LineLength ∷ []
+unfolding whole outcome lines withPrices ending
+    readHeader requestOf readPriceLine readField readPrice signed number headerReason priceReason
+    ruleAnswer answered checked windowed slices accepted ofInt lt eq le toBits
+faults = refl

@@ -1,4 +1,5 @@
--- What the program writes for a whole input: a step on its lines, from the first to the last. Assumes nothing.
+-- What the program writes for a whole input, and where the input breaks its columns: a
+-- step on its lines, from the first to the last. Assumes nothing.
 use mathlib.Core.Bool.{cond}
 use mathlib.Core.List.{List, [], _∷_, _++_}
 use Prim.Native.Nat.{ℕ}
@@ -10,11 +11,16 @@ use Rattle.sheet_lines.specs.declared.columns.Price.the-variants.{Ticks, Unpric
 use Rattle.sheet_lines.specs.declared.Request.{Request}
 use Rattle.sheet_lines.specs.declared.Header.{Header}
 use Rattle.sheet_lines.specs.declared.Header.the-variants.{Asked, Malformed}
+use Rattle.sheet_lines.specs.declared.reasons.Reason.{Reason}
+use Rattle.sheet_lines.specs.declared.reasons.Reason.the-variants.{InputEnds}
 use Rattle.sheet_lines.specs.Header.{readHeader, readPriceLine}
-use Rattle.sheet_lines.specs.Printed.{headLine, answerText}
+use Rattle.sheet_lines.specs.Reason.{headerReason, priceReason}
+use Rattle.sheet_lines.specs.Printed.{brokenLine, headLine, answerText}
 use Rattle.sheet_requests.specs.declared.Counts.{Counts}
+use Rattle.sheet_requests.specs.declared.status.Fault.{Fault}
+use Rattle.sheet_requests.specs.declared.status.Fault.the-variants.{Nowhere, At}
 use Rattle.sheet_requests.specs.Answer.{ruleAnswer, ruleLine}
-use Rattle.sheet_requests.specs.Counts.{noneRefused, after, afterBroken, closing}
+use Rattle.sheet_requests.specs.Counts.{noneYet, after, afterLines, afterBroken, closing}
 
 -- ---- the lines
 
@@ -34,7 +40,7 @@ lines (b ∷ rest) = cond (eqb b 10) ((b ∷ []) ∷ lines rest) (lengthen b (li
 pub data State : Type 0 where
   waiting : Counts → State
   collecting : Counts → Request → List Float → State
-  stopped : Counts → State
+  stopped : Counts → Reason → State
 
 -- what a line prints, and the state after it
 pub record Step : Type 0 where
@@ -42,48 +48,69 @@ pub record Step : Type 0 where
   pub state : State
 
 -- desk 0, rule 0, refusal 10, count 0, and no further reading
-abbrev pub broken : Counts → Step
-broken c = record { prints = headLine 0 0 10 0; state = stopped (afterBroken c) }
+abbrev pub broken : Counts → Reason → Step
+broken c reason = record { prints = headLine 0 0 brokenLine 0; state = stopped (afterBroken c) reason }
 
 -- a request with all its prices is answered
-abbrev pub settled : Counts → Request → List Float → Step
-settled c r prices =
+abbrev pub completed : Counts → Request → List Float → Step
+completed c r prices =
     record {
       prints = answerText r (ruleAnswer r prices) (ruleLine r prices);
       state = waiting (after c r (ruleAnswer r prices));
     }
 
 -- a request with these prices: more are to come, or they are all there
-unfoldable pub gathered : Counts → Request → List Float → Step
-gathered c r prices =
-    cond (eqb (length prices) (r .bars)) (settled c r prices) (record { prints = []; state = collecting c r prices })
+unfoldable pub withPrices : Counts → Request → List Float → Step
+withPrices c r prices =
+    cond (eqb (length prices) (r .bars)) (completed c r prices) (record { prints = []; state = collecting c r prices })
 
-abbrev pub begun : Counts → Header → Step
-begun c (Asked r) = gathered c r []
-begun c Malformed = broken c
+abbrev pub begun : Counts → List ℕ → Header → Step
+begun c line (Asked r) = withPrices (afterLines 1 c) r []
+begun c line Malformed = broken c (headerReason line)
 
-abbrev pub priced : Counts → Request → List Float → Price → Step
-priced c r prices (Ticks x) = gathered c r (prices ++ (x ∷ []))
-priced c r prices Unpriced = broken c
+abbrev pub priced : Counts → Request → List Float → List ℕ → Price → Step
+priced c r prices line (Ticks x) = withPrices (afterLines 1 c) r (prices ++ (x ∷ []))
+priced c r prices line Unpriced = broken c (priceReason line)
 
 abbrev pub step : State → List ℕ → Step
-step (waiting c) line = begun c (readHeader line)
-step (collecting c r prices) line = priced c r prices (readPriceLine line)
-step (stopped c) line = record { prints = []; state = stopped c }
+step (waiting c) line = begun c line (readHeader line)
+step (collecting c r prices) line = priced c r prices line (readPriceLine line)
+step (stopped c reason) line = record { prints = []; state = stopped c reason }
 
 -- ---- the whole
 
--- what is printed where the input ends: inside a request, that its lines break off
-unfoldable pub ending : State → List ℕ
-ending (waiting c) = closing c
-ending (collecting c r prices) = broken c .prints ++ closing (afterBroken c)
-ending (stopped c) = closing c
+-- what the lines come to: all that is printed, and where they break
+pub record Outcome : Type 0 where
+  pub text : List ℕ
+  pub fault : Fault
 
--- what is printed from a state on
-unfoldable pub outcome : State → List (List ℕ) → List ℕ
+-- a text printed, and then the rest
+abbrev pub printing : List ℕ → Outcome → Outcome
+printing text rest = record { text = text ++ rest .text; fault = rest .fault }
+
+-- what is printed last
+abbrev pub closed : Counts → Fault → Outcome
+closed c fault = record { text = closing c; fault = fault }
+
+-- The input ends: inside a request, the line that is missing breaks it.
+unfoldable pub ending : State → Outcome
+ending (waiting c) = closed c Nowhere
+ending (collecting c r prices) =
+    printing (broken c InputEnds .prints) (closed (afterBroken c) (At (afterBroken c .lines) InputEnds))
+ending (stopped c reason) = closed c (At (c .lines) reason)
+
+-- what the lines come to from a state on
+unfoldable pub outcome : State → List (List ℕ) → Outcome
 outcome s [] = ending s
-outcome s (line ∷ rest) = step s line .prints ++ outcome (step s line .state) rest
+outcome s (line ∷ rest) = printing (step s line .prints) (outcome (step s line .state) rest)
+
+unfoldable pub whole : List ℕ → Outcome
+whole input = outcome (waiting noneYet) (lines input)
 
 -- All that the program writes for the input.
-unfoldable pub sheet : List ℕ → List ℕ
-sheet input = outcome (waiting noneRefused) (lines input)
+abbrev pub sheet : List ℕ → List ℕ
+sheet input = whole input .text
+
+-- Where the input breaks its columns: the line, counted from 1, and the reason.
+abbrev pub brokenAt : List ℕ → Fault
+brokenAt input = whole input .fault

@@ -11,8 +11,8 @@ ghost use lib.ListN.{length, take};
 ghost use Rattle.sheet_lines.specs.Header.{mostBars};
 ghost use Rattle.sheet_lines.specs.Printed.{headBytes, positionBytes};
 ghost use Rattle.sheet_requests.specs.Answer.{workCells, RequestCall};
-ghost use Rattle.sheet_requests.specs.Sheet.{settled};
-ghost use Rattle.sheet_requests.specs.inner.Place.{owed, pending, Fits, Stepped, Gathered};
+ghost use Rattle.sheet_requests.specs.Sheet.{completed};
+ghost use Rattle.sheet_requests.specs.inner.Place.{textOwed, answerIfComplete, PricesFit, Stepped, SteppedInRoom};
 ghost use Rattle.sheet_requests.specs.inner.Lent.{Lent};
 
 // Answers the request by its rule, on the first prices of the series; the positions are in `out`.
@@ -34,7 +34,7 @@ pub fn answer(request: Request, series: &[f64], out: &mut [f64], work: &mut [f64
 }
 
 // Answers a request whose prices are all there, and prints the answer.
-fn settle(
+fn answer_complete(
     request: Request,
     counts: Counts,
     at: usize,
@@ -46,7 +46,7 @@ fn settle(
 ) -> Place
     requires { ⌜ (request .bars ≤ mostBars) × Lent (now series) (now out) (now work)
         × (filled + headBytes + positionBytes * request .bars ≤ length (now text)) ⌝ }
-    ensures { λ r. ⌜ Stepped (settled counts request (take (request .bars) (now (series .entry))))
+    ensures { λ r. ⌜ Stepped (completed counts request (take (request .bars) (now (series .entry))))
         (now (series .entry)) at filled r (now (text .entry)) (now (text .exit))
         × (r .sheet .stage ≡ Stage.Waiting) × (r .filled ≤ filled + headBytes + positionBytes * request .bars)
         × (now (work .exit) ≡ now (work .entry)) ⌝ }
@@ -64,18 +64,18 @@ fn settle(
 }
 
 // A request that has all its prices is answered; any other place stays as it is.
-pub fn gather(
+pub fn answer_if_complete(
     place: Place,
     series: &[f64],
     out: &mut [f64],
     work: &mut [f64],
     text: &mut [u8],
 ) -> Place
-    requires { ⌜ Fits (place .sheet .stage) × Lent (now series) (now out) (now work)
-        × (place .filled + owed (place .sheet .stage) ≤ length (now text)) ⌝ }
-    ensures { λ r. ⌜ Gathered (pending (place .sheet .stage) (place .sheet .counts) (now (series .entry)))
+    requires { ⌜ PricesFit (place .sheet .stage) × Lent (now series) (now out) (now work)
+        × (place .filled + textOwed (place .sheet .stage) ≤ length (now text)) ⌝ }
+    ensures { λ r. ⌜ SteppedInRoom (answerIfComplete (place .sheet .stage) (place .sheet .counts) (now (series .entry)))
         (now (series .entry)) (place .at) (place .filled) r (now (text .entry)) (now (text .exit))
-        (place .filled + owed (place .sheet .stage))
+        (place .filled + textOwed (place .sheet .stage))
         × (now (work .exit) ≡ now (work .entry)) ⌝ }
 {
     let sheet = place.sheet;
@@ -84,7 +84,7 @@ pub fn gather(
         Stage::Waiting => place,
         Stage::Collecting(request, got) => {
             if got == request.bars {
-                settle(
+                answer_complete(
                     request,
                     sheet.counts,
                     place.at,
@@ -98,6 +98,6 @@ pub fn gather(
                 place
             }
         }
-        Stage::Stopped => place,
+        Stage::Stopped(_) => place,
     }
 }

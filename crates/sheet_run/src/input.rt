@@ -8,12 +8,12 @@ use libc::STDOUT_FILENO;
 ghost use mathlib.Core.Path.{_≡_};
 ghost use Prim.Native.Nat.{_≤_, _+_};
 ghost use lib.ListN.{length, take};
-ghost use Rattle.sheet_run.specs.Run.{inputOf, came};
+ghost use Rattle.sheet_run.specs.Run.{inputOf, bytesRead};
 ghost use Rattle.sheet_run.specs.inner.Refills.{Refills};
 
 // What a read answered: so many bytes came, the input has ended, or it could not be read.
 pub enum Input {
-    Came(usize),
+    Bytes(usize),
     Ended,
     Failed,
 }
@@ -41,13 +41,13 @@ fn input_of(got: isize, room: &[u8]) -> Input
     if count == 0 {
         Input::Ended
     } else {
-        Input::Came(count)
+        Input::Bytes(count)
     }
 }
 
 // Reads once. The reason why a read failed goes to standard error.
 fn read_some(room: &mut [u8]) -> Input
-    ensures { λ r. ⌜ came r ≤ length (now (room .entry)) ⌝ }
+    ensures { λ r. ⌜ bytesRead r ≤ length (now (room .entry)) ⌝ }
 {
     let got = libc::read(STDIN_FILENO, room);
     if got < 0 {
@@ -59,7 +59,7 @@ fn read_some(room: &mut [u8]) -> Input
 // Reads once behind the first `kept` bytes of the block, which stay.
 fn read_on(block: &mut [u8], kept: usize) -> Input
     requires { ⌜ kept ≤ length (now block) ⌝ }
-    ensures { λ r. ⌜ (kept + came r ≤ length (now (block .entry)))
+    ensures { λ r. ⌜ (kept + bytesRead r ≤ length (now (block .entry)))
         × (take kept (now (block .exit)) ≡ take kept (now (block .entry))) ⌝ }
 {
     read_some(&mut block[kept..])
@@ -67,10 +67,10 @@ fn read_on(block: &mut [u8], kept: usize) -> Input
 
 // How many bytes came.
 fn count_of(input: Input) -> usize
-    ensures { λ r. ⌜ r ≡ came input ⌝ }
+    ensures { λ r. ⌜ r ≡ bytesRead input ⌝ }
 {
     match input {
-        Input::Came(count) => count,
+        Input::Bytes(count) => count,
         Input::Ended => 0,
         Input::Failed => 0,
     }

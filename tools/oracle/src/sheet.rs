@@ -1,6 +1,7 @@
 //! Document 01's sheet program, read apart from the one in Rattle, with the standard library and pure.rs.
 
 use std::io::{BufRead, Read, Result, Write};
+use std::result::Result as Either;
 
 use crate::call::Value;
 use crate::catalogue::{self, Function, Role};
@@ -9,6 +10,7 @@ use crate::source;
 const HEADER: &[usize] = &[4, 4, 6, 6, 6];
 const PRICE: usize = 12;
 const MOST_BARS: usize = 512;
+const FIELDS: [&str; 5] = ["desk", "rule", "n", "m", "bars"];
 
 struct Request {
     desk: usize,
@@ -18,19 +20,25 @@ struct Request {
     prices: Vec<f64>,
 }
 
-/// Answers each request in turn; a line that breaks its columns is refusal 10, and nothing is read after it.
-pub fn run(mut input: impl BufRead, mut output: impl Write) -> Result<()> {
+/// Answers each request in turn; a line that breaks its columns is refusal 10, and nothing is read after it. Gives what
+/// is said of that line.
+pub fn run(mut input: impl BufRead, mut output: impl Write) -> Result<Option<String>> {
     let mut refused = 0;
-    while !input.fill_buf()?.is_empty() {
-        let Some(request) = read_request(&mut input)? else {
-            print_head(&mut output, 0, 0, 10, 0)?;
-            refused += 1;
-            break;
-        };
-        refused += answer(request, &mut output)?;
+    let mut lines = 0;
+    let mut fault = None;
+    while fault.is_none() && !input.fill_buf()?.is_empty() {
+        match read_request(&mut input, &mut lines)? {
+            Ok(request) => refused += answer(request, &mut output)?,
+            Err(words) => {
+                print_head(&mut output, 0, 0, 10, 0)?;
+                refused += 1;
+                fault = Some(format!("line {lines}: {words}"));
+            }
+        }
     }
     writeln!(output, "{refused:12}")?;
-    output.flush()
+    output.flush()?;
+    Ok(fault)
 }
 
 /// Prints the answer of one request, and gives 1 if it is refused.
@@ -61,34 +69,56 @@ fn rule(number: usize) -> Option<&'static Function> {
     catalogue::named(name)
 }
 
-/// A request's line and its prices; none if a column is broken or the input ends first.
-fn read_request(input: &mut impl BufRead) -> Result<Option<Request>> {
-    let Some(line) = read_line(input, HEADER.iter().sum())? else { return Ok(None) };
+/// A request's line and its prices, or why the last line that was read is broken. Counts the lines, that one too.
+fn read_request(input: &mut impl BufRead, lines: &mut usize) -> Result<Either<Request, String>> {
+    let line = match read_line(input, HEADER.iter().sum(), lines)? {
+        Ok(line) => line,
+        Err(words) => return Ok(Err(words)),
+    };
     let mut fields = [0; 5];
     let mut start = 0;
-    for (field, width) in fields.iter_mut().zip(HEADER) {
-        let Some(value) = decimal(&line[start..start + width]) else { return Ok(None) };
+    for ((field, width), name) in fields.iter_mut().zip(HEADER).zip(FIELDS) {
+        let Some(value) = decimal(&line[start..start + width]) else {
+            return Ok(Err(format!("{name}: not a decimal number in {width} columns")));
+        };
         *field = value;
         start += width;
     }
     let [desk, number, n, m, bars] = fields.map(|x| x as usize);
-    if rule(number).is_none() || bars > MOST_BARS {
-        return Ok(None);
+    if rule(number).is_none() {
+        return Ok(Err("rule: not 1, 2 or 3".into()));
+    }
+    if bars > MOST_BARS {
+        return Ok(Err(format!("bars: more than {MOST_BARS}")));
     }
     let mut prices = Vec::with_capacity(bars);
     for _ in 0..bars {
-        let Some(line) = read_line(input, PRICE)? else { return Ok(None) };
-        let Some(ticks) = price(&line) else { return Ok(None) };
+        let line = match read_line(input, PRICE, lines)? {
+            Ok(line) => line,
+            Err(words) => return Ok(Err(words)),
+        };
+        let Some(ticks) = price(&line) else {
+            return Ok(Err(format!("price: not a decimal number in {PRICE} columns")));
+        };
         prices.push(ticks as f64);
     }
-    Ok(Some(Request { desk, rule: number, n, m, prices }))
+    Ok(Ok(Request { desk, rule: number, n, m, prices }))
 }
 
-/// A line of just this length with its line feed, which is left off; none where the input has another.
-fn read_line(input: &mut impl BufRead, length: usize) -> Result<Option<Vec<u8>>> {
+/// A line of just this length with its line feed, which is left off, or why there is none.
+fn read_line(input: &mut impl BufRead, length: usize, lines: &mut usize) -> Result<Either<Vec<u8>, String>> {
+    *lines += 1;
     let mut line = Vec::with_capacity(length + 1);
     input.by_ref().take(length as u64 + 1).read_until(b'\n', &mut line)?;
-    Ok((line.len() == length + 1 && line.pop() == Some(b'\n')).then_some(line))
+    let ended = line.last() == Some(&b'\n');
+    Ok(if line.len() <= length && !ended {
+        Err("the input ends inside a request".into())
+    } else if line.len() == length + 1 && ended {
+        line.pop();
+        Ok(line)
+    } else {
+        Err("another line length: a request has 26 columns, a price 12".into())
+    })
 }
 
 /// A right-justified decimal: blanks, then digits to the last column. Leading zeros are digits like others.

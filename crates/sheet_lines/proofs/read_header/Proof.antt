@@ -1,11 +1,9 @@
--- `read_header` meets its contract: the line feed decides, and
--- each field is read from its own columns. Assumes nothing.
-use native.Mathlib.Nat.{add-zero}
+-- `read_header` meets its contract: the line feed decides, and the fields make the request. Assumes nothing.
 use native.Mathlib.Omega.{arith}
 use borrow.Author.Needs.{needs}
 use denote.Ref.{now}
 use Rattle.sheet_lines.specs.Header.{readHeader}
-use Rattle.sheet_lines.proofs.Places.{columns-at, is-columned, not-columned}
+use Rattle.sheet_lines.proofs.Places.{is-columned, not-columned}
 use Rattle.sheet_lines.proofs.read_header.Statement.{statement}
 use Rattle.sheet_lines.proofs.read_header.Tie as tie
 
@@ -13,53 +11,25 @@ returns : tie.Need-returns
 unfolding readHeader
 returns c =
     let line-feed = c .before in
-    let to-bars = line-feed .before .before in
-    let to-m = to-bars .before in
-    let to-n = to-m .before in
-    let to-rule = to-n .before in
-    let to-desk = to-rule .before in
-    let a = to-desk .before .before .args in
-    let columns = columns-at (now (a .block)) (a .at) 27 in
+    let read = line-feed .before .before in
+    let a = read .before .before .args in
     rw (
       is-columned (now (a .block)) (a .at) 26 (omega arith) (line-feed .if1 .taken),
-      columns 0 4 (omega arith),
-      add-zero,
-      columns 4 8 (omega arith),
-      columns 8 14 (omega arith),
-      columns 14 20 (omega arith),
-      columns 20 26 (omega arith),
-      ← to-desk .read-field .ensures,
-      ← to-rule .read-field2 .ensures,
-      ← to-n .read-field3 .ensures,
-      ← to-m .read-field4 .ensures,
-      ← to-bars .read-field5 .ensures,
+      ← read .read-fields .ensures,
     )
     (c .request-of .ensures)
 
 returns-2 : tie.Need-returns-2
 unfolding readHeader
 returns-2 c =
-    let a = c .before .before .before .before .before .before .before .before .args in
+    let a = c .before .before .before .before .args in
     rw (not-columned (now (a .block)) (a .at) 26 (omega arith) (c .if1 .left))
 
 pub read-header-spec : {M : Type 1} → statement M
 read-header-spec =
     tie.close
     (tie.spec
-    (λ c. search needs)  -- add-read-field
-    (λ c κs. search needs)  -- read-field-requires
-    (λ c. search needs)  -- add-read-field-2
-    (λ c. search needs)  -- add-read-field-3
-    (λ c κs. search needs)  -- read-field-requires-2
-    (λ c. search needs)  -- add-read-field-4
-    (λ c. search needs)  -- add-read-field-5
-    (λ c κs. search needs)  -- read-field-requires-3
-    (λ c. search needs)  -- add-read-field-6
-    (λ c. search needs)  -- add-read-field-7
-    (λ c κs. search needs)  -- read-field-requires-4
-    (λ c. search needs)  -- add-read-field-8
-    (λ c. search needs)  -- add-read-field-9
-    (λ c κs. search needs)  -- read-field-requires-5
+    (λ c κs. search needs)  -- read-fields-requires
     (λ c. search needs)  -- add-if1
     (λ c. search needs)  -- shared-slice-read-if1
     (λ c κs. search needs)  -- request-of-requires

@@ -16,8 +16,8 @@ numbers : (c : tie.After-known-told5) →
     let to-n = to-m .before .before .before in
     let to-rule = to-n .before .before .before in
     let to-desk = to-rule .before .before .before in
-    let a = to-desk .before .before .args in
-    requestOf (a .desk) (a .rule) (a .n) (a .m) (a .bars)
+    let a = to-desk .before .before .args .fields in
+    requestOf a
     ≡ cond (accepted (to-rule .rule .given .0 .0) (to-bars .bars .given .0 .0))
     (Asked (record {
       desk = to-desk .desk .given .0 .0;

@@ -1,7 +1,7 @@
 -- What is carried before the first turn. Assumes nothing.
 use mathlib.Core.Bool.{true}
 use Rattle.sheet_requests.specs.inner.Place.{beginning}
-use Rattle.sheet_run.specs.declared.input.Input.the-variants.{Came}
+use Rattle.sheet_run.specs.declared.input.Input.the-variants.{Bytes}
 use Rattle.sheet_run.specs.declared.carried.Carried.{Carried}
 
 -- before the first turn
@@ -10,6 +10,6 @@ start =
     record {
       place = record { sheet = beginning; at = 0; filled = 0 };
       end = 0;
-      input = Came 0;
+      input = Bytes 0;
       output = record { bytes = 0; taken = true };
     }

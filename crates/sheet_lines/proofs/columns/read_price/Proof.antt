@@ -9,15 +9,15 @@ use Rattle.sheet_lines.proofs.Reading.{minus-column, plain-column, no-p
 use Rattle.sheet_lines.proofs.columns.read_price.Statement.{statement}
 use Rattle.sheet_lines.proofs.columns.read_price.Tie as tie
 
-below-zero-requires : tie.Need-below-zero-requires
-below-zero-requires c κs =
+negative-requires : tie.Need-negative-requires
+negative-requires c κs =
     let at = c .before .before .before .before in
     let a = at .before .before .args in
     rw (c .digits .ensures)
     (number-few (now (a .line)) (at .after-blanks .result + 1) (a .to) (omega arith) (omega arith))
 
-above-zero-requires : tie.Need-above-zero-requires
-above-zero-requires c κs =
+positive-requires : tie.Need-positive-requires
+positive-requires c κs =
     let at = c .before .before .before .before in
     let a = at .before .before .args in
     rw (c .digits2 .ensures) (number-few (now (a .line)) (at .after-blanks .result) (a .to) (omega arith) (omega arith))
@@ -33,7 +33,7 @@ returns-2 c =
       at .after-blanks .ensures .2,
       minus-column (now (a .line)) first (a .to) some (omega arith) (c .before .before .if2 .taken),
       ← c .before .digits .ensures,
-      ← c .below-zero .ensures,
+      ← c .negative .ensures,
     )
 
 returns-3 : tie.Need-returns-3
@@ -47,7 +47,7 @@ returns-3 c =
       at .after-blanks .ensures .2,
       plain-column (now (a .line)) first (a .to) some (omega arith) (c .before .before .if2 .left),
       ← c .before .digits2 .ensures,
-      ← c .above-zero .ensures,
+      ← c .positive .ensures,
     )
 
 pub read-price-spec : {M : Type 1} → statement M
@@ -59,9 +59,9 @@ read-price-spec =
     (λ c. search needs)  -- shared-slice-read-if2
     (λ c. search needs)  -- add-digits
     (λ c κs. search needs)  -- digits-requires
-    below-zero-requires
+    negative-requires
     (λ c κs. search needs)  -- digits-requires-2
-    above-zero-requires
+    positive-requires
     returns-2
     returns-3
     )

@@ -11,7 +11,7 @@ use lib.ListN.{length}
 use lib.Signed.{ltZ}
 use mir.Facts.{toZ-ofZ}
 use Rattle.io.specs.Counts.{clamped}
-use Rattle.sheet_run.specs.declared.input.Input.the-variants.{Came, Failed}
+use Rattle.sheet_run.specs.declared.input.Input.the-variants.{Bytes, Failed}
 use Rattle.sheet_run.specs.Run.{inputFrom, inputOf}
 use Rattle.sheet_run.proofs.input.input_of.Statement.{statement}
 use Rattle.sheet_run.proofs.input.input_of.Tie as tie
@@ -26,7 +26,7 @@ unfolding inputOf
 counted (pos k) room n e d = rw d
 counted (negsuc k) room n e d = absurd (true≢false e)
 
-some : (n : ℕ) → (n ≡ 0 → ⊥) → Came n ≡ inputFrom n
+some : (n : ℕ) → (n ≡ 0 → ⊥) → Bytes n ≡ inputFrom n
 some zero e = absurd (e refl)
 some (suc n) e = refl
 

@@ -3,15 +3,15 @@ use Prim.Native.Nat.{ℕ, zero, suc, _≤_, min}
 use native.Mathlib.Omega.{arith}
 use borrow.Author.Needs.{needs}
 use lib.IntN.{ℤ, pos, negsuc}
-use Rattle.sheet_run.specs.Run.{inputFrom, inputOf, came}
+use Rattle.sheet_run.specs.Run.{inputFrom, inputOf, bytesRead}
 use Rattle.sheet_run.proofs.input.read_some.Statement.{statement}
 use Rattle.sheet_run.proofs.input.read_some.Tie as tie
 
-from-few : (n : ℕ) → came (inputFrom n) ≤ n
+from-few : (n : ℕ) → bytesRead (inputFrom n) ≤ n
 from-few zero = omega arith
 from-few (suc n) = omega arith
 
-of-few : (z : ℤ) (room : ℕ) → came (inputOf z room) ≤ room
+of-few : (z : ℤ) (room : ℕ) → bytesRead (inputOf z room) ≤ room
 unfolding inputOf
 of-few (pos k) room = omega (arith, from-few (min k room))
 of-few (negsuc k) room = omega arith

@@ -1,0 +1,12 @@
+-- `missing_line` meets its contract: the line after those that were read. Assumes nothing.
+use borrow.Author.Needs.{needs}
+use Rattle.sheet_requests.proofs.closing.missing_line.Statement.{statement}
+use Rattle.sheet_requests.proofs.closing.missing_line.Tie as tie
+
+pub missing-line-spec : {M : Type 1} → statement M
+missing-line-spec =
+    tie.close
+    (tie.spec
+    (λ c κs. search needs)  -- broken-requires
+    (λ c. rw (c .broken .ensures))  -- returns
+    )

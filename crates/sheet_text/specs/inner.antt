@@ -1,0 +1,3 @@
+-- What the crate's own functions ask of each other.
+pub mod Block
+pub mod Standing
