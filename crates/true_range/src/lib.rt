@@ -52,8 +52,8 @@ pub fn write_ranges(
     first: CloseBefore,
     out: &mut [f64],
 )
-    requires { ⌜ Three (now high) (now low) (now close) (length (now out)) [] × (back ≤ 1) ⌝ }
-    requires { ⌜ acceptedClose first ≡ true ⌝ }
+    requires { ⌜ Three (now high) (now low) (now close) (length (now out)) [] × (back ≤ 1)
+        × (acceptedClose first ≡ true) ⌝ }
     ensures { λ _. ⌜ Ranged (now (high .entry)) (now (low .entry))
         (givenBefore first (backBy back (line (now (close .entry))))) (now (out .entry)) (now (out .exit)) ⌝ }
 {

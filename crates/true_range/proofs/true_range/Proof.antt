@@ -27,7 +27,7 @@ due c = some-cells (c .before .before .and-then .result) (c .before .has-cells .
 write-ranges-requires : tie.Need-write-ranges-requires
 write-ranges-requires c κs =
     let ready = range-ready _ _ _ _ _ (answer (c .before .before .before)) (due (c .before)) in
-    ((ready .0, omega arith), ready .1)
+    (ready .0, omega arith, ready .1)
 
 returns : tie.Need-returns
 returns c =

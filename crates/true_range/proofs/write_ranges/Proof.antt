@@ -24,7 +24,7 @@ range-of-requires : tie.Need-range-of-requires Inv-loop μ-loop
 range-of-requires c κs =
     let at = c .before .before .before .before in
     let pre = at .before .before .before .before .before .pre in
-    numbers-at _ _ _ _ (at .loop .i) (pre .0 .0) (pre .0 .1) (pre .1) (omega arith) (c .close-before .ensures)
+    numbers-at _ _ _ _ (at .loop .i) (pre .0) (pre .1) (pre .2) (omega arith) (c .close-before .ensures)
 
 loop-again : tie.Need-loop-again Inv-loop μ-loop
 loop-again c =
