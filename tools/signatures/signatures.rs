@@ -1,5 +1,6 @@
 //! Reads the header, the bindings and the definitions of the C functions into one form, and compares them:
-//!   signatures HEADER BINDINGS DEFINITIONS STRUCTS
+//!   signatures HEADER BINDINGS DEFINITIONS STRUCTS..
+//! STRUCTS are the files with the structs that the definitions give.
 
 use std::collections::BTreeMap;
 use std::process::ExitCode;
@@ -37,10 +38,9 @@ impl Signature {
 /// A file without the lines that are comments or belong to a preprocessor.
 fn read(file: &str) -> String {
     let text = std::fs::read_to_string(file).unwrap_or_else(|error| panic!("{file}: {error}"));
-    let is_code =
-        |line: &&str| !["//", "/*", " *", "#if", "#end", "#inc", "#def"].iter().any(|no| line.starts_with(no));
-    let lines: Vec<&str> = text.lines().filter(is_code).filter(|line| !line.trim_start().starts_with("//")).collect();
-    lines.join(" ")
+    let others = ["//", "/*", "*", "#if", "#endif", "#include", "#define"];
+    let is_code = |line: &&str| !others.iter().any(|start| line.trim_start().starts_with(start));
+    text.lines().filter(is_code).collect::<Vec<_>>().join(" ")
 }
 
 /// What stands before a bracket, between it and the next one that closes, and after that.
@@ -178,13 +178,14 @@ fn same(first: (&str, &Signatures), second: (&str, &Signatures)) -> bool {
 
 fn main() -> ExitCode {
     let files: Vec<String> = std::env::args().skip(1).collect();
-    let [header_file, bindings_file, defined_file, structs_file] = &files[..] else {
-        eprintln!("usage: signatures HEADER BINDINGS DEFINITIONS STRUCTS");
+    let [header_file, bindings_file, defined_file, structs_files @ ..] = &files[..] else {
+        eprintln!("usage: signatures HEADER BINDINGS DEFINITIONS STRUCTS..");
         return ExitCode::from(2);
     };
     let declared = header(&read(header_file));
     let bound = bindings(&read(bindings_file));
-    let defined = definitions(&read(defined_file), &read(structs_file));
+    let with_structs: String = structs_files.iter().map(|file| read(file)).collect();
+    let defined = definitions(&read(defined_file), &with_structs);
     let good = same((header_file, &declared), (bindings_file, &bound))
         & same((header_file, &unnamed(&declared)), (defined_file, &unnamed(&defined)));
     let functions = declared.keys().filter(|name| !is_struct(name)).count();

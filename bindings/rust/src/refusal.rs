@@ -6,17 +6,16 @@ use std::fmt::{Display, Formatter};
 /// Makes the enum of the refusals with their numbers; the words of each are its documentation and what it displays.
 macro_rules! refusals {
     ($($name:ident = $number:literal: $words:literal,)*) => {
-        /// Why a call is refused; the first that applies is given. The numbers are those of the C library.
+        /// Why a call is refused; the first that applies is given. The numbers are those of the C library, of which a
+        /// later version may have more.
         ///
         /// Accepted are finite values of magnitude at most 1,073,741,824, other than -0.0. A whole tick is an accepted
         /// value without a fraction, of magnitude at most 16,777,216.
-        ///
-        /// A later version of the library may have more of them.
         #[derive(Clone, Copy, Debug, PartialEq, Eq, Hash)]
         #[non_exhaustive]
         pub enum Refusal {
             $(#[doc = $words] $name,)*
-            /// A number that has no name here: the library that is linked is a later one.
+            /// a number that has no name here: the library that is linked is a later one
             Unknown(u64),
         }
 

@@ -2,7 +2,7 @@
 // (`exponential`).
 pub mod blend;
 pub mod exponential;
-pub mod halves;
+mod halves;
 
 use calls::Answer;
 use calls::Refusal;

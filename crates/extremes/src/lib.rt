@@ -1,6 +1,6 @@
 // The highest and the lowest of the last cells: the larger and the smaller of two, blocks of neighbouring cells
 // (`blocks`), and every window (`ranges`).
-pub mod blocks;
+mod blocks;
 pub mod ranges;
 
 ghost use mathlib.Core.Path.{_≡_};

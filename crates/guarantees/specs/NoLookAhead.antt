@@ -218,13 +218,16 @@ module _ {s t : List Float} {out₀ out₁ out₀′ out₁′ : List ℤ} {work
   pub boll-no-look-ahead : (n : ℕ) (k : Float) → BollCall s n k out₀ work₀ (Cells (length s)) out₁ work₁
       → BollCall t n k out₀′ work₀′ (Cells (length t)) out₁′ work₁′ → EqualCells (pos 0) out₁ out₁′ b
   unfolding answeredWith
-  boll-no-look-ahead n k c c′ = table-agrees (pos 0) accepted equal _ _ _ _ (causal-boll n k) (c .call) (c′ .call)
+  boll-no-look-ahead n k c c′ =
+      table-agrees (pos 0) accepted equal (length work₀ ∷ []) (length work₀′ ∷ []) _ _
+      (causal-boll n k) (c .call) (c′ .call)
 
   pub boll-reverse-no-look-ahead : (n : ℕ) (k : Float) → BollReverseCall s n k out₀ work₀ (Cells (length s)) out₁ work₁
       → BollReverseCall t n k out₀′ work₀′ (Cells (length t)) out₁′ work₁′ → EqualCells (pos 0) out₁ out₁′ b
   unfolding answeredWith
   boll-reverse-no-look-ahead n k c c′ =
-      table-agrees (pos 0) accepted equal _ _ _ _ (causal-boll-reverse n k) (c .call) (c′ .call)
+      table-agrees (pos 0) accepted equal (length work₀ ∷ []) (length work₀′ ∷ []) _ _
+      (causal-boll-reverse n k) (c .call) (c′ .call)
 
   pub rsi-reverse-no-look-ahead : (n : ℕ) (upper lower exit : Float)
       → RsiReverseCall s n upper lower exit out₀ work₀ (Cells (length s)) out₁ work₁
@@ -232,7 +235,8 @@ module _ {s t : List Float} {out₀ out₁ out₀′ out₁′ : List ℤ} {work
       → EqualCells (pos 0) out₁ out₁′ b
   unfolding answeredWith
   rsi-reverse-no-look-ahead n upper lower exit c c′ =
-      table-agrees (pos 0) accepted equal _ _ _ _ (causal-rsi-reverse n upper lower exit) (c .call) (c′ .call)
+      table-agrees (pos 0) accepted equal (length work₀ ∷ []) (length work₀′ ∷ []) _ _
+      (causal-rsi-reverse n upper lower exit) (c .call) (c′ .call)
 
 pub rolling-rank-no-look-ahead : {s t : List Float} {out₀ out₁ out₀′ out₁′ : List ℕ}
     {work₀ work₁ work₀′ work₁′ : List Float} {b : ℕ}

@@ -35,7 +35,8 @@ use Rattle.ranks.specs.Counted.{countFrom}
 use Rattle.rounding.specs.Literals.{tenToMinus}
 use Rattle.rounding_root.specs.Root.{nearestRoot, root, rootBelow, sqrtOf}
 use Rattle.rules_held.specs.Held.{hold, moved}
-use Rattle.holt_winters.specs.HoltWinters.{HoltWintersCall, weights, fitLine, fitWithin, nextFit, holtWintersLine, holtWintersAnswer}
+use Rattle.holt_winters.specs.HoltWinters.{HoltWintersCall, weights, fitLine, fitWithin, nextFit}
+use Rattle.holt_winters.specs.HoltWinters.{holtWintersLine, holtWintersAnswer}
 
 -- a cell of an output: an f64 or a whole number
 pub data Cell : Type 0 where
@@ -146,7 +147,8 @@ module _ {A : Type 0} (cell : A → Cell) (f : ℕ → A) (s : List Float) (cell
       let a = c .answer ∙ d in
       record { answer = a; output = rw (c .cells, a, all-written (length s) f out₀ long) e }
 
-  plain : (due : List Float → ℕ → Answer) → due s (length s) ≡ Cells (length s) → map cell (firstCells (length s) f) ≡ cells
+  plain : (due : List Float → ℕ → Answer) → due s (length s) ≡ Cells (length s)
+      → map cell (firstCells (length s) f) ≡ cells
       → Plain cell (λ out₀. Call (due s (length out₀)) f out₀) s cells
   plain due d e out₀ out₁ r long c = leaves (rw long d) e long c
 
@@ -159,8 +161,8 @@ pub starred : Every Holds table
 unfolding smaLine carried total toTick tickMeanLine singleLine runningMean doubleLine doubleAnswer mean windowSum
     sumFrom runningSum recur fromBar slices checked windowed answered accepted tick signOf add sub mul div ofInt
     toSigned whole lt eq le toBits rankLine wholeRank belowNow countFrom roundToWhole round rollingRankLine
-    rollingRankAnswer tenToMinus magnitudeOf neg mmsLine extreme pickFrom turnedBands bandSignals answeredWith hold moved
-    deviation sqrtOf nearestRoot root rootBelow finite holtWintersLine holtWintersAnswer fitLine fitWithin
+    rollingRankAnswer tenToMinus magnitudeOf neg mmsLine extreme pickFrom turnedBands bandSignals answeredWith hold
+    moved deviation sqrtOf nearestRoot root rootBelow finite holtWintersLine holtWintersAnswer fitLine fitWithin
     nextFit
 starred =
     plain number _ _ _ (λ s o. answered accepted s (2 ∷ []) o []) refl refl

@@ -9,9 +9,10 @@ use lib.Ieee.{Float, nan, isNan}
 use Rattle.cells.specs.Line.{Line, plusZero}
 use Rattle.cells.specs.Recur.{carried}
 use Rattle.cells.specs.Search.{nonZero, firstBar}
+use Rattle.cells.specs.Written.{Writing}
 use Rattle.cells.proofs.Line.{before-bar, from-bar}
 use Rattle.cells.proofs.Carried.{carried-seed, carried-next}
-use Rattle.cells.proofs.Search.{firstBar-found, firstBar-met, firstBar-most}
+use Rattle.cells.proofs.Search.{firstBar-found, firstBar-under}
 use Rattle.cells.proofs.Touched.{touched, untouched}
 use Rattle.cells.proofs.Written.{writing-same}
 use Rattle.averages.specs.Blend.{blend, emaAlpha}
@@ -32,6 +33,7 @@ use Rattle.jurik.specs.inner.Passes.{
   tested,
   blendedOnce,
   blendedTwice,
+  Started,
   Other,
   Differing,
   JvWritten,
@@ -43,15 +45,11 @@ use Rattle.jurik.proofs.Stages.{local-causal}
 
 -- ---- what the loops find
 
--- a bar that passes
-pub found-under : (t : ℕ → Bool) (j l : ℕ) → t j ≡ true → j < l → firstBar t l < l
-found-under t j l e h = let most = firstBar-most t j e in rw (firstBar-met t j l e h) (omega arith)
-
 -- one more bar, where one of those before may have passed
 or-under : (t : ℕ → Bool) (j l : ℕ) {p q : Bool} → (p ≡ true → firstBar t l < l) → q ≡ t j → j < l → p || q ≡ true
     → firstBar t l < l
 or-under t j l {p = true} h e k z = h refl
-or-under t j l {p = false} h e k z = found-under t j l (sym e ∙ z) k
+or-under t j l {p = false} h e k z = firstBar-under t j l (sym e ∙ z) k
 
 -- bars 1 and i differ
 pub differing-found : (f : Line) (i l : ℕ) {x y : Float} → x ≡ f 1 → y ≡ f i → isNumber x ≡ true
@@ -60,9 +58,8 @@ pub differing-found : (f : Line) (i l : ℕ) {x y : Float} → x ≡ f 1 → y �
     → Differing l f
 differing-found f i l p q number e (g, h) =
     record {
-      bars = omega arith;
-      number = rw p at number;
-      other = found-under (λ j. differs isNumber (f 1) (f j)) i l (rw (p, q) at e) h;
+      start = record { bars = omega arith; number = rw p at number };
+      other = firstBar-under (λ j. differs isNumber (f 1) (f j)) i l (rw (p, q) at e) h;
     }
 
 -- the averages begin with the value of bar 1
@@ -133,7 +130,7 @@ module _ (l : ℕ) (h : 1 < l) (f : Line) (begin : isNumber (f 0) ≡ false) (nu
   smooth1-is : (alpha : Float) (i : ℕ) → i < l → blendedOnce alpha f i ≡ averaged isNumber nan alpha f i
   smooth1-is alpha = averaged-is isNumber nan alpha l f 1 first-number
 
-module _ (l n : ℕ) (f : Line) (d : Differing l (priceChange f)) where
+module _ (l n : ℕ) (f : Line) (start : Started l (priceChange f)) where
   abbrev alpha : Float
   alpha = emaAlpha (n / 2)
 
@@ -142,31 +139,45 @@ module _ (l n : ℕ) (f : Line) (d : Differing l (priceChange f)) where
 
   average-is : (i : ℕ) → i < l → average i ≡ smooth1 false n f i
   unfolding smooth1
-  average-is = smooth1-is l (d .bars) (priceChange f) (price-change-begin f) (d .number) alpha
+  average-is = smooth1-is l (start .bars) (priceChange f) (price-change-begin f) (start .number) alpha
 
   average-number : isNumber (average 1) ≡ true
-  average-number = rw (carried-seed nan (blend alpha) 1 (priceChange f 1) (priceChange f)) (d .number)
+  average-number = rw (carried-seed nan (blend alpha) 1 (priceChange f 1) (priceChange f)) (start .number)
 
   smooth2-is : (i : ℕ) → i < l → blendedTwice alpha (priceChange f) i ≡ smooth2 false false n f i
   unfolding smooth2
   smooth2-is i h =
-      smooth1-is l (d .bars) average (blended-begin alpha (priceChange f)) average-number alpha i h
+      smooth1-is l (start .bars) average (blended-begin alpha (priceChange f)) average-number alpha i h
       ∙ local-causal l (causal-averaged isNumber nan alpha) average (smooth1 false n f) average-is i h
 
-  pub both-average : {r : Bool} {power : Float} {old now : List Float}
-      → JvWritten r l alpha power (priceChange f) old now
-      → BothAverage r n l power f old now
-  both-average {power = power} w =
-      let causal = causal-jv power in
-      let cells = local-causal l causal (blendedTwice alpha (priceChange f)) (smooth2 false false n f) smooth2-is in
-      let same = differing-same isNumber l average (smooth1 false n f) average-is in
-      record {
-        used = touched (w .cells);
-        cells = λ e. writing-same (w .cells) cells;
-        first = λ e. not-all-same l (d .bars) (priceChange f) (price-change-begin f) (d .number) (d .other);
-        second = λ e. rw (← same)
-            (not-all-same l (d .bars) average (blended-begin alpha (priceChange f)) average-number (w .other e));
-      }
+  -- `jv` of both averages
+  pub jv-averages : (power : Float) {old now : List Float}
+      → Writing l (jv power (blendedTwice alpha (priceChange f))) old now
+      → Writing l (jv power (smooth2 false false n f)) old now
+  jv-averages power w =
+      let twice = blendedTwice alpha (priceChange f) in
+      writing-same w (local-causal l (causal-jv power) twice (smooth2 false false n f) smooth2-is)
+
+  -- each pass averages where another number differs
+  first-averages : Other l (priceChange f) → allSame isNumber l (priceChange f) ≡ false
+  first-averages = not-all-same l (start .bars) (priceChange f) (price-change-begin f) (start .number)
+
+  second-averages : Other l average → allSame isNumber l (smooth1 false n f) ≡ false
+  second-averages o =
+      rw (← differing-same isNumber l average (smooth1 false n f) average-is)
+      (not-all-same l (start .bars) average (blended-begin alpha (priceChange f)) average-number o)
+
+pub both-average : (l n : ℕ) (f : Line) → Differing l (priceChange f)
+    → {r : Bool} {power : Float} {old now : List Float}
+    → JvWritten r l (emaAlpha (n / 2)) power (priceChange f) old now
+    → BothAverage r n l power f old now
+both-average l n f d {power = power} w =
+    record {
+      used = touched (w .cells);
+      cells = λ e. jv-averages l n f (d .start) power (w .cells);
+      first = λ e. first-averages l n f (d .start) (d .other);
+      second = λ e. second-averages l n f (d .start) (w .other e);
+    }
 
 -- one of them does not
 pub none-average : {n l : ℕ} {power : Float} {f : Line} {old : List Float} → BothAverage false n l power f old old

@@ -1,11 +1,10 @@
 -- The searches of a pass, and its cells, as the loops find them. Assumes nothing.
 use mathlib.Core.Path.{_≡_, refl, sym, _∙_}
-use mathlib.Core.Bool.{Bool, true, false, not, cond, _&&_}
+use mathlib.Core.Bool.{Bool, true, false, not}
 use mathlib.Core.List.{List}
-use Prim.Native.Nat.{ℕ, zero, suc, _+_, _-_, _<_, _≤_, min}
-use native.Mathlib.Nat.{le-of-suc-le-suc}
+use Prim.Native.Nat.{ℕ, suc, _+_, _-_, _<_, _≤_, min}
 use native.Mathlib.Omega.{arith}
-use borrow.Author.Tests.{ltb-true, ltb-false, leb-false}
+use borrow.Author.Tests.{ltb-true, ltb-false}
 use lib.Dec.{ltb}
 use lib.Ieee.{Float, nan, inf, fin, eq, ne}
 use Rattle.rounding.proofs.Patterns.{differs-nan}
@@ -15,9 +14,9 @@ use Rattle.cells.specs.Search.{firstBar}
 use Rattle.cells.proofs.Line.{before-bar}
 use Rattle.cells.proofs.Recur.{recur-same}
 use Rattle.cells.proofs.Carried.{from-same, carried-next}
-use Rattle.cells.proofs.Written.{stands, writing-same}
+use Rattle.cells.proofs.Written.{writing-same}
 use Rattle.cells.specs.Written.{Writing}
-use Rattle.cells.proofs.Search.{firstBar-same}
+use Rattle.cells.proofs.Search.{firstBar-same, firstBar-fewer, firstBar-before, firstBar-both}
 use Rattle.values.proofs.All.{and-true}
 use Rattle.averages.specs.Blend.{blend}
 use Rattle.jurik.specs.Jurik.{averaged, copied, firstDiffering, allSame, isNumber}
@@ -43,43 +42,6 @@ no-equal (fin s m e) = refl
 
 -- ---- searches
 
--- among fewer bars
-firstBar-fewer : (t : ℕ → Bool) (k l : ℕ) → k ≤ l → firstBar t k ≡ min (firstBar t l) k
-unfolding firstBar
-firstBar-fewer t zero l h = omega arith
-firstBar-fewer t (suc k) zero h = absurd (omega arith)
-firstBar-fewer t (suc k) (suc l) h = go (t 0) (firstBar-fewer (λ j. t (suc j)) k l (le-of-suc-le-suc h))
-  where
-    go : (p : Bool) → firstBar (λ j. t (suc j)) k ≡ min (firstBar (λ j. t (suc j)) l) k
-        → cond p 0 (suc (firstBar (λ j. t (suc j)) k)) ≡ min (cond p 0 (suc (firstBar (λ j. t (suc j)) l))) (suc k)
-    go true e = omega arith
-    go false e = omega arith
-
--- no bar before it passes
-firstBar-before : (t : ℕ → Bool) (l j : ℕ) → j < firstBar t l → t j ≡ false
-unfolding firstBar
-firstBar-before t zero j h = absurd (omega arith)
-firstBar-before t (suc l) j h = go (t 0) refl j h (firstBar-before (λ k. t (suc k)) l)
-  where
-    go : (p : Bool) → t 0 ≡ p → (i : ℕ) → i < cond p 0 (suc (firstBar (λ k. t (suc k)) l))
-        → ((k : ℕ) → k < firstBar (λ m. t (suc m)) l → t (suc k) ≡ false)
-        → t i ≡ false
-    go true e i g more = absurd (omega arith)
-    go false e zero g more = e
-    go false e (suc i) g more = more i (le-of-suc-le-suc g)
-
--- with a second test it ends no earlier
-firstBar-both : (t u : ℕ → Bool) (l : ℕ) → firstBar t l ≤ firstBar (λ j. t j && u j) l
-unfolding firstBar
-firstBar-both t u zero = omega arith
-firstBar-both t u (suc l) = go (t 0) (u 0) (firstBar-both (λ j. t (suc j)) (λ j. u (suc j)) l)
-  where
-    go : (p q : Bool) → firstBar (λ j. t (suc j)) l ≤ firstBar (λ j. t (suc j) && u (suc j)) l
-        → cond p 0 (suc (firstBar (λ j. t (suc j)) l))
-        ≤ cond (p && q) 0 (suc (firstBar (λ j. t (suc j) && u (suc j)) l))
-    go true q h = omega arith
-    go false q h = omega arith
-
 module _ (valid : Float → Bool) (l : ℕ) (f : Line) where
   -- every valid value differs from a NaN
   pub valid-is : firstBar (λ j. differs valid nan (f j)) l ≡ firstBar (λ j. valid (f j)) l
@@ -90,13 +52,6 @@ module _ (valid : Float → Bool) (l : ℕ) (f : Line) where
   unfolding firstDiffering
   differing-later =
       firstBar-both (λ j. valid (f j)) (λ j. not (eq (f j) (f (firstBar (λ k. valid (f k)) l)))) l
-
-  -- where there is one, there is a valid one
-  pub differing-inside : {a : ℕ} → a ≡ firstBar (λ j. valid (f j)) l → allSame valid l f ≡ false → a < l
-  differing-inside e p =
-      let h = leb-false l _ p in
-      let later = differing-later in
-      omega arith
 
   -- as it is searched for
   pub differing-is : {a : ℕ} → a ≡ firstBar (λ j. valid (f j)) l
@@ -134,9 +89,9 @@ carried-from d step a f g i h =
 
 module _ (d : Float) (step : Float → Float → Float) (a : ℕ) (seed : Float) (f : Line) where
   -- the cells before it
-  pub lead-carried : {old now : List Float} → Writing a (λ i. d) old now → Writing a (carried d step a seed f) now now
+  pub lead-carried : {old now : List Float} → Writing a (λ i. d) old now → Writing a (carried d step a seed f) old now
   unfolding carried
-  lead-carried w = stands (writing-same w (λ i l. sym (before-bar a d _ i l)))
+  lead-carried w = writing-same w (λ i l. sym (before-bar a d _ i l))
 
   -- the next cell
   pub next-carried : (i : ℕ) {x m y : Float} → x ≡ carried d step a seed f i → m ≡ f (i + 1) → y ≡ step x m → a ≤ i

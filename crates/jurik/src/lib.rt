@@ -1,6 +1,6 @@
 // The volatility of a series: the sizes of its changes, smoothed three times.
-pub mod bar;
-pub mod passes;
+mod bar;
+mod passes;
 
 use calls::Answer;
 ghost use mathlib.Core.Path.{_≡_};

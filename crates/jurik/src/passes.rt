@@ -1,6 +1,6 @@
 // The passes of the volatility smoothed three times: each averages or copies, over the values as they stand.
 ghost use mathlib.Core.Path.{_≡_};
-ghost use Prim.Native.Nat.{_/_, _<_, _≤_};
+ghost use Prim.Native.Nat.{_/_, _≤_};
 ghost use lib.ListN.{length};
 ghost use Rattle.cells.specs.Line.{line, plusZero};
 ghost use Rattle.cells.specs.Search.{nonZero};
@@ -34,13 +34,16 @@ fn copy_valid(cells: &mut [f64], bars: usize, not_zero: bool)
     }
 }
 
-// Writes over each value the average from bar `first` on, and `none` before it.
+// Writes over each value the average from bar `first` on, and `none` before it: to every bar where `first` is the end.
 fn average_from(cells: &mut [f64], bars: usize, first: usize, none: f64, alpha: f64)
-    requires { ⌜ (first < bars) × (bars ≤ length (now cells)) ⌝ }
+    requires { ⌜ (first ≤ bars) × (bars ≤ length (now cells)) ⌝ }
     ensures { λ _. ⌜ Writing bars (carried none (blend alpha) first (line (now (cells .entry)) first)
         (line (now (cells .entry)))) (now (cells .entry)) (now (cells .exit)) ⌝ }
 {
     cells::fill(cells, first, none);
+    if first == bars {
+        return;
+    }
     let mut last = cells[first];
     let mut i = first;
     while i + 1 < bars {

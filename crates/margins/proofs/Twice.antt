@@ -89,7 +89,8 @@ module _ (s : List Float) (n : ℕ) (ok : all accepted s ≡ true) (floats : (j 
   pub once-near : (i : ℕ) → i < length s
       → natAbs (signedUnits binary64 (runningMeans n (line s) i) -ℤ signedUnits binary64 (mean n (line s) i)) * 2 ^ 53
       ≤ spread m 0
-  once-near = running-means-near prices prices short 0 (λ j l. omega (arith, abs-same (signedUnits binary64 (line s j))))
+  once-near =
+      running-means-near prices prices short 0 (λ j l. omega (arith, abs-same (signedUnits binary64 (line s j))))
 
   -- the law: so are their averages
   twice-near : (i : ℕ) → i < length s

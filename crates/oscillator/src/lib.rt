@@ -1,6 +1,6 @@
 // The ultimate oscillator: buying pressure over true range in three windows.
-pub mod bar;
-pub mod ticks;
+mod bar;
+mod ticks;
 
 use calls::Answer;
 use true_range::CloseBefore;
@@ -13,7 +13,14 @@ ghost use Rattle.cells.specs.Line.{line, minusZero};
 ghost use Rattle.cells.specs.Written.{Writing};
 ghost use Rattle.cells.specs.inner.Touched.{Touched};
 ghost use Rattle.windows.specs.inner.Eight.{Windows, SixteenOf};
-ghost use Rattle.oscillator.specs.Oscillator.{pressures, share, weighedShares, oscillatorLine, oscillatorAnswer, OscillatorCall};
+ghost use Rattle.oscillator.specs.Oscillator.{
+  pressures,
+  share,
+  weighedShares,
+  oscillatorLine,
+  oscillatorAnswer,
+  OscillatorCall,
+};
 ghost use Rattle.oscillator.specs.inner.Begun.{Windows₃, Begun, afresh};
 ghost use Rattle.oscillator.specs.inner.Rows.{Ready, Whole₃, TwoRows, Reached, eachRatio, eachWeighed};
 ghost use Rattle.window_means.specs.inner.Row.{rowAt};

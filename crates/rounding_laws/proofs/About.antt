@@ -344,8 +344,8 @@ reach x⁺ x⁻ y⁺ y⁻ z⁺ z⁻ w⁺ w⁻ c b d e p u g B C r G eq same h m 
     (spread x⁺ z⁺ c z⁻ u x⁻ d g B h) (spread w⁺ y⁺ u y⁻ b w⁻ e g C m) (omega arith) (omega arith) in
     lt-of-mul-lt-mul-right (c * B) (omega arith)
 
--- Numbers that stand for z / c < w / b are in that order, where their errors are too small to reach: z / c is below w / b
--- by r / (c b k) at least.
+-- Numbers that stand for z / c < w / b are in that order, where their errors are too small to reach: z / c is below
+-- w / b by r / (c b k) at least.
 pub about-lt-by : {f : Format} {x y : Float} {z w : ℤ} {c b d e : ℕ} (k r : ℕ) → About f x z c d → About f y w b e
     → (above z * b + below w * c) * k + r ≤ (above w * c + below z * b) * k
     → (d * b + e * c) * k < 2 ^ prec f * 2 * r → lt x y ≡ true

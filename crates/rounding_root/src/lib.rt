@@ -1,5 +1,5 @@
 // The square root, correctly rounded: a guess with floats at its digits, and the whole number closest to the root.
-pub mod whole;
+mod whole;
 
 use whole::FIRST;
 ghost use mathlib.Core.Path.{_≡_};
@@ -8,6 +8,8 @@ ghost use Prim.Native.Nat.{_+_, _*_, _^_, _≤_, _<_};
 ghost use lib.IntN.{pos};
 ghost use lib.ListN.{length};
 ghost use lib.Ieee.{binary64, fin, lt};
+ghost use Rattle.cells.specs.Line.{line};
+ghost use Rattle.cells.specs.Written.{Writing};
 ghost use Rattle.cells.specs.inner.Touched.{Touched};
 ghost use Rattle.rounding_root.specs.inner.Steps.{Digits};
 ghost use Rattle.rounding_root.specs.Root.{nearestRoot, sqrtOf};
@@ -103,14 +105,29 @@ pub fn square_root(x: f64) -> f64
     root_by(x, guess(scaled(x)))
 }
 
-// Writes guesses at the roots of the first `count` numbers, for `root_by`. Made apart from their tests, they wait less.
-pub fn write_guesses(xs: &[f64], count: usize, guesses: &mut [f64])
+// Writes guesses at the roots of the first `count` numbers, for `root_by`. Whatever they are, the roots are right: so
+// what they are is not said, and no other crate calls this.
+fn write_guesses(xs: &[f64], count: usize, guesses: &mut [f64])
     requires { ⌜ (count ≤ length (now xs)) × (count ≤ length (now guesses)) ⌝ }
     ensures { λ _. ⌜ Touched count (now (guesses .entry)) (now (guesses .exit)) ⌝ }
 {
     let mut i = 0;
     while i < count {
         guesses[i] = guess(scaled(xs[i]));
+        i += 1;
+    }
+}
+
+// Writes the roots of the first `count` numbers. The guesses are made apart from their tests, so that they wait less.
+pub fn write_roots(xs: &[f64], count: usize, roots: &mut [f64])
+    requires { ⌜ (count ≤ length (now xs)) × (count ≤ length (now roots)) ⌝ }
+    ensures { λ _. ⌜ Writing count (λ i. sqrtOf binary64 (line (now (xs .entry)) i)) (now (roots .entry))
+        (now (roots .exit)) ⌝ }
+{
+    write_guesses(xs, count, roots);
+    let mut i = 0;
+    while i < count {
+        roots[i] = root_by(xs[i], roots[i]);
         i += 1;
     }
 }

@@ -1,5 +1,5 @@
 // Both Bollinger rules: how their cells are written.
-pub mod bar;
+mod bar;
 
 ghost use lib.ListN.{length};
 ghost use Rattle.cells.specs.Line.{line};

@@ -1,8 +1,8 @@
 // The exponential rule: how its cells are written.
-pub mod bar;
-pub mod by_margins;
-pub mod far;
-pub mod start;
+mod bar;
+mod by_margins;
+mod far;
+mod start;
 
 ghost use mathlib.Core.Path.{_≡_};
 ghost use lib.ListN.{length};

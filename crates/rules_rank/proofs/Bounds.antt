@@ -1,21 +1,21 @@
 -- Every cell of `rank_positions` for n of 2 or more is a number from -1 to 1: each step of the formula stays within a
 -- bound that rounding does not cross. n 1 gives NaN. Assumes nothing.
 use mathlib.Core.Path.{_≡_, refl, ap}
-use mathlib.Core.Bool.{Bool, true, false, not, cond}
+use mathlib.Core.Bool.{Bool, true, false, cond}
 use Prim.Native.Nat.{ℕ, _+_, _-_, _*_, _^_, _<_, _≤_}
 use native.Mathlib.Nat.{mul-le-mul-right, le-of-mul-le-mul-right, div-lt-iff-lt-mul}
 use native.Mathlib.Omega.{arith}
-use lib.Dec.{T, ltb, lit≤, lit<}
+use lib.Dec.{ltb, lit≤, lit<}
 use lib.IntN.{ℤ, pos}
-use lib.Ieee.{Float, nan, binary64, low, up, down, unlike, round, sum, sub, mul, div, le, ofInt}
+use lib.Ieee.{Float, nan, binary64, up, down, unlike, round, sum, sub, mul, div, ofInt}
 use lib.Ieee.Back.{round-whole}
 use lib.Ieee.Fits.{down-pos}
 use Rattle.rounding_laws.proofs.Value.{shape, sub-at, div-at}
 use Rattle.rounding_laws.proofs.Whole.{whole-value}
-use Rattle.rounding.specs.Leaves.{one, two, halfUp, roundToWhole}
+use Rattle.rounding.specs.Leaves.{two, halfUp, roundToWhole}
 use Rattle.rounding.specs.Literals.{half, hundred}
 use Rattle.cells.specs.Line.{Line, plusZero}
-use Rattle.cells.proofs.Line.{from-bar, before-bar}
+use Rattle.cells.proofs.Line.{from-bar}
 use Rattle.limits.specs.Limits.{longestWindow}
 use Rattle.exact_ticks.proofs.Bounds.{from-bar-holds}
 use Rattle.windows.specs.Window.{over, mean}
@@ -108,7 +108,7 @@ over-within {x} w =
 
 module _ {c m : ℕ} (M : 0 < m) (most : m ≤ 2 ^ 53) (h : c ≤ m) where
   -- the rank before the division by 100 is a whole number from -100 to 100
-  pub whole-rank-within : Hundredths (wholeRank c m)
+  whole-rank-within : Hundredths (wholeRank c m)
   unfolding wholeRank
   whole-rank-within =
       let less = half-within (quotient-within M most h) in
@@ -127,19 +127,7 @@ rank-within n f i h l =
     (in-unit {s = false} record { count = 0; parts = 1; some = lit< tt; value = (refl, refl); size = lit≤ tt })
     (λ _. in-unit (rank-of-within (omega arith) (omega arith) few .within))
 
--- and the whole number that it is made of, where it is due
-pub rank-is-hundredths : (n : ℕ) (f : Line) (i : ℕ) → 2 ≤ n → n ≤ longestWindow
-    → Hundredths (wholeRank (belowNow n (mean n f) i) (n - 1))
-unfolding belowNow
-rank-is-hundredths n f i h l =
-    whole-rank-within (omega arith) (omega arith) (countFrom-most (below (mean n f i)) (mean n f) (i + 1 - n) (n - 1))
-
 -- a window of 1 bar has NaN at every bar
 pub rank-of-one : (f : Line) (i : ℕ) → rankLine 1 f i ≡ nan
 unfolding rankLine wholeRank belowNow countFrom roundToWhole sub mul div ofInt round
 rank-of-one f i = from-bar 0 plusZero _ i (omega arith)
-
--- before bar 2n - 2, and so at every bar where n is above the series' length, the cell is 0
-pub rank-before : (n : ℕ) (f : Line) (i : ℕ) → i < 2 * n - 2 → rankLine n f i ≡ plusZero
-unfolding rankLine
-rank-before n f i h = before-bar (2 * n - 2) plusZero _ i h

@@ -114,7 +114,3 @@ module _ (n i : ℕ) (g : Line) where
   none-needed e h =
       let enough : n - 1 ≤ 0 = omega arith in
       rw (e, le-leb _ _ enough)
-
--- Once there are enough changes there always are: a position that were reset where too few are there would be the same.
-pub enough-stays : (n i j : ℕ) → i ≤ j → n - 1 ≤ changesBefore n i → n - 1 ≤ changesBefore n j
-enough-stays n i j l h = omega (arith, changes-before n i, changes-before n j)

@@ -28,8 +28,8 @@ usual n = cellsOf (rsiReverseLine n (num 70) (num 30) (num 50))
 rsi-reverse-cases : usual 2 (prices (pos 1 ∷ pos 2 ∷ pos 3 ∷ pos 4 ∷ pos 5 ∷ pos 4 ∷ pos 3 ∷ pos 2 ∷ pos 1 ∷ pos 2
     ∷ pos 3 ∷ pos 4 ∷ pos 5 ∷ pos 6 ∷ []))
     ≡ flat ∷ flat ∷ flat ∷ short ∷ short ∷ short ∷ short ∷ flat ∷ long ∷ long ∷ long ∷ flat ∷ short ∷ short ∷ []
-unfolding rsiReverseLine turned rsiBefore sumBefore changesBefore firstChange gains losses change hold moved recur mean windowSum sumFrom fromBar
-    neg add sub mul div ofInt ofBits round lt eq
+unfolding rsiReverseLine turned rsiBefore sumBefore changesBefore firstChange gains losses change hold moved recur
+    mean windowSum sumFrom fromBar neg add sub mul div ofInt ofBits round lt eq
 rsi-reverse-cases = refl
 
 -- n 1 has an index of 100 at bars 0 and 1, from no change at all, and then that of the change of the bar before; a flat
@@ -45,8 +45,8 @@ rsi-reverse-edges : (usual 1 (prices (pos 5 ∷ pos 4 ∷ pos 3 ∷ pos 4 ∷ po
     × (cellsOf (rsiReverseLine 2 (num 20) (num 200) (num 300)) (prices (pos 1 ∷ pos 2 ∷ pos 3 ∷ pos 4 ∷ pos 5 ∷ pos 6
     ∷ []))
     ≡ (flat ∷ flat ∷ flat ∷ long ∷ long ∷ long ∷ []))
-unfolding rsiReverseLine turned rsiBefore sumBefore changesBefore firstChange gains losses change hold moved recur mean windowSum sumFrom fromBar
-    neg add sub mul div ofInt ofBits round lt eq
+unfolding rsiReverseLine turned rsiBefore sumBefore changesBefore firstChange gains losses change hold moved recur
+    mean windowSum sumFrom fromBar neg add sub mul div ofInt ofBits round lt eq
 rsi-reverse-edges = (refl, refl, refl, refl, refl, refl, refl)
 
 -- The means fall by the smallest number once: that loss is not 0, but its half at bar 4 rounds to 0, and 0 / 0 is NaN,
@@ -55,8 +55,8 @@ rsi-reverse-edges = (refl, refl, refl, refl, refl, refl, refl)
 rsi-reverse-least : cellsOf (rsiReverseLine 2 (num 70) minusOne (num 50)) (bits (0x0000000000000002 ∷ 0 ∷ 0 ∷ 0 ∷ 0
     ∷ 0 ∷ []))
     ≡ flat ∷ flat ∷ flat ∷ flat ∷ flat ∷ short ∷ []
-unfolding rsiReverseLine turned rsiBefore sumBefore changesBefore firstChange gains losses change hold moved recur mean windowSum sumFrom fromBar
-    neg add sub mul div ofInt ofBits round lt eq
+unfolding rsiReverseLine turned rsiBefore sumBefore changesBefore firstChange gains losses change hold moved recur
+    mean windowSum sumFrom fromBar neg add sub mul div ofInt ofBits round lt eq
 rsi-reverse-least = refl
 
 -- one bar; each of the three levels not finite, before a window too long; a window of 0; no bars

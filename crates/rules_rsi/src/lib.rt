@@ -1,6 +1,6 @@
 // The rule against the relative strength index: how its cells are written.
-pub mod bar;
-pub mod held;
+mod bar;
+mod held;
 
 use windows::Eight;
 ghost use mathlib.Core.Path.{_≡_};

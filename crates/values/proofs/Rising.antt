@@ -1,5 +1,5 @@
--- A list of numbers of which each is above the one before it, as one test that is computed over the whole list, and a law
--- that reads it at one place. Assumes nothing.
+-- A list of numbers of which each is above the one before it, as one test that is computed over the whole list, and a
+-- law that reads it at one place. Assumes nothing.
 use mathlib.Core.Path.{_≡_}
 use mathlib.Core.Bool.{Bool, true, _&&_}
 use mathlib.Core.List.{List, [], _∷_}

@@ -171,6 +171,14 @@ impl Kind {
     pub fn show(self, word: u64) -> String {
         match self {
             Kind::F64 => format!("{:e} ({word:016x})", f64::from_bits(word)),
+            _ => self.plain(word),
+        }
+    }
+
+    /// A cell's value alone.
+    pub fn plain(self, word: u64) -> String {
+        match self {
+            Kind::F64 => format!("{:?}", f64::from_bits(word)),
             Kind::I64 | Kind::I32 => format!("{}", word as i64),
             Kind::U64 => format!("{word}"),
         }

@@ -83,6 +83,18 @@ impl Role {
     pub fn is_close(self) -> bool {
         matches!(self, Role::CloseKnown | Role::CloseBefore)
     }
+
+    /// The value that a word says.
+    pub fn value(self, word: &str) -> Value {
+        match self {
+            Role::Window | Role::Season | Role::WholePeriod | Role::CloseKnown => {
+                Value::Count(word.parse().expect("a whole number"))
+            }
+            Role::Period | Role::Weight | Role::Multiple | Role::Level | Role::CloseBefore => {
+                Value::Real(word.parse().expect("a number"))
+            }
+        }
+    }
 }
 
 /// Which values refusal 5 lets through.
@@ -104,7 +116,9 @@ pub struct Function {
     pub rising: bool,
     /// The expected cells of a call that is answered.
     pub source: fn(&Call) -> Vec<Vec<u64>>,
-    /// What a benchmark runs: the same reckoning, or pure.rs itself, with nothing kept.
+    /// The cells of pure.rs itself where it has the function, for any call; else those of `source`.
+    pub given: fn(&Call) -> Vec<Vec<u64>>,
+    /// What a benchmark runs: the same, with nothing kept.
     pub timed: fn(&Call),
     pub library: Option<Exported>,
 }
@@ -138,6 +152,14 @@ impl Function {
         let known = self.values(call, |role| role == Role::CloseKnown).next()?;
         let close = self.values(call, |role| role == Role::CloseBefore).next()?;
         close_before::supplied(known, close)
+    }
+
+    /// Makes a call of the library, and gives its answer and the cells that it counts of each output.
+    pub fn run(&self, call: &Call) -> (Answer, Vec<Vec<u64>>) {
+        let mut outputs: Vec<Lent> = call.outputs.iter().map(|len| Lent::filled(self.kind, *len, 1)).collect();
+        let mut work = Lent::filled(Kind::F64, call.work, 2);
+        let answer = (self.library.expect("the function is exported"))(call, &mut outputs, &mut work);
+        (answer, outputs.iter().map(|output| output.words()[..answer.count as usize].to_vec()).collect())
     }
 
     /// A call with just as much room as it asks for.
@@ -203,9 +225,9 @@ macro_rules! functions {
                 $source
             }
 
-            fn timed(call: &Call) {
+            fn given(call: &Call) -> impl Lines {
                 take!(call, [$($series),+], [$($parameter: $role),*]);
-                drop(black_box(last!($source $(, $timed)?)));
+                last!($source $(, $timed)?)
             }
 
             #[cfg(exported = $name)]
@@ -228,7 +250,8 @@ macro_rules! functions {
                 kind: <$cell as Cell>::KIND,
                 work: !WORK.is_empty(),
                 source: |call| lines(call).words(),
-                timed,
+                given: |call| given(call).words(),
+                timed: |call| drop(black_box(given(call))),
                 library: LIBRARY,
                 $($field: $value,)*
                 ..PLAIN
@@ -248,6 +271,7 @@ const PLAIN: Function = Function {
     domain: Domain::Accepted,
     rising: false,
     source: |_| Vec::new(),
+    given: |_| Vec::new(),
     timed: |_| (),
     library: None,
 };

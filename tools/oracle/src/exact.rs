@@ -1,9 +1,8 @@
 //! Demand 3 of document 01 on whole ticks: what the library's cells must be by whole-number arithmetic alone.
 
-use crate::call::{Call, Kind, Value};
+use crate::call::{Call, Value};
 use crate::catalogue::{self, Function, Role};
 use crate::generate;
-use crate::library::Lent;
 use crate::limits::{TICK_LIMIT, WINDOW_LIMIT};
 use crate::nearly::{nearly_averaged, nearly_equal_means, nearly_in_the_middle, window_sums};
 use crate::rng::Rng;
@@ -66,10 +65,8 @@ pub fn run(seeds: &[u64], series: usize) -> bool {
 
 /// The cells of each output that the library gives for a call, or none where it does not answer with all its bars.
 fn cells(function: &Function, call: &Call) -> Option<Vec<Vec<u64>>> {
-    let mut outputs: Vec<Lent> = call.outputs.iter().map(|len| Lent::filled(function.kind, *len, 1)).collect();
-    let mut work = Lent::filled(Kind::F64, call.work, 2);
-    let answer = (function.library.unwrap())(call, &mut outputs, &mut work);
-    (answer.refusal == 0 && answer.count == call.bars() as u64).then(|| outputs.iter().map(Lent::words).collect())
+    let (answer, cells) = function.run(call);
+    (answer.refusal == 0 && answer.count == call.bars() as u64).then_some(cells)
 }
 
 fn of_ticks(function: &Function, ticks: &[i64], windows: &[usize]) -> Vec<f64> {

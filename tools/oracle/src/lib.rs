@@ -6,6 +6,8 @@ mod catalogue;
 mod clock;
 mod close_before;
 mod compare;
+mod differences;
+mod documents;
 mod edges;
 mod exact;
 mod flips;
@@ -35,6 +37,7 @@ use std::process::ExitCode;
 const USAGE: &str = "usage: oracle compare CALLS SEED..   compare the library's calls and check its exactness
        oracle flips FILE CALLS [NAME..]   which of the listed flips show: for tools/mutate
        oracle bench ticks|hundredths|differences [NAME..]   the table of times
+       oracle differences LIST PAGE   the inputs that docs/DIFFERENCES.md names
        oracle record                a sample of calls for a program to replay
        oracle sheet                 the sheet program, in Rust over pure.rs
        oracle sheet-compare PROGRAM SEED DAMAGED
@@ -56,6 +59,7 @@ pub fn run() -> ExitCode {
         ["bench", word, names @ ..] if Prices::named(word).is_some() => {
             told(|| bench::run(Prices::named(word).unwrap(), names))
         }
+        ["differences", list, page] => differences::run(list, page),
         ["record"] => told(|| record::print()),
         ["sheet"] => sheet::run(stdin().lock(), BufWriter::new(stdout().lock())).is_ok(),
         ["sheet-compare", program, seed, damaged] => {

@@ -46,6 +46,11 @@ pub fn agrees(period: usize) -> bool {
     period == 0 || fresh()[period - 1] == recorded()[period - 1]
 }
 
+/// The recorded a1 of a period from 1 to 512.
+pub fn recorded_a1(period: usize) -> u64 {
+    recorded()[period - 1].a1
+}
+
 /// The cells of `ultimate_smoother` for a whole period from 0 to 512, from the recorded values.
 pub fn by_table(price: &[f64], period: usize) -> Vec<f64> {
     let (a1, b1) = match period {

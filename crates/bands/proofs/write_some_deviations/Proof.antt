@@ -1,4 +1,4 @@
--- `write_some_deviations` meets its contract: each turn writes the root of a bar's variance. Assumes nothing.
+-- `write_some_deviations` meets its contract: each turn copies the root of a bar's variance. Assumes nothing.
 use mathlib.Core.Path.{_∙_}
 use native.Mathlib.Nat.{add-zero}
 use Prim.Native.Nat.{_+_, _-_, _≤_}
@@ -15,11 +15,11 @@ use Rattle.bands.proofs.write_some_deviations.Statement.{statement}
 use Rattle.bands.proofs.write_some_deviations.Tie as tie
 
 abbrev Inv-loop : tie.InvT-loop
-Inv-loop close n i out₀ variances count guesses j₀ out j =
+Inv-loop close n i out₀ variances count roots j₀ out j =
     (j ≤ count) × Writing (i + j) (deviation plusZero (n - 1) n (line close)) out₀ out
 
 abbrev μ-loop : tie.MeasureT-loop
-μ-loop close n i out₀ variances count guesses j₀ out j = count - j
+μ-loop close n i out₀ variances count roots j₀ out j = count - j
 
 loop-holds : tie.Need-loop-holds Inv-loop μ-loop
 loop-holds c =
@@ -34,7 +34,7 @@ loop-again c =
     let a = start .args in
     let j = at .loop .j in
     let variance = read-back j nan (spread .write-spreads .ensures .variances) (omega arith) in
-    let root = c .root-by .ensures in
+    let root = read-back j nan (at .before .before .before .write-roots .ensures) (omega arith) in
     let ok = start .pre .asked .values in
     let cell = root ∙ deviation-at (now (a .close)) (a .n) (a .i + j) ok variance (omega arith) in
     (omega arith, step (a .i + j) (a .i + (j + 1)) (at .loop .inv .1) cell (omega arith))
@@ -55,15 +55,12 @@ write-some-deviations-spec =
     (λ c. search needs)  -- slice-aggregate-write-spreads
     (λ c. search needs)  -- slice-aggregate-write-spreads-2
     (λ c κs. search needs)  -- write-spreads-requires
-    (λ c. search needs)  -- slice-aggregate-write-guesses
-    (λ c. search needs)  -- slice-aggregate-write-guesses-2
-    (λ c κs. search needs)  -- write-guesses-requires
+    (λ c. search needs)  -- slice-aggregate-write-roots
+    (λ c. search needs)  -- slice-aggregate-write-roots-2
+    (λ c κs. search needs)  -- write-roots-requires
     loop-holds
-    (λ c. search needs)  -- mul-root-by
-    (λ c. search needs)  -- array-read-root-by
-    (λ c. search needs)  -- mul-root-by-2
-    (λ c. search needs)  -- array-read-root-by-2
-    (λ c κs. search needs)  -- root-by-requires
+    (λ c. search needs)  -- mul-t
+    (λ c. search needs)  -- array-read-t
     (λ c. search needs)  -- add-out
     (λ c. search needs)  -- mul-out
     (λ c. search needs)  -- slice-write-out

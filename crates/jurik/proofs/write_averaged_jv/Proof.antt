@@ -15,7 +15,7 @@ average-twice-requires : tie.Need-average-twice-requires
 average-twice-requires c κs =
     let then = c .before in
     let d = then .before .changes-differ .ensures (then .if1 .taken) in
-    (d .bars, omega arith)
+    (d .start .bars, omega arith)
 
 returns : tie.Need-returns
 unfolding ofBits

@@ -50,14 +50,18 @@ blendedOnce alpha f = carried nan (blend alpha) 1 (f 1) f
 abbrev pub blendedTwice : Float → Line → Line
 blendedTwice alpha f = blendedOnce alpha (blendedOnce alpha f)
 
+-- bar 1 is one of l bars, and has a number: the averages start there
+pub record Started (l : ℕ) (f : Line) : Type 0 where
+  pub bars : 1 < l
+  pub number : isNumber (f 1) ≡ true
+
 -- one of l bars has a number that is not equal to that of bar 1
 abbrev pub Other : ℕ → Line → Type 0
 Other l f = firstBar (λ j. differs isNumber (f 1) (f j)) l < l
 
--- the same, and bar 1 has a number too
+-- both: the pass averages
 pub record Differing (l : ℕ) (f : Line) : Type 0 where
-  pub bars : 1 < l
-  pub number : isNumber (f 1) ≡ true
+  pub start : Started l f
   pub other : Other l f
 
 -- `jv` of such averages is written, and where r says so the first of them differ

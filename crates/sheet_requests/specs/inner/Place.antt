@@ -17,7 +17,17 @@ use Rattle.sheet_requests.specs.declared.blocks.Stage.the-variants.{Wait
 use Rattle.sheet_requests.specs.declared.blocks.Sheet.{Sheet}
 use Rattle.sheet_requests.specs.declared.blocks.Place.{Place}
 use Rattle.sheet_requests.specs.declared.blocks.Run.{Run}
-use Rattle.sheet_requests.specs.Sheet.{State, waiting, collecting, stopped, Step, broken, gathered, lines, outcome}
+use Rattle.sheet_requests.specs.Sheet.{
+  State,
+  waiting,
+  collecting,
+  stopped,
+  Step,
+  broken,
+  gathered,
+  lines,
+  outcome,
+}
 
 -- the state that a stage stands for, with the counts and the prices that lie in the series
 abbrev pub stateOf : Stage → Counts → List Float → State

@@ -23,15 +23,19 @@ returns c =
     let at = test .before .before .before in
     let numbers = now (at .before .before .args .numbers) in
     let rest = all-next finite numbers (at .loop .i) (omega arith) in
-    sym (at .loop .inv .1 ∙ rest ∙ rw (sym (test .is-finite .ensures) ∙ not-true (test .is-finite .result) (c .if1 .taken)))
+    sym (at .loop .inv .1 ∙ rest
+    ∙ rw (sym (test .is-finite .ensures) ∙ not-true (test .is-finite .result) (c .if1 .taken)))
 
 loop-again : tie.Need-loop-again Inv-loop μ-loop
 loop-again c =
     let test = c .before in
     let at = test .before .before .before in
     let numbers = now (at .before .before .args .numbers) in
-    let rest = all-next finite numbers (at .loop .i) (omega arith) in
-    (omega arith, at .loop .inv .1 ∙ rest ∙ rw (sym (test .is-finite .ensures) ∙ not-false (test .is-finite .result) (c .if1 .left)))
+    let rest = all-next finite numbers (at .loop .i) (omega arith) in (
+      omega arith,
+      at .loop .inv .1 ∙ rest
+          ∙ rw (sym (test .is-finite .ensures) ∙ not-false (test .is-finite .result) (c .if1 .left)),
+    )
 
 pub all-finite-spec : {M : Type 1} → statement M
 all-finite-spec =

@@ -1,14 +1,14 @@
 -- `average_from` meets its contract: each turn writes a cell and blends the next value, which still stands, into
--- the average. Assumes nothing.
+-- the average; where no bar is left, the cells before it are all. Assumes nothing.
 use mathlib.Core.Path.{_≡_, sym}
 use Prim.Native.Nat.{_+_, _-_, _<_, _≤_}
 use native.Mathlib.Omega.{arith}
 use borrow.Author.Needs.{needs}
-use lib.ListN.{length, length-set}
+use lib.ListN.{length-set}
 use Rattle.cells.specs.Line.{line}
 use Rattle.cells.specs.Recur.{carried}
 use Rattle.cells.specs.Written.{Writing}
-use Rattle.cells.proofs.Written.{one-more, ends, writing-same, then-written}
+use Rattle.cells.proofs.Written.{one-more, ends, stands, writing-same, then-written}
 use Rattle.cells.proofs.Leads.{not-yet}
 use Rattle.cells.proofs.Carried.{carried-seed}
 use Rattle.averages.specs.Blend.{blend}
@@ -24,10 +24,13 @@ Inv-loop cells₀ bars first none alpha last₀ i₀ cells last i =
 abbrev μ-loop : tie.MeasureT-loop
 μ-loop cells₀ bars first none alpha last₀ i₀ cells last i = bars - i
 
+returns : tie.Need-returns Inv-loop μ-loop
+returns c = ends (lead-carried _ _ _ _ _ (c .before .before .before .fill .ensures)) (omega arith)
+
 loop-holds : tie.Need-loop-holds Inv-loop μ-loop
 loop-holds c =
-    let lead = c .before .before .before in
-    (omega arith, omega arith, lead-carried _ _ _ _ _ (lead .fill .ensures), sym (carried-seed _ _ _ _ _))
+    let lead = c .before .before .before .before in
+    (omega arith, omega arith, stands (lead-carried _ _ _ _ _ (lead .fill .ensures)), sym (carried-seed _ _ _ _ _))
 
 loop-again : tie.Need-loop-again Inv-loop μ-loop
 loop-again c =
@@ -37,11 +40,11 @@ loop-again c =
     let stood = not-yet (at .loop .i + 1) now (omega arith) in
     (omega arith, omega arith, now, next-carried _ _ _ _ _ _ (inv .3) stood (c .blended .ensures) (omega arith))
 
-returns : tie.Need-returns Inv-loop μ-loop
-returns c =
+returns-2 : tie.Need-returns-2 Inv-loop μ-loop
+returns-2 c =
     let at = c .before in
     let inv = at .loop .inv in
-    let lead = at .before .before .before .before .fill .ensures in
+    let lead = at .before .before .before .before .before .fill .ensures in
     let all = then-written lead (one-more (inv .2) (inv .3) (omega arith)) (omega arith) in
     writing-same (ends all (omega arith)) (λ j l. carried-from _ _ _ _ _ j (λ k p q. not-yet k lead p))
 
@@ -52,6 +55,8 @@ average-from-spec =
     Inv-loop
     μ-loop
     (λ c κs. search needs)  -- fill-requires
+    (λ c. search needs)  -- same-length
+    returns
     (λ c. search needs)  -- mul-last
     (λ c. search needs)  -- slice-read-last
     loop-holds
@@ -66,6 +71,6 @@ average-from-spec =
     loop-again
     (λ c. search needs)  -- mul-cells-2
     (λ c. search needs)  -- slice-write-cells-2
-    (λ c. simp length-set (omega arith))  -- same-length
-    returns
+    (λ c. simp length-set (omega arith))  -- same-length-2
+    returns-2
     )

@@ -2,8 +2,9 @@
 use mathlib.Core.Path.{sym, _∙_}
 use native.Mathlib.Omega.{arith}
 use borrow.Author.Needs.{needs}
+use Rattle.cells.proofs.Search.{firstBar-within}
 use Rattle.cells.proofs.Written.{writing-same}
-use Rattle.jurik.proofs.TwoPasses.{differing-inside, tested-averages, tested-copies}
+use Rattle.jurik.proofs.TwoPasses.{tested-averages, tested-copies}
 use Rattle.jurik.proofs.passes.pass.Statement.{statement}
 use Rattle.jurik.proofs.passes.pass.Tie as tie
 
@@ -17,11 +18,8 @@ returns c =
 
 average-from-requires : tie.Need-average-from-requires
 average-from-requires c κs =
-    let else = c .before in
-    let test = else .before in
-    let found = test .before .before .first-valid .ensures in
-    let differ = sym (test .all-same .ensures) ∙ else .if1 .left in
-    (differing-inside _ _ _ found differ, omega arith)
+    let found = c .before .before .before .before .first-valid .ensures in
+    (rw found (firstBar-within _ _), omega arith)
 
 returns-2 : tie.Need-returns-2
 returns-2 c =

@@ -37,11 +37,14 @@ index-at-spec =
     (λ c. unfold ofBits in none-needed _ _ _ (omega arith) (omega arith))  -- returns-2
     (λ c. search needs)  -- add-sum-at
     (λ c. search needs)  -- sub-sum-at
-    (λ c κs. let a = c .before .before .before .before .before .args in search (needs, changes-before (a .n) (a .i)))  -- sum-at-requires
+    -- sum-at-requires
+    (λ c κs. let a = c .before .before .before .before .before .args in search (needs, changes-before (a .n) (a .i)))
     (λ c. search needs)  -- mul-sum-at
     (λ c. search needs)  -- add-sum-at-2
     (λ c. search needs)  -- sub-sum-at-2
-    (λ c κs. let a = c .before .before .before .before .before .before .args in search (needs, changes-before (a .n) (a .i)))  -- sum-at-requires-2
+    -- sum-at-requires-2
+    (λ c κs. let a = c .before .before .before .before .before .before .args in
+    search (needs, changes-before (a .n) (a .i)))
     (λ c. let a = c .before .before .before .before .before .before .before .before .args in
     count-is-float _ (omega (arith, changes-before (a .n) (a .i))))  -- int-to-float-index-by
     (λ c κs. search needs)  -- index-by-requires
