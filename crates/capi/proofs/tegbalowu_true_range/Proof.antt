@@ -8,6 +8,7 @@ pub tegbalowu-true-range-spec : {M : Type 1} → statement M
 tegbalowu-true-range-spec =
     tie.close
     (tie.spec
+    (λ c κs. search needs)  -- supplied-close-requires
     (λ c κs. search needs)  -- true-range-requires
     (λ c κs. search needs)  -- numbers-requires
     (λ c. search needs)  -- same-length

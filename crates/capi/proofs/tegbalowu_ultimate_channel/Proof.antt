@@ -8,6 +8,7 @@ pub tegbalowu-ultimate-channel-spec : {M : Type 1} → statement M
 tegbalowu-ultimate-channel-spec =
     tie.close
     (tie.spec
+    (λ c κs. search needs)  -- supplied-close-requires
     (λ c κs. search needs)  -- ultimate-channel-requires
     (λ c κs. search needs)  -- numbers-requires
     (λ c. search needs)  -- same-length

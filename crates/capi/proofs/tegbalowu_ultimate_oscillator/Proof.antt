@@ -8,6 +8,7 @@ pub tegbalowu-ultimate-oscillator-spec : {M : Type 1} → statement M
 tegbalowu-ultimate-oscillator-spec =
     tie.close
     (tie.spec
+    (λ c κs. search needs)  -- supplied-close-requires
     (λ c κs. search needs)  -- ultimate-oscillator-requires
     (λ c κs. search needs)  -- numbers-requires
     (λ c. search needs)  -- same-length
