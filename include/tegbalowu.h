@@ -56,6 +56,9 @@
 extern "C" {
 #endif
 
+/* The version of this header and of the library that it came with. */
+#define TEGBALOWU_VERSION "0.1.0"
+
 typedef struct {
     uint64_t refusal;
     uint64_t count;

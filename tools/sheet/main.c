@@ -4,7 +4,7 @@
  * status, reason and line; crates/sheet_requests/specs/Whole.antt defines them.
  *
  * tools/sheet/build compiles this with the toolchain's compiler, which has no headers, so the functions and the
- * numbers of the C library of x86-64 Linux are declared here.
+ * numbers of the C library of x86-64 Linux are declared here. VERSION is the text of the file VERSION.
  */
 enum { INPUT = 0, OUTPUT = 1, ERRORS = 2, SIGPIPE = 13 };
 
@@ -28,6 +28,7 @@ typedef struct {
 end tegbalowu_sheet(void);
 
 static const char USAGE[] = "usage: sheet < REQUESTS > ANSWERS\n";
+static const char NAMED[] = "sheet " VERSION "\n";
 
 /* Why a line breaks its columns, by the number of the reason: crates/sheet_lines/specs/Reason.antt has the numbers. */
 static const char *const REASONS[] = {
@@ -59,12 +60,20 @@ static int unwritten(void)
     return 1;
 }
 
+/* Writes the words to standard output, and answers the status. */
+static int say(const char *words)
+{
+    return write(OUTPUT, words, strlen(words)) < 0 ? unwritten() : 0;
+}
+
 int main(int count, char **words)
 {
     /* A reader that goes away is a write that fails, not the end of the program: SIG_IGN is 1. */
     signal(SIGPIPE, (handler *)1);
     if (count == 2 && strcmp(words[1], "--help") == 0)
-        return write(OUTPUT, USAGE, strlen(USAGE)) < 0 ? unwritten() : 0;
+        return say(USAGE);
+    if (count == 2 && strcmp(words[1], "--version") == 0)
+        return say(NAMED);
     if (count > 1)
         return wrong("sheet: it takes no argument; ");
     if (isatty(INPUT))
