@@ -21,12 +21,12 @@ use Rattle.cells.specs.Written.{written}
 use Rattle.rules_single.specs.Single.{singleLine}
 use Rattle.rules_double.specs.Double.{doubleLine, doubleAnswer}
 use Rattle.rules_middle.specs.Middle.{midLine}
+use Rattle.rules.specs.ByNumber.{byRule}
 use Rattle.sheet_lines.specs.declared.Request.{Request}
 use Rattle.sheet_lines.specs.Header.{mostBars}
 use Rattle.sheet_requests.specs.Answer.{
   workCells,
   clearWork,
-  byRule,
   ruleAnswer,
   ruleLine,
   ruleCleared,

@@ -1,22 +1,17 @@
--- How a request is answered: rule 1 is one average, 2 double, 3 middle; 1 and 3 ignore m. Assumes nothing.
+-- How a request is answered: by the rule of its number. Assumes nothing.
 use mathlib.Core.Path.{_≡_}
-use mathlib.Core.Bool.{cond}
-use mathlib.Core.List.{List, [], _∷_}
+use mathlib.Core.List.{List}
 use Prim.Native.Nat.{ℕ, _*_}
-use lib.Dec.{eqb}
 use lib.ListN.{length, replicate}
 use lib.Ieee.{Float}
 use Rattle.calls.specs.declared.Answer.{Answer}
-use Rattle.calls.specs.Answer.{clearedOf, answered}
+use Rattle.calls.specs.Answer.{clearedOf}
 use Rattle.calls.specs.Call.{Call}
 use Rattle.cells.specs.Line.{Line, line, plusZero}
 use Rattle.cells.specs.Written.{written}
-use Rattle.rules_single.specs.Single.{singleLine}
-use Rattle.rules_double.specs.Double.{doubleLine, doubleAnswer}
-use Rattle.rules_middle.specs.Middle.{midLine}
+use Rattle.rules.specs.ByNumber.{byRule, answerByRule, lineByRule}
 use Rattle.sheet_lines.specs.declared.Request.{Request}
 use Rattle.sheet_lines.specs.Header.{mostBars}
-use Rattle.values.specs.Accepted.{accepted}
 
 -- The program lends an output cell and eight work cells for each
 -- of the most bars; src/lib.rt has a constant of the same number.
@@ -27,22 +22,11 @@ workCells = 8 * mostBars
 unfoldable pub clearWork : List Float
 clearWork = replicate workCells plusZero
 
-abbrev pub byRule : {A : Type 0} → ℕ → A → A → A → A
-byRule rule one double middle = cond (eqb rule 1) one (cond (eqb rule 2) double middle)
-
 unfoldable pub ruleAnswer : Request → List Float → Answer
-ruleAnswer r prices =
-    byRule (r .rule)
-    (answered accepted prices (r .n ∷ []) mostBars (workCells ∷ []))
-    (doubleAnswer prices (r .n) (r .m) mostBars)
-    (answered accepted prices (r .n ∷ []) mostBars (workCells ∷ []))
+ruleAnswer r prices = answerByRule (r .rule) (r .n) (r .m) prices mostBars workCells
 
 unfoldable pub ruleLine : Request → List Float → Line
-ruleLine r prices =
-    byRule (r .rule)
-    (singleLine (r .n) (line prices))
-    (doubleLine (r .n) (r .m) (line prices))
-    (midLine (r .n) (line prices))
+ruleLine r prices = lineByRule (r .rule) (r .n) (r .m) (line prices)
 
 -- how many work cells are cleared: double takes no work slice
 unfoldable pub ruleCleared : Request → List Float → Answer → ℕ
