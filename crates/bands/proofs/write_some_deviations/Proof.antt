@@ -15,11 +15,11 @@ use Rattle.bands.proofs.write_some_deviations.Statement.{statement}
 use Rattle.bands.proofs.write_some_deviations.Tie as tie
 
 abbrev Inv-loop : tie.InvT-loop
-Inv-loop close n i out₀ variances count roots j₀ out j =
+Inv-loop close n i out₀ count roots j₀ out j =
     (j ≤ count) × Writing (i + j) (deviation plusZero (n - 1) n (line close)) out₀ out
 
 abbrev μ-loop : tie.MeasureT-loop
-μ-loop close n i out₀ variances count roots j₀ out j = count - j
+μ-loop close n i out₀ count roots j₀ out j = count - j
 
 loop-holds : tie.Need-loop-holds Inv-loop μ-loop
 loop-holds c =
@@ -28,13 +28,13 @@ loop-holds c =
 
 loop-again : tie.Need-loop-again Inv-loop μ-loop
 loop-again c =
-    let at = c .before .before in
+    let at = c .before in
     let spread = at .before .before .before .before .before .before .before in
     let start = spread .before .before .before .before .before in
     let a = start .args in
     let j = at .loop .j in
     let variance = read-back j nan (spread .write-spreads .ensures .variances) (omega arith) in
-    let root = read-back j nan (at .before .before .before .write-roots .ensures) (omega arith) in
+    let root = read-back j nan (at .before .before .write-roots .ensures) (omega arith) in
     let ok = start .pre .asked .values in
     let cell = root ∙ deviation-at (now (a .close)) (a .n) (a .i + j) ok variance (omega arith) in
     (omega arith, step (a .i + j) (a .i + (j + 1)) (at .loop .inv .1) cell (omega arith))
