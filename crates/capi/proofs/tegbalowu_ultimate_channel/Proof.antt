@@ -4,6 +4,11 @@ use Rattle.calls.proofs.InNumbers.{told}
 use Rattle.capi.proofs.tegbalowu_ultimate_channel.Statement.{statement}
 use Rattle.capi.proofs.tegbalowu_ultimate_channel.Tie as tie
 
+returns : tie.Need-returns
+returns c =
+    let called = c .before .before .before .before .before .before .before .before .before in
+    told (rw (called .before .before .before .before .before .supplied-close .ensures) at (called .ultimate-channel .ensures)) (c .numbers .ensures)
+
 pub tegbalowu-ultimate-channel-spec : {M : Type 1} → statement M
 tegbalowu-ultimate-channel-spec =
     tie.close
@@ -15,5 +20,5 @@ tegbalowu-ultimate-channel-spec =
     (λ c. search needs)  -- same-length-2
     (λ c. search needs)  -- same-length-3
     (λ c. search needs)  -- same-length-4
-    (λ c. search (needs, told))  -- returns
+    returns
     )
