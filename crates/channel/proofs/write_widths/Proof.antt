@@ -24,7 +24,7 @@ write-ranges-requires c κs =
         work-long = tt;
       },
       omega arith,
-      pre .first-close,
+      search needs,
     )
 
 write-average-requires : tie.Need-write-average-requires

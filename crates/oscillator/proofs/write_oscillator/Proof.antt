@@ -18,7 +18,7 @@ write-ranges-requires c κs =
     let pre = c .before .before .before .before .before .before .before .before .before .before .pre in (
       record { values = pre .values; second = pre .lows; third = pre .closes; out-long = search needs; work-long = tt },
       omega arith,
-      pre .first-close,
+      search needs,
     )
 
 -- the close before bar 0 is an f64
