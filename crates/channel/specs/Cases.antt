@@ -142,7 +142,8 @@ first-cases = (refl, refl, refl, refl)
 channel-answers : channelAnswer (plusZero ∷ []) (plusZero ∷ []) (plusZero ∷ []) 2 plusOne Unknown (1 ∷ 1 ∷ 1 ∷ []) 8
     ∷ channelAnswer (plusZero ∷ []) (plusZero ∷ []) (plusZero ∷ []) 3 plusOne Unknown (1 ∷ 1 ∷ 1 ∷ []) 8
     ∷ channelAnswer (plusZero ∷ []) (plusZero ∷ []) (plusZero ∷ []) longestPeriod plusOne Unknown (1 ∷ 1 ∷ 1 ∷ []) 8
-    ∷ channelAnswer (plusZero ∷ []) (plusZero ∷ []) (plusZero ∷ []) (suc longestPeriod) plusOne Unknown (1 ∷ 1 ∷ 1 ∷ []) 8
+    ∷ channelAnswer (plusZero ∷ []) (plusZero ∷ []) (plusZero ∷ []) (suc longestPeriod) plusOne Unknown
+    (1 ∷ 1 ∷ 1 ∷ []) 8
     ∷ channelAnswer (plusZero ∷ []) (plusZero ∷ []) (plusZero ∷ []) 0 plusOne Unknown (1 ∷ 1 ∷ 1 ∷ []) 8
     ∷ channelAnswer (plusZero ∷ []) (plusZero ∷ []) (plusZero ∷ []) (suc longestPeriod) nan Unknown (1 ∷ 1 ∷ 1 ∷ []) 8
     ∷ channelAnswer (plusZero ∷ []) (plusZero ∷ []) [] 2 plusOne Unknown (1 ∷ 1 ∷ 1 ∷ []) 8

@@ -25,7 +25,8 @@ pub fn write_widths(
     upper: &mut [f64],
     lower: &mut [f64],
 )
-    requires { ⌜ ChannelRoom n first (now high) (now low) (now close) (min (length (now upper)) (length (now lower))) ⌝ }
+    requires { ⌜ ChannelRoom n first (now high) (now low) (now close)
+        (min (length (now upper)) (length (now lower))) ⌝ }
     ensures { λ _. ⌜ Writing (length (now (high .entry))) (channelWidth n first (line (now (high .entry)))
         (line (now (low .entry))) (line (now (close .entry)))) (now (upper .entry)) (now (upper .exit))
         × Touched (length (now (high .entry))) (now (lower .entry)) (now (lower .exit)) ⌝ }

@@ -156,7 +156,8 @@ unfolding pressure
 either-pressure low close Unknown p q b = either-difference q (plain-smaller low close p q)
 either-pressure low close (Known before) p q b = either-difference q (plain-smaller low before p b)
 
-either-range : (high low : Float) (before : CloseBefore) → Plain high → Plain low → EitherZero (trueRange high low before)
+either-range : (high low : Float) (before : CloseBefore) → Plain high → Plain low
+    → EitherZero (trueRange high low before)
 unfolding trueRange
 either-range high low Unknown p q = either-difference p q
 either-range high low (Known before) p q =

@@ -284,9 +284,11 @@ fn write_oscillator(
     out: &mut [f64],
     work: &mut [f64],
 )
-    requires { ⌜ Ready (now high) (now low) (now close) first short medium long (length (now out)) (length (now work)) ⌝ }
+    requires { ⌜ Ready (now high) (now low) (now close) first short medium long (length (now out))
+        (length (now work)) ⌝ }
     ensures { λ _. ⌜ Writing (length (now (high .entry))) (oscillatorLine short medium long first
-        (line (now (high .entry))) (line (now (low .entry))) (line (now (close .entry)))) (now (out .entry)) (now (out .exit))
+        (line (now (high .entry))) (line (now (low .entry))) (line (now (close .entry)))) (now (out .entry))
+        (now (out .exit))
         × Touched (2 * length (now (high .entry))) (now (work .entry)) (now (work .exit)) ⌝ }
 {
     let bars = high.len();
@@ -329,7 +331,8 @@ pub fn ultimate_oscillator(
     work: &mut [f64],
 ) -> Answer
     ensures { λ r. ⌜ OscillatorCall (now (high .entry)) (now (low .entry)) (now (close .entry)) «short_period»
-        «med_period» «long_period» first (now (out .entry)) (now (work .entry)) r (now (out .exit)) (now (work .exit)) ⌝ }
+        «med_period» «long_period» first (now (out .entry)) (now (work .entry)) r (now (out .exit))
+        (now (work .exit)) ⌝ }
 {
     let due = answer_oscillator(
         high,

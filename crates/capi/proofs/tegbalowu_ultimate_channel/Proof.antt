@@ -7,7 +7,8 @@ use Rattle.capi.proofs.tegbalowu_ultimate_channel.Tie as tie
 returns : tie.Need-returns
 returns c =
     let called = c .before .before .before .before .before .before .before .before .before in
-    told (rw (called .before .before .before .before .before .supplied-close .ensures) at (called .ultimate-channel .ensures)) (c .numbers .ensures)
+    let first = called .before .before .before .before .before .supplied-close .ensures in
+    told (rw first at (called .ultimate-channel .ensures)) (c .numbers .ensures)
 
 pub tegbalowu-ultimate-channel-spec : {M : Type 1} → statement M
 tegbalowu-ultimate-channel-spec =

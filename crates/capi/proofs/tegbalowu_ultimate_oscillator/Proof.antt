@@ -7,7 +7,8 @@ use Rattle.capi.proofs.tegbalowu_ultimate_oscillator.Tie as tie
 returns : tie.Need-returns
 returns c =
     let called = c .before .before .before .before .before in
-    told (rw (called .before .before .before .supplied-close .ensures) at (called .ultimate-oscillator .ensures)) (c .numbers .ensures)
+    told (rw (called .before .before .before .supplied-close .ensures) at (called .ultimate-oscillator .ensures))
+    (c .numbers .ensures)
 
 pub tegbalowu-ultimate-oscillator-spec : {M : Type 1} → statement M
 tegbalowu-ultimate-oscillator-spec =
