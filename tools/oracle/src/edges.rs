@@ -268,7 +268,7 @@ fn pairs_of_faults(rng: &mut Rng, function: &Function, calls: &mut Vec<Call>) {
 }
 
 /// Calls with the close before bar 0, where a function takes it: each flag with one close; then with the flag and
-/// without it the edges of refusal 5, and closes above, below and on bar 0, which has the largest value and the smallest.
+/// without it the edges of refusal 5; and closes above, below and on bar 0, which goes from 3 to 5 and closes at 4.
 pub fn closes(rng: &mut Rng, function: &Function, len: usize) -> Vec<Call> {
     let flags = FLAGS.iter().map(|known| (*known, 100.25));
     let edges = [1, 0].into_iter().flat_map(|known| DAMAGED.iter().map(move |close| (known, *close)));
