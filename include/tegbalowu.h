@@ -28,6 +28,11 @@
  * Accepted are finite values of magnitude at most 1,073,741,824, other than -0.0. A whole tick is an
  * accepted value without a fraction, of magnitude at most 16,777,216.
  *
+ * The close before bar 0. true_range, ultimate_channel and ultimate_oscillator take it as
+ * close_before, with a flag. Where close_known is not 0, bar 0 is reckoned from it as every other
+ * bar from the close before, and refusal 5 is for it too, after the series. Where close_known is 0
+ * it is unknown, and close_before is not looked at, whatever it is.
+ *
  * A work slice is lent for the call's own use. Its first 8 * series_len cells hold +0.0 after an
  * answered call, and the others keep their values.
  *
@@ -133,11 +138,12 @@ tegbalowu_answer tegbalowu_rolling_rank(const double *series, size_t series_len,
                                         size_t out_len, double *work, size_t work_len);
 
 /*
- * Wilder's true range, from bar 1 on; bar 0 is high less low. close_prev[i] is the close before bar
- * i, and close_prev[0] is not used, though it is checked. Refusals 1, 2, 3, 5.
+ * Wilder's true range; at bar 0, where the close before is unknown, high less low. close_prev[i] is
+ * the close before bar i, and close_prev[0] is not used, though it is checked. Refusals 1, 2, 3, 5.
  */
 tegbalowu_answer tegbalowu_true_range(const double *high, size_t high_len, const double *low, size_t low_len,
-                                      const double *close_prev, size_t close_prev_len, double *out, size_t out_len);
+                                      const double *close_prev, size_t close_prev_len, size_t close_known,
+                                      double close_before, double *out, size_t out_len);
 
 /*
  * Ehlers' ultimate smoother, from bar 4 on; bars 0 to 3 copy the input. With period 0 every cell
@@ -155,8 +161,9 @@ tegbalowu_answer tegbalowu_ultimate_smoother(const double *price, size_t price_l
  */
 tegbalowu_answer tegbalowu_ultimate_channel(const double *high, size_t high_len, const double *low, size_t low_len,
                                             const double *close, size_t close_len, size_t period, double multiplier,
-                                            double *middle, size_t middle_len, double *upper, size_t upper_len,
-                                            double *lower, size_t lower_len, double *work, size_t work_len);
+                                            size_t close_known, double close_before, double *middle, size_t middle_len,
+                                            double *upper, size_t upper_len, double *lower, size_t lower_len,
+                                            double *work, size_t work_len);
 
 /*
  * Bands about the ultimate smoother, after Ehlers' ultimate bands. middle is the smoother of the
@@ -176,13 +183,14 @@ tegbalowu_answer tegbalowu_ultimate_bands(const double *close, size_t close_len,
  * pressure over those of true range in the last short_period, med_period and long_period bars, and
  * 0 where the range's sum is 0. NaN until the longest window is whole, so at every bar where one
  * exceeds the series. Buying pressure is the close less the smaller of the low and the close
- * before, at bar 0 its own close; the range of bar 0 is high less low. The windows need not rise.
- * Refusals 1, 2, 3, 4, 5, 7.
+ * before, at bar 0 its own close where that is unknown; its range is then high less low. The windows
+ * need not rise. Refusals 1, 2, 3, 4, 5, 7.
  */
 tegbalowu_answer tegbalowu_ultimate_oscillator(const double *high, size_t high_len, const double *low, size_t low_len,
                                                const double *close, size_t close_len, size_t short_period,
-                                               size_t med_period, size_t long_period, double *out, size_t out_len,
-                                               double *work, size_t work_len);
+                                               size_t med_period, size_t long_period, size_t close_known,
+                                               double close_before, double *out, size_t out_len, double *work,
+                                               size_t work_len);
 
 /*
  * Positions: +1 long, -1 short, 0 flat. A sign is +1 for +0.0 and above, so a tie is +1. Before the

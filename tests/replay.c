@@ -79,7 +79,7 @@ static uint64_t *u64(const slice *s) { return cells(s, U64); }
     CALL(exponential_smoothing, IN(0), REAL(0), OUT(f64, 0)) \
     CALL(double_sma_positions, IN(0), WHOLE(0), WHOLE(1), OUT(f64, 0)) \
     CALL(ultimate_smoother, IN(0), REAL(0), OUT(f64, 0)) \
-    CALL(true_range, IN(0), IN(1), IN(2), OUT(f64, 0)) \
+    CALL(true_range, IN(0), IN(1), IN(2), WHOLE(0), REAL(1), OUT(f64, 0)) \
     CALL(single_sma_positions, IN(0), WHOLE(0), OUT(f64, 0), WORK) \
     CALL(single_ema_positions, IN(0), WHOLE(0), OUT(f64, 0), WORK) \
     CALL(mid_positions, IN(0), WHOLE(0), OUT(f64, 0), WORK) \
@@ -88,7 +88,7 @@ static uint64_t *u64(const slice *s) { return cells(s, U64); }
     CALL(wilder_rsi, IN(0), WHOLE(0), OUT(f64, 0), WORK) \
     CALL(rsx_ss2, IN(0), WHOLE(0), WHOLE(1), OUT(f64, 0), WORK) \
     CALL(jurik_volty, IN(0), WHOLE(0), REAL(1), OUT(f64, 0), WORK) \
-    CALL(ultimate_oscillator, IN(0), IN(1), IN(2), WHOLE(0), WHOLE(1), WHOLE(2), OUT(f64, 0), WORK) \
+    CALL(ultimate_oscillator, IN(0), IN(1), IN(2), WHOLE(0), WHOLE(1), WHOLE(2), WHOLE(3), REAL(4), OUT(f64, 0), WORK) \
     CALL(holt_winters, IN(0), WHOLE(0), REAL(1), REAL(2), REAL(3), OUT(f64, 0), WORK) \
     CALL(triple_sma_positions, IN(0), WHOLE(0), WHOLE(1), WHOLE(2), OUT(i32, 0), WORK) \
     CALL(boll_positions, IN(0), WHOLE(0), REAL(1), OUT(i32, 0), WORK) \
@@ -97,7 +97,8 @@ static uint64_t *u64(const slice *s) { return cells(s, U64); }
     CALL(rolling_rank, IN(0), WHOLE(0), OUT(u64, 0), WORK) \
     CALL(tick_mean, IN(0), WHOLE(0), OUT(i64, 0)) \
     CALL(ultimate_bands, IN(0), WHOLE(0), REAL(1), WHOLE(2), OUT(f64, 0), OUT(f64, 1), OUT(f64, 2), WORK) \
-    CALL(ultimate_channel, IN(0), IN(1), IN(2), WHOLE(0), REAL(1), OUT(f64, 0), OUT(f64, 1), OUT(f64, 2), WORK)
+    CALL(ultimate_channel, IN(0), IN(1), IN(2), WHOLE(0), REAL(1), WHOLE(2), REAL(3), OUT(f64, 0), OUT(f64, 1), \
+         OUT(f64, 2), WORK)
 
 #define DEFINED(name, ...) \
     static tegbalowu_answer call_##name(const call *c) { return tegbalowu_##name(__VA_ARGS__); }

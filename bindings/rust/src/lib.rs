@@ -4,8 +4,8 @@
 //! A series has a value for each bar; bars count from 0. The caller lends the outputs, and a work slice to the
 //! functions that take one ([`work_for`] makes it). A call is answered with the count of cells that it wrote at the
 //! front of each output, or refused, and then it changes nothing. The count is the series' length, or 0 where that
-//! length or an integer parameter is 0, unless a function says otherwise. Cells from the count on keep their values.
-//! The work slice's first `8 * series.len()` cells hold 0.0 after an answered call.
+//! length, a window or an integer period is 0, unless a function says otherwise. Cells from the count on keep their
+//! values. The work slice's first `8 * series.len()` cells hold 0.0 after an answered call.
 //!
 //! Positions are +1 long, -1 short, 0 flat. A sign is +1 for +0.0 and above, so a tie is +1. No cell depends on a
 //! later bar, unless a function says so.
@@ -160,9 +160,20 @@ functions! {
     /// NaN. Refusals 1, 3, 5, 6, 7.
     tegbalowu_ultimate_smoother ultimate_smoother(price: &[f64], period: f64, out: &mut [f64]);
 
-    /// Wilder's true range, from bar 1 on; bar 0 is high less low. `close_prev[i]` is the close before bar i, and
-    /// `close_prev[0]` is not used, though it is checked. Refusals 1, 2, 3, 5.
-    tegbalowu_true_range true_range(high: &[f64], low: &[f64], close_prev: &[f64], out: &mut [f64]);
+    /// Wilder's true range. `close_prev[i]` is the close before bar i, and `close_prev[0]` is not used, though it is
+    /// checked. Where `close_known` is not 0, `close_before` is the close before bar 0, and refusal 5 is for it too;
+    /// where it is 0, `close_before` is not looked at, and bar 0 is high less low. Refusals 1, 2, 3, 5.
+    ///
+    /// ```
+    /// let mut out = [9.0; 2];
+    /// assert_eq!(tegbalowu::true_range(&[5.0, 5.0], &[3.0, 3.0], &[0.0, 4.0], 0, 0.0, &mut out), Ok(2));
+    /// assert_eq!(out, [2.0, 2.0]);
+    /// assert_eq!(tegbalowu::true_range(&[5.0, 5.0], &[3.0, 3.0], &[0.0, 4.0], 1, 9.0, &mut out), Ok(2));
+    /// assert_eq!(out, [6.0, 2.0]);
+    /// ```
+    tegbalowu_true_range true_range(
+        high: &[f64], low: &[f64], close_prev: &[f64], close_known: usize, close_before: f64, out: &mut [f64]
+    );
 
     /// Additive Holt-Winters smoothing: level plus trend plus seasonal part of each bar, from bar season_length on; the
     /// cells before copy the series. The level starts as the mean of the first `season_length` values and the trend as
@@ -196,11 +207,11 @@ functions! {
 
     /// Ehlers' ultimate channel. `middle` is the ultimate smoother of the close; `upper` and `lower` are `multiplier`
     /// widths above and below it, a width being Wilder's average of true range from bar period-1 on, smoothed with
-    /// period / 2. From period 5 on the outer lines are NaN at every bar. Refusals 1 to 8: 8 where the period is above
-    /// the series' length + 1.
+    /// period / 2. From period 5 on the outer lines are NaN at every bar. The close before bar 0 is as in
+    /// [`true_range`]. Refusals 1 to 8: 8 where the period is above the series' length + 1.
     tegbalowu_ultimate_channel ultimate_channel(
-        high: &[f64], low: &[f64], close: &[f64], period: usize, multiplier: f64, middle: &mut [f64], upper: &mut [f64],
-        lower: &mut [f64], work: &mut [f64]
+        high: &[f64], low: &[f64], close: &[f64], period: usize, multiplier: f64, close_known: usize, close_before: f64,
+        middle: &mut [f64], upper: &mut [f64], lower: &mut [f64], work: &mut [f64]
     );
 
     /// Bands about the ultimate smoother. `middle` is the smoother of the close with `period`; `upper` and `lower` are
@@ -214,10 +225,11 @@ functions! {
 
     /// Williams' ultimate oscillator: 100 (4a + 2b + c) / 7, where a, b and c are the sums of buying pressure over those
     /// of true range in the last `short_period`, `med_period` and `long_period` bars, and 0 where the range's sum is 0.
-    /// NaN until the longest window is whole. Refusals 1, 2, 3, 4, 5, 7.
+    /// NaN until the longest window is whole. The close before bar 0 is as in [`true_range`].
+    /// Refusals 1, 2, 3, 4, 5, 7.
     tegbalowu_ultimate_oscillator ultimate_oscillator(
         high: &[f64], low: &[f64], close: &[f64], short_period: usize, med_period: usize, long_period: usize,
-        out: &mut [f64], work: &mut [f64]
+        close_known: usize, close_before: f64, out: &mut [f64], work: &mut [f64]
     );
 
     /// One average: the sign of the price less the doubly averaged price, from bar 2n-2 on; 0 before, and where that

@@ -5,7 +5,7 @@ ghost use Rattle.averages.specs.Sma.{SmaCall};
 ghost use Rattle.averages.specs.Ema.{EmaCall};
 ghost use Rattle.averages.specs.ExponentialSmoothing.{ExponentialSmoothingCall};
 ghost use Rattle.averages_ticks.specs.TickMean.{TickMeanCall};
-ghost use Rattle.true_range.specs.TrueRange.{TrueRangeCall};
+ghost use Rattle.true_range.specs.TrueRange.{supplied, TrueRangeCall};
 ghost use Rattle.smoother.specs.Smoother.{UltimateSmootherCall};
 ghost use Rattle.rules_single.specs.Single.{SingleCall};
 ghost use Rattle.rules_double.specs.Double.{DoubleCall};
@@ -78,12 +78,15 @@ pub extern "C" fn tegbalowu_true_range(
     high: &[f64],
     low: &[f64],
     close_prev: &[f64],
+    close_known: usize,
+    close_before: f64,
     out: &mut [f64],
 ) -> CAnswer
     ensures { λ r. ⌜ InNumbers (λ a. TrueRangeCall (now (high .entry)) (now (low .entry)) (now («close_prev» .entry))
-        (now (out .entry)) a (now (out .exit))) r ⌝ }
+        (supplied «close_known» «close_before») (now (out .entry)) a (now (out .exit))) r ⌝ }
 {
-    calls::numbers::numbers(true_range::true_range(high, low, close_prev, out))
+    let first = true_range::supplied_close(close_known, close_before);
+    calls::numbers::numbers(true_range::true_range(high, low, close_prev, first, out))
 }
 
 #[no_mangle]
@@ -238,21 +241,26 @@ pub extern "C" fn tegbalowu_ultimate_channel(
     close: &[f64],
     period: usize,
     multiplier: f64,
+    close_known: usize,
+    close_before: f64,
     middle: &mut [f64],
     upper: &mut [f64],
     lower: &mut [f64],
     work: &mut [f64],
 ) -> CAnswer
     ensures { λ r. ⌜ InNumbers (λ a. ChannelCall (now (high .entry)) (now (low .entry)) (now (close .entry)) period
-        multiplier (now (middle .entry)) (now (upper .entry)) (now (lower .entry)) (now (work .entry)) a
-        (now (middle .exit)) (now (upper .exit)) (now (lower .exit)) (now (work .exit))) r ⌝ }
+        multiplier (supplied «close_known» «close_before») (now (middle .entry)) (now (upper .entry))
+        (now (lower .entry)) (now (work .entry)) a (now (middle .exit)) (now (upper .exit)) (now (lower .exit))
+        (now (work .exit))) r ⌝ }
 {
+    let first = true_range::supplied_close(close_known, close_before);
     calls::numbers::numbers(channel::ultimate_channel(
         high,
         low,
         close,
         period,
         multiplier,
+        first,
         middle,
         upper,
         lower,
@@ -268,13 +276,16 @@ pub extern "C" fn tegbalowu_ultimate_oscillator(
     short_period: usize,
     med_period: usize,
     long_period: usize,
+    close_known: usize,
+    close_before: f64,
     out: &mut [f64],
     work: &mut [f64],
 ) -> CAnswer
     ensures { λ r. ⌜ InNumbers (λ a. OscillatorCall (now (high .entry)) (now (low .entry)) (now (close .entry))
-        «short_period» «med_period» «long_period» (now (out .entry)) (now (work .entry)) a (now (out .exit))
-        (now (work .exit))) r ⌝ }
+        «short_period» «med_period» «long_period» (supplied «close_known» «close_before») (now (out .entry))
+        (now (work .entry)) a (now (out .exit)) (now (work .exit))) r ⌝ }
 {
+    let first = true_range::supplied_close(close_known, close_before);
     let answer = oscillator::ultimate_oscillator(
         high,
         low,
@@ -282,6 +293,7 @@ pub extern "C" fn tegbalowu_ultimate_oscillator(
         short_period,
         med_period,
         long_period,
+        first,
         out,
         work,
     );

@@ -23,6 +23,8 @@ use Rattle.cells.specs.Recur.{carried}
 use Rattle.cells.specs.Written.{Writing}
 use Rattle.cells.proofs.Line.{before-bar}
 use Rattle.cells.proofs.Parts.{through}
+use Rattle.true_range.specs.declared.CloseBefore.{CloseBefore}
+use Rattle.true_range.specs.TrueRange.{acceptedClose, closeChecked}
 use Rattle.averages_wilder.specs.Wilder.{wilder}
 use Rattle.averages_wilder.proofs.Causal.{causal-wilder}
 use Rattle.smoother_table.specs.Coefficients.{coefficients}
@@ -34,21 +36,21 @@ use Rattle.channel.specs.inner.ChannelRoom.{ChannelRoom}
 
 -- ---- from period 5 on
 
-module _ (n : ℕ) (high low close : Line) where
+module _ (n : ℕ) (first : CloseBefore) (high low close : Line) where
   -- the average begins at bar n - 1
-  no-average : (i : ℕ) → i < n - 1 → averageRange n high low close i ≡ nan
+  no-average : (i : ℕ) → i < n - 1 → averageRange n first high low close i ≡ nan
   unfolding averageRange wilder carried
   no-average i h = before-bar (n - 1) nan _ i h
 
   -- so the smoothed one never does
-  pub no-width : 5 ≤ n → (i : ℕ) → channelWidth n high low close i ≡ nan
+  pub no-width : 5 ≤ n → (i : ℕ) → channelWidth n first high low close i ≡ nan
   unfolding channelWidth
-  no-width h = nan-throughout (coefficients (n / 2)) (averageRange n high low close)
+  no-width h = nan-throughout (coefficients (n / 2)) (averageRange n first high low close)
       (λ i l. no-average i (omega arith))
 
   -- and the outer lines are NaN at every bar
   pub nan-outer : 5 ≤ n → (k : Float) (i : ℕ)
-      → (channelUpper n k high low close i ≡ nan) × (channelLower n k high low close i ≡ nan)
+      → (channelUpper n k first high low close i ≡ nan) × (channelLower n k first high low close i ≡ nan)
   nan-outer h k i = (nan-upper k _ _ i (no-width h i), nan-lower k _ _ i (no-width h i))
 
 -- ---- the stages
@@ -60,15 +62,18 @@ averaged n w h v = through w h (wilder n (n - 1)) (causal-wilder n (n - 1) (omeg
 
 -- ---- the call
 
-module _ (high low close : List Float) (n : ℕ) (k : Float) (a b c work : ℕ) where
+module _ (high low close : List Float) (n : ℕ) (k : Float) (first : CloseBefore) (a b c work : ℕ) where
   abbrev long : Answer
   long = unless (leb n (length high + 1)) SeriesTooShort (Cells (length high))
 
+  abbrev asks : Answer
+  asks = limited (k ∷ []) [] (n ∷ []) (unlessEmpty (length high) [] (n ∷ []) long)
+
   abbrev rest : Answer
-  rest = limited (k ∷ []) [] (n ∷ []) (unlessEmpty (length high) [] (n ∷ []) long)
+  rest = closeChecked first asks
 
   abbrev due : Answer
-  due = channelAnswer high low close n k (a ∷ b ∷ c ∷ []) work
+  due = channelAnswer high low close n k first (a ∷ b ∷ c ∷ []) work
 
   pub channel-clearable : {r : Answer} → r ≡ due → clearedOf r (8 * length high) ≤ work
   unfolding channelAnswer
@@ -79,20 +84,23 @@ module _ (high low close : List Float) (n : ℕ) (k : Float) (a b c work : ℕ) 
   unfolding channelAnswer
   channel-bars j e h =
       let next = andThen-cells (checked accepted (high ∷ low ∷ close ∷ []) (a ∷ b ∷ c ∷ []) (work ∷ [])) rest j e .1 in
-      let all = asked (length high) (k ∷ []) [] (n ∷ []) long j next h .rest in
+      let parameters = unless-cells (acceptedClose first) _ asks j next .1 in
+      let all = asked (length high) (k ∷ []) [] (n ∷ []) long j parameters h .rest in
       sym (same-count _ _ (unless-cells (leb n (length high + 1)) _ _ j all .1))
 
   -- and where they are due, all is in order
   pub channel-ready : {r : Answer} → r ≡ due → 0 < countOf r
-      → ChannelRoom n high low close (min a (min b c)) × (8 * length high ≤ work)
+      → ChannelRoom n first high low close (min a (min b c)) × (8 * length high ≤ work)
   unfolding channelAnswer
   channel-ready {r} e h =
       let p = three-band-passed a b c work rest high low close e h in
-      let q = asked (length high) (k ∷ []) [] (n ∷ []) long (countOf r) (p .1) h in (
+      let parameters = unless-cells (acceptedClose first) _ asks (countOf r) (p .1) in
+      let q = asked (length high) (k ∷ []) [] (n ∷ []) long (countOf r) (parameters .1) h in (
         record {
           some = nonzero n (or-parts (eqb n 0) _ (q .some-periods) .0);
           narrow = leb-true _ _ (and-parts (leb n longestPeriod) true (q .short-periods) .0);
           values = p .0 .values;
+          first-close = parameters .0;
           second = p .0 .second;
           third = p .0 .third;
           out-long = p .0 .out-long;

@@ -2,17 +2,19 @@
 use mathlib.Core.Path.{_≡_, refl}
 use mathlib.Core.List.{List, [], _∷_}
 use Prim.Native.Nat.{ℕ, suc}
-use lib.IntN.{pos}
+use lib.IntN.{pos, negsuc}
 use lib.ListN.{length}
 use lib.Ieee.{Float, nan, round, neg, add, sub, mul, div, lt, eq, le, ofInt, ofBits, toBits}
 use Rattle.limits.specs.Limits.{longestPeriod}
 use Rattle.calls.specs.declared.Refusal.the-variants.{
   LengthsDiffer,
   OutputTooShort,
+  ValueNotAccepted,
   ParameterNotFinite,
   WindowTooLong,
   SeriesTooShort,
 }
+use Rattle.calls.specs.declared.Answer.{Answer}
 use Rattle.calls.specs.declared.Answer.the-variants.{Cells, Refused}
 use Rattle.values.specs.Accepted.{accepted, finite}
 use Rattle.calls.specs.Answer.{slices, checked}
@@ -20,6 +22,8 @@ use Rattle.cells.specs.Line.{line, plusZero, fromBar}
 use Rattle.cells.specs.Recur.{recur, carried}
 use Rattle.rounding.specs.Leaves.{plusOne, magnitudeOf}
 use Rattle.windows.specs.Window.{sumFrom}
+use Rattle.true_range.specs.declared.CloseBefore.{CloseBefore}
+use Rattle.true_range.specs.declared.CloseBefore.the-variants.{Unknown, Known}
 use Rattle.true_range.specs.TrueRange.{trueRange, givenBefore, trueRanges}
 use Rattle.smoother_table.specs.Recorded.{a1Bits, b1Bits}
 use Rattle.smoother_table.specs.Coefficients.{a1Table, b1Table, a1Of, b1Of, ofPair, coefficients}
@@ -36,16 +40,19 @@ use Rattle.channel.specs.Channel.{
   channelAnswer,
 }
 
--- the first cells of the three outputs, of high, low and close
-abbrev shown : ℕ → Float → List Float → List Float → List Float → List (List Float)
-shown n k high low close =
+-- the first cells of the three outputs, of the close before bar 0 and of high, low and close
+abbrev shownFrom : CloseBefore → ℕ → Float → List Float → List Float → List Float → List (List Float)
+shownFrom first n k high low close =
     let h = line high in
     let l = line low in
     let c = line close in
     firstCells (length high) (channelMiddle n c)
-    ∷ firstCells (length high) (channelUpper n k h l c)
-    ∷ firstCells (length high) (channelLower n k h l c)
+    ∷ firstCells (length high) (channelUpper n k first h l c)
+    ∷ firstCells (length high) (channelLower n k first h l c)
     ∷ []
+
+abbrev shown : ℕ → Float → List Float → List Float → List Float → List (List Float)
+shown = shownFrom Unknown
 
 -- period 2, multiplier 2; period 3, whose outer lines begin at bar 2
 channel-cases : (shown 2 (num 2) (prices (pos 5 ∷ pos 7 ∷ pos 9 ∷ pos 8 ∷ pos 6 ∷ pos 10 ∷ pos 11
@@ -114,19 +121,53 @@ unfolding upperLine lowerLine channelWidth averageRange smooth formula coefficie
     ofInt ofBits round lt eq
 channel-edges = (refl, refl, refl, refl, refl, refl, refl, refl)
 
+-- a bar from 3 to 5 that closes at 4, of a close before it: above the bar, below it and inside it; and two bars, whose
+-- ranges of 6 and 3 have the mean 4.5
+first-cases : (shownFrom (Known (num 9)) 1 plusOne (num 5 ∷ []) (num 3 ∷ []) (num 4 ∷ [])
+    ≡ ((num 4 ∷ []) ∷ (num 10 ∷ []) ∷ prices (negsuc 1 ∷ []) ∷ []))
+    × (shownFrom (Known (num 1)) 1 plusOne (num 5 ∷ []) (num 3 ∷ []) (num 4 ∷ [])
+    ≡ ((num 4 ∷ []) ∷ (num 8 ∷ []) ∷ (num 0 ∷ []) ∷ []))
+    × (shownFrom (Known (num 4)) 1 plusOne (num 5 ∷ []) (num 3 ∷ []) (num 4 ∷ [])
+    ≡ ((num 4 ∷ []) ∷ (num 6 ∷ []) ∷ (num 2 ∷ []) ∷ []))
+    × (shownFrom (Known (num 9)) 2 (num 2) (prices (pos 5 ∷ pos 7 ∷ [])) (prices (pos 3 ∷ pos 4
+    ∷ [])) (prices (pos 4 ∷ pos 6 ∷ []))
+    ≡ (prices (pos 4 ∷ pos 6 ∷ []) ∷ (nan ∷ num 15 ∷ []) ∷ (nan ∷ prices (negsuc 2 ∷ [])) ∷ []))
+unfolding upperLine lowerLine channelWidth averageRange smooth formula coefficients ofPair a1Of b1Of a1Table b1Table
+    a1Bits b1Bits trueRanges trueRange givenBefore wilder carried recur sumFrom fromBar magnitudeOf neg add sub mul div
+    ofInt ofBits round lt eq
+first-cases = (refl, refl, refl, refl)
+
 -- a period of L + 1, and of L + 2; the longest, and longer; 0; a multiplier that is not finite; series of
 -- unequal length; one of three outputs too short; no bars
-channel-answers : channelAnswer (plusZero ∷ []) (plusZero ∷ []) (plusZero ∷ []) 2 plusOne (1 ∷ 1 ∷ 1 ∷ []) 8
-    ∷ channelAnswer (plusZero ∷ []) (plusZero ∷ []) (plusZero ∷ []) 3 plusOne (1 ∷ 1 ∷ 1 ∷ []) 8
-    ∷ channelAnswer (plusZero ∷ []) (plusZero ∷ []) (plusZero ∷ []) longestPeriod plusOne (1 ∷ 1 ∷ 1 ∷ []) 8
-    ∷ channelAnswer (plusZero ∷ []) (plusZero ∷ []) (plusZero ∷ []) (suc longestPeriod) plusOne (1 ∷ 1 ∷ 1 ∷ []) 8
-    ∷ channelAnswer (plusZero ∷ []) (plusZero ∷ []) (plusZero ∷ []) 0 plusOne (1 ∷ 1 ∷ 1 ∷ []) 8
-    ∷ channelAnswer (plusZero ∷ []) (plusZero ∷ []) (plusZero ∷ []) (suc longestPeriod) nan (1 ∷ 1 ∷ 1 ∷ []) 8
-    ∷ channelAnswer (plusZero ∷ []) (plusZero ∷ []) [] 2 plusOne (1 ∷ 1 ∷ 1 ∷ []) 8
-    ∷ channelAnswer (plusZero ∷ []) (plusZero ∷ []) (plusZero ∷ []) 2 plusOne (1 ∷ 1 ∷ 0 ∷ []) 8
-    ∷ channelAnswer [] [] [] 9 plusOne (0 ∷ 0 ∷ 0 ∷ []) 0
+channel-answers : channelAnswer (plusZero ∷ []) (plusZero ∷ []) (plusZero ∷ []) 2 plusOne Unknown (1 ∷ 1 ∷ 1 ∷ []) 8
+    ∷ channelAnswer (plusZero ∷ []) (plusZero ∷ []) (plusZero ∷ []) 3 plusOne Unknown (1 ∷ 1 ∷ 1 ∷ []) 8
+    ∷ channelAnswer (plusZero ∷ []) (plusZero ∷ []) (plusZero ∷ []) longestPeriod plusOne Unknown (1 ∷ 1 ∷ 1 ∷ []) 8
+    ∷ channelAnswer (plusZero ∷ []) (plusZero ∷ []) (plusZero ∷ []) (suc longestPeriod) plusOne Unknown
+    (1 ∷ 1 ∷ 1 ∷ []) 8
+    ∷ channelAnswer (plusZero ∷ []) (plusZero ∷ []) (plusZero ∷ []) 0 plusOne Unknown (1 ∷ 1 ∷ 1 ∷ []) 8
+    ∷ channelAnswer (plusZero ∷ []) (plusZero ∷ []) (plusZero ∷ []) (suc longestPeriod) nan Unknown (1 ∷ 1 ∷ 1 ∷ []) 8
+    ∷ channelAnswer (plusZero ∷ []) (plusZero ∷ []) [] 2 plusOne Unknown (1 ∷ 1 ∷ 1 ∷ []) 8
+    ∷ channelAnswer (plusZero ∷ []) (plusZero ∷ []) (plusZero ∷ []) 2 plusOne Unknown (1 ∷ 1 ∷ 0 ∷ []) 8
+    ∷ channelAnswer [] [] [] 9 plusOne Unknown (0 ∷ 0 ∷ 0 ∷ []) 0
     ∷ []
     ≡ Cells 1 ∷ Refused SeriesTooShort ∷ Refused SeriesTooShort ∷ Refused WindowTooLong ∷ Cells 0
     ∷ Refused ParameterNotFinite ∷ Refused LengthsDiffer ∷ Refused OutputTooShort ∷ Cells 0 ∷ []
 unfolding channelAnswer slices checked accepted finite lt eq le toBits
 channel-answers = refl
+
+abbrev oneBar : ℕ → Float → CloseBefore → Answer
+oneBar n k first =
+    channelAnswer (plusZero ∷ []) (plusZero ∷ []) (plusZero ∷ []) n k first (1 ∷ 1 ∷ 1 ∷ []) 8
+
+-- a close before bar 0 that is accepted, and one that is not: before a multiplier that is not finite, a period that is
+-- too long or 0, and no bars; after series of unequal length
+first-answers : oneBar 2 plusOne (Known (num 9)) ∷ oneBar 2 plusOne (Known nan) ∷ oneBar 2 nan (Known nan)
+    ∷ oneBar (suc longestPeriod) plusOne (Known nan)
+    ∷ oneBar 0 plusOne (Known nan)
+    ∷ channelAnswer [] [] [] 2 plusOne (Known nan) (0 ∷ 0 ∷ 0 ∷ []) 0
+    ∷ channelAnswer (plusZero ∷ []) (plusZero ∷ []) [] 2 plusOne (Known nan) (1 ∷ 1 ∷ 1 ∷ []) 8
+    ∷ []
+    ≡ Cells 1 ∷ Refused ValueNotAccepted ∷ Refused ValueNotAccepted ∷ Refused ValueNotAccepted
+    ∷ Refused ValueNotAccepted ∷ Refused ValueNotAccepted ∷ Refused LengthsDiffer ∷ []
+unfolding channelAnswer slices checked accepted finite lt eq le toBits ofInt round
+first-answers = refl

@@ -2,6 +2,7 @@
 use calls::Answer;
 use calls::Refusal;
 use limits::LONGEST_PERIOD;
+use true_range::CloseBefore;
 ghost use mathlib.Core.Path.{_≡_};
 ghost use mathlib.Core.List.{[], _∷_};
 ghost use Prim.Native.Nat.{min};
@@ -20,16 +21,18 @@ pub fn write_widths(
     low: &[f64],
     close: &[f64],
     n: usize,
+    first: CloseBefore,
     upper: &mut [f64],
     lower: &mut [f64],
 )
-    requires { ⌜ ChannelRoom n (now high) (now low) (now close) (min (length (now upper)) (length (now lower))) ⌝ }
-    ensures { λ _. ⌜ Writing (length (now (high .entry))) (channelWidth n (line (now (high .entry)))
+    requires { ⌜ ChannelRoom n first (now high) (now low) (now close)
+        (min (length (now upper)) (length (now lower))) ⌝ }
+    ensures { λ _. ⌜ Writing (length (now (high .entry))) (channelWidth n first (line (now (high .entry)))
         (line (now (low .entry))) (line (now (close .entry)))) (now (upper .entry)) (now (upper .exit))
         × Touched (length (now (high .entry))) (now (lower .entry)) (now (lower .exit)) ⌝ }
 {
     let bars = high.len();
-    true_range::write_ranges(high, low, close, 1, upper);
+    true_range::write_ranges(high, low, close, 1, first, upper);
     averages_wilder::write_average(&upper[..bars], n, lower);
     smoother::write_smooth(&lower[..bars], n / 2, upper);
 }
@@ -41,12 +44,13 @@ pub fn answer_channel(
     close: &[f64],
     n: usize,
     k: f64,
+    first: CloseBefore,
     middle: usize,
     upper: usize,
     lower: usize,
     work: usize,
 ) -> Answer
-    ensures { λ r. ⌜ r ≡ channelAnswer (now (high .entry)) (now (low .entry)) (now (close .entry)) n k
+    ensures { λ r. ⌜ r ≡ channelAnswer (now (high .entry)) (now (low .entry)) (now (close .entry)) n k first
         (middle ∷ upper ∷ lower ∷ []) work ⌝ }
 {
     let due = checks::check_channel(high, low, close, middle, upper, lower, work);
@@ -54,8 +58,8 @@ pub fn answer_channel(
     let long = checks::unless_refused(n <= bars + 1, Refusal::SeriesTooShort, Answer::Cells(bars));
     let some = checks::empty_if((n == 0) | (bars == 0), long);
     let narrow = checks::unless_refused(n <= LONGEST_PERIOD, Refusal::WindowTooLong, some);
-    let next = checks::unless_refused(values::is_finite(k), Refusal::ParameterNotFinite, narrow);
-    checks::and_then(due, next)
+    let finite = checks::unless_refused(values::is_finite(k), Refusal::ParameterNotFinite, narrow);
+    checks::and_then(due, true_range::check_close(first, finite))
 }
 
 // Writes the three lines. From period 5 on the outer ones are NaN.
@@ -65,22 +69,23 @@ fn write_channel(
     close: &[f64],
     n: usize,
     k: f64,
+    first: CloseBefore,
     middle: &mut [f64],
     upper: &mut [f64],
     lower: &mut [f64],
 )
-    requires { ⌜ ChannelRoom n (now high) (now low) (now close)
+    requires { ⌜ ChannelRoom n first (now high) (now low) (now close)
         (min (length (now middle)) (min (length (now upper)) (length (now lower)))) ⌝ }
     ensures { λ _. ⌜ Lined (length (now (high .entry))) (channelMiddle n (line (now (close .entry))))
-        (channelUpper n k (line (now (high .entry))) (line (now (low .entry))) (line (now (close .entry))))
-        (channelLower n k (line (now (high .entry))) (line (now (low .entry))) (line (now (close .entry))))
+        (channelUpper n k first (line (now (high .entry))) (line (now (low .entry))) (line (now (close .entry))))
+        (channelLower n k first (line (now (high .entry))) (line (now (low .entry))) (line (now (close .entry))))
         (now (middle .entry)) (now (upper .entry)) (now (lower .entry))
         (now (middle .exit)) (now (upper .exit)) (now (lower .exit)) ⌝ }
 {
     let bars = high.len();
     smoother::write_smooth(close, n, middle);
     if n < 5 {
-        write_widths(high, low, close, n, upper, lower);
+        write_widths(high, low, close, n, first, upper, lower);
         outer_lines::write_outer_lines(middle, k, bars, upper, lower);
     } else {
         outer_lines::fill_outer_lines(bars, upper, lower);
@@ -94,12 +99,13 @@ pub fn ultimate_channel(
     close: &[f64],
     period: usize,
     multiplier: f64,
+    first: CloseBefore,
     middle: &mut [f64],
     upper: &mut [f64],
     lower: &mut [f64],
     work: &mut [f64],
 ) -> Answer
-    ensures { λ r. ⌜ ChannelCall (now (high .entry)) (now (low .entry)) (now (close .entry)) period multiplier
+    ensures { λ r. ⌜ ChannelCall (now (high .entry)) (now (low .entry)) (now (close .entry)) period multiplier first
         (now (middle .entry)) (now (upper .entry)) (now (lower .entry)) (now (work .entry)) r
         (now (middle .exit)) (now (upper .exit)) (now (lower .exit)) (now (work .exit)) ⌝ }
 {
@@ -109,13 +115,24 @@ pub fn ultimate_channel(
         close,
         period,
         multiplier,
+        first,
         middle.len(),
         upper.len(),
         lower.len(),
         work.len(),
     );
     if checks::cells_due(due, high.len(), work) {
-        write_channel(high, low, close, period, multiplier, middle, upper, lower);
+        write_channel(
+            high,
+            low,
+            close,
+            period,
+            multiplier,
+            first,
+            middle,
+            upper,
+            lower,
+        );
         cells::clear(work, 8 * high.len());
     }
     due

@@ -2,7 +2,7 @@
 -- the function, so that each statement of this crate speaks to a C caller: `from-C` for those about `Cells k`,
 -- `from-C-of` for those about `Cells (length s)`. Shown here for a function of each shape: one output, a work slice,
 -- whole-number cells, three outputs, three series, and two calls. Assumes nothing.
-use mathlib.Core.Path.{_≡_}
+use mathlib.Core.Path.{_≡_, sym}
 use mathlib.Core.List.{List}
 use Prim.Native.Nat.{ℕ, _+_, _<_, _≤_}
 use lib.IntN.{ℤ}
@@ -15,7 +15,7 @@ use Rattle.calls.specs.declared.numbers.CAnswer.{CAnswer}
 use Rattle.calls.specs.Numbers.{InNumbers}
 use Rattle.calls.proofs.InNumbers.{accepted-call}
 use Rattle.averages.specs.Sma.{SmaCall}
-use Rattle.true_range.specs.TrueRange.{TrueRangeCall}
+use Rattle.true_range.specs.TrueRange.{supplied, TrueRangeCall}
 use Rattle.bands.specs.Bands.{UltimateBandsCall}
 use Rattle.rules_held.specs.Held.{flat}
 use Rattle.rules_single.specs.Single.{SingleCall}
@@ -71,12 +71,17 @@ pub sma-from-C-no-look-ahead : {s t out₀ out₁ out₀′ out₁′ : List Flo
 sma-from-C-no-look-ahead {s = s} {t} n equal c e k c′ e′ k′ =
     sma-no-look-ahead equal n (from-C-of c e (length s) k) (from-C-of c′ e′ (length t) k′)
 
--- Two calls of three series: likewise for `tegbalowu_true_range`.
+-- Two calls of three series: likewise for `tegbalowu_true_range`, where both flags are set and the closes before bar 0
+-- are equal, or neither flag is set, whatever the closes.
 pub true-range-from-C-no-look-ahead : {high low before high′ low′ before′ out₀ out₁ out₀′ out₁′ : List Float} {b : ℕ}
-    {r r′ : CAnswer}
+    (known known′ : ℕ) (close close′ : Float) {r r′ : CAnswer}
     → EqualBars high high′ b → EqualBars low low′ b → EqualBars before before′ b
-    → InNumbers (λ a. TrueRangeCall high low before out₀ a out₁) r → r .refusal ≡ 0 → r .count ≡ length high
-    → InNumbers (λ a. TrueRangeCall high′ low′ before′ out₀′ a out₁′) r′ → r′ .refusal ≡ 0 → r′ .count ≡ length high′
+    → supplied known close ≡ supplied known′ close′
+    → InNumbers (λ a. TrueRangeCall high low before (supplied known close) out₀ a out₁) r
+    → r .refusal ≡ 0 → r .count ≡ length high
+    → InNumbers (λ a. TrueRangeCall high′ low′ before′ (supplied known′ close′) out₀′ a out₁′) r′
+    → r′ .refusal ≡ 0 → r′ .count ≡ length high′
     → EqualCells nan out₁ out₁′ b
-true-range-from-C-no-look-ahead {high = high} {high′ = high′} h l p c e k c′ e′ k′ =
-    true-range-no-look-ahead h l p (from-C-of c e (length high) k) (from-C-of c′ e′ (length high′) k′)
+true-range-from-C-no-look-ahead {high = high} {high′ = high′} known known′ close close′ h l p same c e k c′ e′ k′ =
+    true-range-no-look-ahead h l p (supplied known close) (from-C-of c e (length high) k)
+    (rw (sym same) at (from-C-of c′ e′ (length high′) k′))

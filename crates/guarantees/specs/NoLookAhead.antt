@@ -19,7 +19,6 @@ use Rattle.calls.specs.Call.{Call}
 use Rattle.calls.proofs.Room.{EachWindow, room, opened}
 use Rattle.calls.proofs.Cells.{cell-at, room-after, no-look-ahead}
 use Rattle.checks.proofs.Passed.{three-passed}
-use Rattle.checks.proofs.Three.{checked-three-room}
 use Rattle.averages.specs.Sma.{SmaCall}
 use Rattle.averages.proofs.Causal.{causal-sma}
 use Rattle.averages.specs.Ema.{EmaCall}
@@ -31,8 +30,9 @@ use Rattle.smoother_table.specs.Coefficients.{coefficients}
 use Rattle.smoother_table.specs.Period.{wholePart}
 use Rattle.smoother.specs.Smoother.{smootherAnswer, UltimateSmootherCall}
 use Rattle.smoother.proofs.Smoother.{causal-smooth}
+use Rattle.true_range.specs.declared.CloseBefore.{CloseBefore}
 use Rattle.true_range.specs.TrueRange.{TrueRangeCall}
-use Rattle.true_range.proofs.TrueRange.{Causal₃, causal-given, causal-ranges}
+use Rattle.true_range.proofs.TrueRange.{Causal₃, causal-given, causal-ranges, range-ready}
 use Rattle.oscillator.specs.Oscillator.{oscillatorAnswer, OscillatorCall}
 use Rattle.oscillator.proofs.Oscillator.{causal-oscillator}
 use Rattle.rules_single.specs.Single.{SingleCall}
@@ -270,49 +270,52 @@ module _ {high low close high′ low′ close′ : List Float} {b : ℕ} (h : Eq
       (λ i k. e .same i (omega arith))
       ∙ sym (cell-at nan c′ room′ j (omega arith))
 
--- true range
+-- true range, of one close before bar 0, or of none
 pub true-range-no-look-ahead : {high low before high′ low′ before′ out₀ out₁ out₀′ out₁′ : List Float} {b : ℕ}
-    → EqualBars high high′ b → EqualBars low low′ b → EqualBars before before′ b
-    → TrueRangeCall high low before out₀ (Cells (length high)) out₁
-    → TrueRangeCall high′ low′ before′ out₀′ (Cells (length high′)) out₁′
+    → EqualBars high high′ b → EqualBars low low′ b → EqualBars before before′ b → (first : CloseBefore)
+    → TrueRangeCall high low before first out₀ (Cells (length high)) out₁
+    → TrueRangeCall high′ low′ before′ first out₀′ (Cells (length high′)) out₁′
     → EqualCells nan out₁ out₁′ b
-true-range-no-look-ahead h l e c c′ =
-    let room = checked-three-room _ _ _ _ [] _ (sym (c .answer)) .0 .out-long in
-    let room′ = checked-three-room _ _ _ _ [] _ (sym (c′ .answer)) .0 .out-long in
-    three-agree h l e (causal-ranges causal-given) room room′ c c′
+true-range-no-look-ahead h l e first c c′ =
+    let p = h .left in
+    let q = h .right in
+    let room = range-ready _ _ _ first _ (c .answer) (omega arith) .0 .out-long in
+    let room′ = range-ready _ _ _ first _ (c′ .answer) (omega arith) .0 .out-long in
+    three-agree h l e (causal-ranges (causal-given first)) room room′ c c′
 
 -- the channel, in each of its three outputs
 module _ {high low close high′ low′ close′ : List Float} {b : ℕ} (h : EqualBars high high′ b) (l : EqualBars low low′ b)
     (e : EqualBars close close′ b)
     {middle₀ upper₀ lower₀ work₀ middle₁ upper₁ lower₁ work₁ : List Float}
     {middle₀′ upper₀′ lower₀′ work₀′ middle₁′ upper₁′ lower₁′ work₁′ : List Float} where
-  pub channel-no-look-ahead : (n : ℕ) (k : Float)
-      → ChannelCall high low close n k middle₀ upper₀ lower₀ work₀ (Cells (length high))
+  pub channel-no-look-ahead : (n : ℕ) (k : Float) (first : CloseBefore)
+      → ChannelCall high low close n k first middle₀ upper₀ lower₀ work₀ (Cells (length high))
       middle₁ upper₁ lower₁ work₁
-      → ChannelCall high′ low′ close′ n k middle₀′ upper₀′ lower₀′ work₀′ (Cells (length high′))
+      → ChannelCall high′ low′ close′ n k first middle₀′ upper₀′ lower₀′ work₀′ (Cells (length high′))
       middle₁′ upper₁′ lower₁′ work₁′
       → EqualCells nan middle₁ middle₁′ b × EqualCells nan upper₁ upper₁′ b × EqualCells nan lower₁ lower₁′ b
-  channel-no-look-ahead n k c c′ =
+  channel-no-look-ahead n k first c c′ =
       let p = h .left in
       let q = h .right in
-      let room = channel-ready high low close n k _ _ _ _ (c .middle .answer) (omega arith) .0 .out-long in
-      let room′ = channel-ready high′ low′ close′ n k _ _ _ _ (c′ .middle .answer) (omega arith) .0 .out-long in (
+      let room = channel-ready high low close n k first _ _ _ _ (c .middle .answer) (omega arith) .0 .out-long in
+      let room′ = channel-ready high′ low′ close′ n k first _ _ _ _ (c′ .middle .answer) (omega arith) .0 .out-long in (
         three-agree h l e (causal-channel-middle n) (omega arith) (omega arith) (c .middle) (c′ .middle),
-        three-agree h l e (causal-channel-upper n k) (omega arith) (omega arith) (c .upper) (c′ .upper),
-        three-agree h l e (causal-channel-lower n k) (omega arith) (omega arith) (c .lower) (c′ .lower),
+        three-agree h l e (causal-channel-upper n k first) (omega arith) (omega arith) (c .upper) (c′ .upper),
+        three-agree h l e (causal-channel-lower n k first) (omega arith) (omega arith) (c .lower) (c′ .lower),
       )
 
 -- the ultimate oscillator
 pub ultimate-oscillator-no-look-ahead : {high low close high′ low′ close′ out₀ out₁ out₀′ out₁′ work₀ work₁ work₀′
     work₁′ : List Float} {b : ℕ}
     → EqualBars high high′ b → EqualBars low low′ b → EqualBars close close′ b → (n m k : ℕ)
-    → OscillatorCall high low close n m k out₀ work₀ (Cells (length high)) out₁ work₁
-    → OscillatorCall high′ low′ close′ n m k out₀′ work₀′ (Cells (length high′)) out₁′ work₁′
+    (first : CloseBefore)
+    → OscillatorCall high low close n m k first out₀ work₀ (Cells (length high)) out₁ work₁
+    → OscillatorCall high′ low′ close′ n m k first out₀′ work₀′ (Cells (length high′)) out₁′ work₁′
     → EqualCells nan out₁ out₁′ b
 unfolding oscillatorAnswer
-ultimate-oscillator-no-look-ahead h l e n m k c c′ =
+ultimate-oscillator-no-look-ahead h l e n m k first c c′ =
     let p = h .left in
     let q = h .right in
     let room = three-passed _ _ _ _ _ _ (c .call .answer) (omega arith) .0 .out-long in
     let room′ = three-passed _ _ _ _ _ _ (c′ .call .answer) (omega arith) .0 .out-long in
-    three-agree h l e (causal-oscillator n m k) room room′ (c .call) (c′ .call)
+    three-agree h l e (causal-oscillator n m k first) room room′ (c .call) (c′ .call)

@@ -61,10 +61,10 @@ module _ (f g : Line) (i : ℕ) (p : (j : ℕ) → j ≤ i → EitherZero (f j))
 
 -- ---- the cells, as the loops find them
 
-pub pressure-at : (low close : Line) (i : ℕ) {x : Float} {before : CloseBefore}
-    → x ≡ pressure (low i) (close i) before → before ≡ closeBefore close i → x ≡ pressures low close i
+pub pressure-at : (low close : Line) (first : CloseBefore) (i : ℕ) {x : Float} {before : CloseBefore}
+    → x ≡ pressure (low i) (close i) before → before ≡ closeBefore first close i → x ≡ pressures first low close i
 unfolding pressures
-pressure-at low close i e h = rw (e, h)
+pressure-at low close first i e h = rw (e, h)
 
 pub eight-shares : (n i : ℕ) (f g : Line) {x y : Eight} → EightOf (windowSum n f) i x → EightOf (windowSum n g) i y
     → EightOf (share minusZero n f g) i (eachRatio x y)
@@ -120,16 +120,17 @@ from-rows n m k b f g {rows = rows} r h w =
 
 -- ---- no look-ahead
 
-pub causal-pressures : (l l′ c c′ : Line) (b : ℕ) → Same l l′ b → Same c c′ b → pressures l c b ≡ pressures l′ c′ b
+pub causal-pressures : (first : CloseBefore) (l l′ c c′ : Line) (b : ℕ) → Same l l′ b → Same c c′ b
+    → pressures first l c b ≡ pressures first l′ c′ b
 unfolding pressures
-causal-pressures l l′ c c′ b y z = rw (y b (le-refl b), z b (le-refl b), causal-close c c′ b z)
+causal-pressures first l l′ c c′ b y z = rw (y b (le-refl b), z b (le-refl b), causal-close first c c′ b z)
 
-pub causal-oscillator : (n m k : ℕ) → Causal₃ (oscillatorLine n m k)
+pub causal-oscillator : (n m k : ℕ) (first : CloseBefore) → Causal₃ (oscillatorLine n m k first)
 unfolding oscillatorLine
-causal-oscillator n m k h h′ l l′ c c′ b x y z =
-    shares-same plusZero (pressures l c) (pressures l′ c′) (trueRanges h l (closeBefore c))
-    (trueRanges h′ l′ (closeBefore c′)) b
-    (λ j s. causal-pressures l l′ c c′ j (λ i r. y i (omega arith)) (λ i r. z i (omega arith)))
-    (λ j s. causal-ranges causal-close h h′ l l′ c c′ j (λ i r. x i (omega arith)) (λ i r. y i (omega arith))
+causal-oscillator n m k first h h′ l l′ c c′ b x y z =
+    shares-same plusZero (pressures first l c) (pressures first l′ c′) (trueRanges h l (closeBefore first c))
+    (trueRanges h′ l′ (closeBefore first c′)) b
+    (λ j s. causal-pressures first l l′ c c′ j (λ i r. y i (omega arith)) (λ i r. z i (omega arith)))
+    (λ j s. causal-ranges (causal-close first) h h′ l l′ c c′ j (λ i r. x i (omega arith)) (λ i r. y i (omega arith))
     (λ i r. z i (omega arith)))
     n m k

@@ -2,12 +2,12 @@
 -- equal. Assumes nothing.
 use mathlib.Core.Path.{_≡_, refl, sym, _∙_}
 use mathlib.Core.Bool.{Bool, true, false, not, _&&_, cond, true≢false}
-use mathlib.Core.List.{List}
+use mathlib.Core.List.{List, [], _∷_}
 use Prim.Native.Nat.{ℕ, zero, suc, _+_, _-_, _*_, _/_, _^_, _<_, _≤_}
 use native.Mathlib.Nat.{zero-mul, zero-div, zero-lt-suc, mul-pos, mul-le-mul-left, mul-le-mul-right, le-refl}
 use native.Mathlib.Omega.{arith}
 use borrow.Author.Tests.{ltb-true, ltb-false}
-use lib.Dec.{T, ltb, eqb}
+use lib.Dec.{T, ltb, eqb, lit<}
 use lib.IntN.{ℤ, pos}
 use lib.Pow.{pow-pos}
 use lib.ListN.{length}
@@ -30,7 +30,9 @@ use Rattle.cells.specs.Line.{Line, line}
 use Rattle.extremes.specs.Extreme.{larger, smaller}
 use Rattle.exact_ticks.proofs.Bounds.{prices-bounded}
 use Rattle.windows.proofs.Zeros.{EitherZero, either-nan, either-inf, either-fin, either-plus, either-rounded}
-use Rattle.true_range.specs.TrueRange.{trueRange, trueRanges, givenBefore, closeBefore}
+use Rattle.true_range.specs.declared.CloseBefore.{CloseBefore}
+use Rattle.true_range.specs.declared.CloseBefore.the-variants.{Unknown, Known}
+use Rattle.true_range.specs.TrueRange.{trueRange, trueRanges, givenBefore, closeBefore, acceptedClose}
 use Rattle.oscillator.specs.Oscillator.{pressure, pressures}
 
 -- ---- a whole number of units, rounded, is not 0 unless it was
@@ -143,27 +145,44 @@ plain-smaller x y p q = of-two (λ z. Plain z) (lt y x) q p
 either-larger : (x y : Float) → EitherZero x → EitherZero y → EitherZero (larger x y)
 either-larger x y p q = of-two (λ z. EitherZero z) (lt x y) q p
 
-module _ {l : ℕ} {high low close : Line} (hs : (i : ℕ) → i < l → Plain (high i)) (ls : (i : ℕ) → i < l → Plain (low i))
-    (cs : (i : ℕ) → i < l → Plain (close i)) where
-  pub either-pressures : (i : ℕ) → i < l → EitherZero (pressures low close i)
-  unfolding pressures pressure givenBefore
-  either-pressures zero h = either-difference (cs 0 h) (plain-smaller (low 0) (close 0) (ls 0 h) (cs 0 h))
-  either-pressures (suc i) h =
-      let before = suc i - 1 in
-      either-difference (cs (suc i) h)
-      (plain-smaller (low (suc i)) (close before) (ls (suc i) h) (cs before (omega arith)))
+-- a close before a bar that is unknown or plain
+abbrev pub PlainClose : CloseBefore → Type 0
+PlainClose Unknown = Unit {0}
+PlainClose (Known close) = Plain close
 
-  pub either-ranges : (i : ℕ) → i < l → EitherZero (trueRanges high low (closeBefore close) i)
-  unfolding trueRanges trueRange givenBefore
-  either-ranges zero h = either-difference (hs 0 h) (ls 0 h)
-  either-ranges (suc i) h =
-      let before = close (suc i - 1) in
-      let own = sub binary64 (high (suc i)) (low (suc i)) in
-      let above = magnitudeOf (sub binary64 (high (suc i)) before) in
-      let below = magnitudeOf (sub binary64 (low (suc i)) before) in
-      either-larger (larger own above) below
-      (either-larger own above (either-difference (hs (suc i) h) (ls (suc i) h)) (either-magnitude _))
-      (either-magnitude _)
+either-pressure : (low close : Float) (before : CloseBefore) → Plain low → Plain close → PlainClose before
+    → EitherZero (pressure low close before)
+unfolding pressure
+either-pressure low close Unknown p q b = either-difference q (plain-smaller low close p q)
+either-pressure low close (Known before) p q b = either-difference q (plain-smaller low before p b)
+
+either-range : (high low : Float) (before : CloseBefore) → Plain high → Plain low
+    → EitherZero (trueRange high low before)
+unfolding trueRange
+either-range high low Unknown p q = either-difference p q
+either-range high low (Known before) p q =
+    let own = sub binary64 high low in
+    let above = magnitudeOf (sub binary64 high before) in
+    let below = magnitudeOf (sub binary64 low before) in
+    either-larger (larger own above) below (either-larger own above (either-difference p q) (either-magnitude _))
+    (either-magnitude _)
+
+module _ {l : ℕ} {high low close : Line} (first : CloseBefore) (hs : (i : ℕ) → i < l → Plain (high i))
+    (ls : (i : ℕ) → i < l → Plain (low i))
+    (cs : (i : ℕ) → i < l → Plain (close i))
+    (f : PlainClose first) where
+  plain-before : (i : ℕ) → i < l → PlainClose (closeBefore first close i)
+  unfolding givenBefore
+  plain-before zero h = f
+  plain-before (suc i) h = cs (suc i - 1) (omega arith)
+
+  pub either-pressures : (i : ℕ) → i < l → EitherZero (pressures first low close i)
+  unfolding pressures
+  either-pressures i h = either-pressure (low i) (close i) _ (ls i h) (cs i h) (plain-before i h)
+
+  pub either-ranges : (i : ℕ) → i < l → EitherZero (trueRanges high low (closeBefore first close) i)
+  unfolding trueRanges
+  either-ranges i h = either-range (high i) (low i) _ (hs i h) (ls i h)
 
 -- ---- accepted values
 
@@ -196,3 +215,14 @@ pub plain-values : (s : List Float) → ((i : ℕ) → T (fits binary64 (line s 
 plain-values s fit h i l =
     plain (line s i) (record { fit = fit i; ends = rw (prices-bounded s i h l i (le-refl i) .is) tt })
     (all-at accepted s i h l)
+
+-- a close before a bar, where it is known, is an f64
+abbrev pub FitClose : CloseBefore → Type 0
+FitClose Unknown = Unit {0}
+FitClose (Known close) = T (fits binary64 close)
+
+pub plain-close : (first : CloseBefore) → FitClose first → acceptedClose first ≡ true → PlainClose first
+plain-close Unknown fit a = tt
+plain-close (Known close) fit a =
+    let one : all accepted (close ∷ []) ≡ true = rw a in
+    plain close (record { fit = fit; ends = rw (prices-bounded (close ∷ []) 0 one (lit< tt) 0 (le-refl 0) .is) tt }) a

@@ -6,15 +6,17 @@ use lib.IntN.{pos}
 use lib.ListN.{length}
 use lib.Ieee.{Float, nan, round, neg, add, sub, mul, div, lt, eq, le, ofInt, ofBits, toBits}
 use Rattle.limits.specs.Limits.{longestWindow}
-use Rattle.calls.specs.declared.Refusal.the-variants.{LengthsDiffer, WindowTooLong}
+use Rattle.calls.specs.declared.Refusal.the-variants.{LengthsDiffer, ValueNotAccepted, WindowTooLong}
 use Rattle.calls.specs.declared.Answer.{Answer}
 use Rattle.calls.specs.declared.Answer.the-variants.{Cells, Refused}
 use Rattle.values.specs.Accepted.{accepted, finite}
 use Rattle.calls.specs.Answer.{slices, checked, windowed}
 use Rattle.cells.specs.Line.{line, plusZero, fromBar}
-use Rattle.cells.specs.Shown.{prices, bits, firstCells}
+use Rattle.cells.specs.Shown.{num, prices, bits, firstCells}
 use Rattle.rounding.specs.Leaves.{magnitudeOf}
 use Rattle.windows.specs.Window.{sumFrom}
+use Rattle.true_range.specs.declared.CloseBefore.{CloseBefore}
+use Rattle.true_range.specs.declared.CloseBefore.the-variants.{Unknown, Known}
 use Rattle.true_range.specs.TrueRange.{trueRange, trueRanges, givenBefore}
 use Rattle.oscillator.specs.Oscillator.{
   pressure,
@@ -25,9 +27,13 @@ use Rattle.oscillator.specs.Oscillator.{
   oscillatorAnswer,
 }
 
--- as many cells as bars, of high, low and close
+-- as many cells as bars, of the close before bar 0 and of high, low and close
+abbrev shownFrom : CloseBefore → ℕ → ℕ → ℕ → List Float → List Float → List Float → List Float
+shownFrom first n m k high low close =
+    firstCells (length high) (oscillatorLine n m k first (line high) (line low) (line close))
+
 abbrev shown : ℕ → ℕ → ℕ → List Float → List Float → List Float → List Float
-shown n m k high low close = firstCells (length high) (oscillatorLine n m k (line high) (line low) (line close))
+shown = shownFrom Unknown
 
 -- windows 1, 2, 3, and 2, 3, 4: NaN until the longest is whole; the windows need not rise
 oscillator-cases : (shown 1 2 3 (prices (pos 5 ∷ pos 7 ∷ pos 9 ∷ pos 8 ∷ pos 6 ∷ [])) (prices (pos 3 ∷ pos 4 ∷ pos 6
@@ -63,14 +69,38 @@ unfolding oscillatorLine weighedShares share pressures pressure trueRanges trueR
     magnitudeOf neg add sub mul div ofInt ofBits round lt eq
 oscillator-edges = (refl, refl, refl, refl, refl, refl)
 
+-- a bar from 3 to 5 that closes at 4, of a close before it: above the bar, below it and inside it
+first-cases : (shownFrom (Known (num 7)) 1 1 1 (num 5 ∷ []) (num 3 ∷ []) (num 4 ∷ []) ≡ (num 25 ∷ []))
+    × (shownFrom (Known (num 1)) 1 1 1 (num 5 ∷ []) (num 3 ∷ []) (num 4 ∷ []) ≡ (num 75 ∷ []))
+    × (shownFrom (Known (num 4)) 1 1 1 (num 5 ∷ []) (num 3 ∷ []) (num 4 ∷ []) ≡ (num 50 ∷ []))
+unfolding oscillatorLine weighedShares share pressures pressure trueRanges trueRange givenBefore sumFrom fromBar
+    magnitudeOf neg add sub mul div ofInt ofBits round lt eq
+first-cases = (refl, refl, refl)
+
+abbrev oneBarFrom : CloseBefore → ℕ → ℕ → ℕ → Answer
+oneBarFrom first n m k = oscillatorAnswer (plusZero ∷ []) (plusZero ∷ []) (plusZero ∷ []) n m k first 1 8
+
 abbrev oneBar : ℕ → ℕ → ℕ → Answer
-oneBar n m k = oscillatorAnswer (plusZero ∷ []) (plusZero ∷ []) (plusZero ∷ []) n m k 1 8
+oneBar = oneBarFrom Unknown
 
 -- one bar; any window of 0; the longest window and one longer; series of unequal length; no bars
 oscillator-answers : oneBar 1 2 3 ∷ oneBar 1 0 3 ∷ oneBar longestWindow 1 longestWindow ∷ oneBar 1 0 (suc longestWindow)
-    ∷ oscillatorAnswer (plusZero ∷ []) [] (plusZero ∷ []) 1 2 3 1 8
-    ∷ oscillatorAnswer [] [] [] 1 2 3 0 0
+    ∷ oscillatorAnswer (plusZero ∷ []) [] (plusZero ∷ []) 1 2 3 Unknown 1 8
+    ∷ oscillatorAnswer [] [] [] 1 2 3 Unknown 0 0
     ∷ []
     ≡ Cells 1 ∷ Cells 0 ∷ Cells 1 ∷ Refused WindowTooLong ∷ Refused LengthsDiffer ∷ Cells 0 ∷ []
 unfolding oscillatorAnswer slices checked windowed accepted finite lt eq le toBits
 oscillator-answers = refl
+
+-- a close before bar 0 that is accepted, and one that is not: before a window that is too long or 0, and no bars; after
+-- series of unequal length
+first-answers : oneBarFrom (Known plusZero) 1 2 3 ∷ oneBarFrom (Known nan) 1 2 3
+    ∷ oneBarFrom (Known nan) 1 2 (suc longestWindow)
+    ∷ oneBarFrom (Known nan) 1 0 3
+    ∷ oscillatorAnswer [] [] [] 1 2 3 (Known nan) 0 0
+    ∷ oscillatorAnswer (plusZero ∷ []) [] (plusZero ∷ []) 1 2 3 (Known nan) 1 8
+    ∷ []
+    ≡ Cells 1 ∷ Refused ValueNotAccepted ∷ Refused ValueNotAccepted ∷ Refused ValueNotAccepted
+    ∷ Refused ValueNotAccepted ∷ Refused LengthsDiffer ∷ []
+unfolding oscillatorAnswer slices checked windowed accepted finite lt eq le toBits
+first-answers = refl

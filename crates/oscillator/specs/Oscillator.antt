@@ -17,7 +17,7 @@ use Rattle.windows.specs.Window.{sumFrom}
 use Rattle.extremes.specs.Extreme.{smaller}
 use Rattle.true_range.specs.declared.CloseBefore.{CloseBefore}
 use Rattle.true_range.specs.declared.CloseBefore.the-variants.{Unknown, Known}
-use Rattle.true_range.specs.TrueRange.{closeBefore, trueRanges}
+use Rattle.true_range.specs.TrueRange.{closeBefore, trueRanges, closeChecked}
 
 -- the close before a bar, and the bar's own where that is unknown
 abbrev pub lastClose : Float → CloseBefore → Float
@@ -29,8 +29,8 @@ unfoldable pub pressure : Float → Float → CloseBefore → Float
 pressure low close before = sub binary64 close (smaller low (lastClose close before))
 
 -- the pressure of every bar
-unfoldable pub pressures : Line → Line → Line
-pressures low close i = pressure (low i) (close i) (closeBefore close i)
+unfoldable pub pressures : CloseBefore → Line → Line → Line
+pressures first low close i = pressure (low i) (close i) (closeBefore first close i)
 
 -- x over y, and 0 where y is 0
 abbrev pub ratio : Float → Float → Float
@@ -55,18 +55,18 @@ weighedShares z short medium long f g = fromBar (max short (max medium long) - 1
     (λ i. weighed (share z short f g i) (share z medium f g i) (share z long f g i))
 
 -- the shares of pressure in true range, with a short, a medium and a long window and sums from 0.0
-unfoldable pub oscillatorLine : ℕ → ℕ → ℕ → Line → Line → Line → Line
-oscillatorLine short medium long high low close =
-    weighedShares plusZero short medium long (pressures low close) (trueRanges high low (closeBefore close))
+unfoldable pub oscillatorLine : ℕ → ℕ → ℕ → CloseBefore → Line → Line → Line → Line
+oscillatorLine short medium long first high low close =
+    weighedShares plusZero short medium long (pressures first low close) (trueRanges high low (closeBefore first close))
 
-unfoldable pub oscillatorAnswer : List Float → List Float → List Float → ℕ → ℕ → ℕ → ℕ → ℕ → Answer
-oscillatorAnswer high low close short medium long output work =
+unfoldable pub oscillatorAnswer : List Float → List Float → List Float → ℕ → ℕ → ℕ → CloseBefore → ℕ → ℕ → Answer
+oscillatorAnswer high low close short medium long first output work =
     andThen (checked accepted (high ∷ low ∷ close ∷ []) (output ∷ []) (work ∷ []))
-    (windowed (length high) (short ∷ medium ∷ long ∷ []) (Cells (length high)))
+    (closeChecked first (windowed (length high) (short ∷ medium ∷ long ∷ []) (Cells (length high))))
 
 -- what a call of `ultimate_oscillator` promises
-abbrev pub OscillatorCall : List Float → List Float → List Float → ℕ → ℕ → ℕ → List Float → List Float → Answer
-    → List Float → List Float → Type 0
-OscillatorCall high low close short medium long out₀ work₀ =
-    WorkCall (oscillatorAnswer high low close short medium long (length out₀) (length work₀))
-    (oscillatorLine short medium long (line high) (line low) (line close)) out₀ (length high) work₀
+abbrev pub OscillatorCall : List Float → List Float → List Float → ℕ → ℕ → ℕ → CloseBefore → List Float → List Float
+    → Answer → List Float → List Float → Type 0
+OscillatorCall high low close short medium long first out₀ work₀ =
+    WorkCall (oscillatorAnswer high low close short medium long first (length out₀) (length work₀))
+    (oscillatorLine short medium long first (line high) (line low) (line close)) out₀ (length high) work₀

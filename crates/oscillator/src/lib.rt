@@ -3,6 +3,7 @@ mod bar;
 mod ticks;
 
 use calls::Answer;
+use true_range::CloseBefore;
 use windows::Eight;
 use windows::Sixteen;
 ghost use mathlib.Core.Path.{_≡_};
@@ -25,14 +26,18 @@ ghost use Rattle.oscillator.specs.inner.Rows.{Ready, Whole₃, TwoRows, 
 ghost use Rattle.window_means.specs.inner.Row.{rowAt};
 
 // Writes the buying pressure of every bar.
-fn write_pressures(low: &[f64], close: &[f64], out: &mut [f64])
+fn write_pressures(low: &[f64], close: &[f64], first: CloseBefore, out: &mut [f64])
     requires { ⌜ (length (now low) ≡ length (now close)) × (length (now close) ≤ length (now out)) ⌝ }
-    ensures { λ _. ⌜ Writing (length (now (close .entry))) (pressures (line (now (low .entry)))
+    ensures { λ _. ⌜ Writing (length (now (close .entry))) (pressures first (line (now (low .entry)))
         (line (now (close .entry)))) (now (out .entry)) (now (out .exit)) ⌝ }
 {
     let mut i = 0;
     while i < close.len() {
-        out[i] = bar::pressure_of(low[i], close[i], true_range::close_before(close, 1, i));
+        out[i] = bar::pressure_of(
+            low[i],
+            close[i],
+            true_range::close_before(first, close, 1, i),
+        );
         i += 1;
     }
 }
@@ -275,17 +280,20 @@ fn write_oscillator(
     short: usize,
     medium: usize,
     long: usize,
+    first: CloseBefore,
     out: &mut [f64],
     work: &mut [f64],
 )
-    requires { ⌜ Ready (now high) (now low) (now close) short medium long (length (now out)) (length (now work)) ⌝ }
-    ensures { λ _. ⌜ Writing (length (now (high .entry))) (oscillatorLine short medium long (line (now (high .entry)))
-        (line (now (low .entry))) (line (now (close .entry)))) (now (out .entry)) (now (out .exit))
+    requires { ⌜ Ready (now high) (now low) (now close) first short medium long (length (now out))
+        (length (now work)) ⌝ }
+    ensures { λ _. ⌜ Writing (length (now (high .entry))) (oscillatorLine short medium long first
+        (line (now (high .entry))) (line (now (low .entry))) (line (now (close .entry)))) (now (out .entry))
+        (now (out .exit))
         × Touched (2 * length (now (high .entry))) (now (work .entry)) (now (work .exit)) ⌝ }
 {
     let bars = high.len();
-    write_pressures(low, close, work);
-    true_range::write_ranges(high, low, close, 1, &mut work[bars..]);
+    write_pressures(low, close, first, work);
+    true_range::write_ranges(high, low, close, 1, first, &mut work[bars..]);
     write_from_rows(work, bars, short, medium, long, out);
 }
 
@@ -297,16 +305,17 @@ fn answer_oscillator(
     short: usize,
     medium: usize,
     long: usize,
+    first: CloseBefore,
     out: usize,
     work: usize,
 ) -> Answer
     ensures { λ r. ⌜ r ≡ oscillatorAnswer (now (high .entry)) (now (low .entry)) (now (close .entry)) short medium
-        long out work ⌝ }
+        long first out work ⌝ }
 {
     let due = checks::check_three_with_work(high, low, close, out, work);
     let bars = high.len();
-    let next = checks::check_three_windows(bars, short, medium, long, Answer::Cells(bars));
-    checks::and_then(due, next)
+    let windows = checks::check_three_windows(bars, short, medium, long, Answer::Cells(bars));
+    checks::and_then(due, true_range::check_close(first, windows))
 }
 
 // The ultimate oscillator: see `oscillatorLine`.
@@ -317,11 +326,13 @@ pub fn ultimate_oscillator(
     short_period: usize,
     med_period: usize,
     long_period: usize,
+    first: CloseBefore,
     out: &mut [f64],
     work: &mut [f64],
 ) -> Answer
     ensures { λ r. ⌜ OscillatorCall (now (high .entry)) (now (low .entry)) (now (close .entry)) «short_period»
-        «med_period» «long_period» (now (out .entry)) (now (work .entry)) r (now (out .exit)) (now (work .exit)) ⌝ }
+        «med_period» «long_period» first (now (out .entry)) (now (work .entry)) r (now (out .exit))
+        (now (work .exit)) ⌝ }
 {
     let due = answer_oscillator(
         high,
@@ -330,6 +341,7 @@ pub fn ultimate_oscillator(
         short_period,
         med_period,
         long_period,
+        first,
         out.len(),
         work.len(),
     );
@@ -341,6 +353,7 @@ pub fn ultimate_oscillator(
             short_period,
             med_period,
             long_period,
+            first,
             out,
             work,
         );

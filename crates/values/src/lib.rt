@@ -8,7 +8,7 @@ ghost use mathlib.Core.Bool.{not};
 ghost use Prim.Native.Nat.{_^_};
 ghost use lib.Dec.{eqb};
 ghost use lib.Ieee.{binary64, toBits};
-ghost use Rattle.values.specs.Accepted.{within, tick, finite, all};
+ghost use Rattle.values.specs.Accepted.{within, accepted, tick, finite, all};
 ghost use Rattle.rounding.specs.Leaves.{magnitudeOf};
 ghost use Rattle.values.specs.inner.Quick.{capped};
 ghost use Rattle.values.specs.inner.Fraction.{comesBack};
@@ -30,6 +30,13 @@ pub fn minus_zero_bits(x: f64) -> u64
     ensures { λ r. ⌜ eqb r 0 ≡ not (eqb (toBits binary64 x) (2 ^ 63)) ⌝ }
 {
     if x == 0.0 { f64::to_bits(x) } else { 0 }
+}
+
+// Whether a series may hold x.
+pub fn is_accepted(x: f64) -> bool
+    ensures { λ r. ⌜ r ≡ accepted x ⌝ }
+{
+    within_limit(x) & (minus_zero_bits(x) == 0)
 }
 
 // Whether x is a whole tick.

@@ -9,7 +9,7 @@ use std::hint::black_box;
 
 use crate::call::{Answer, Call, Cell, Kind, Lines, Value};
 use crate::library::Lent;
-use crate::{restated, tick_mean, wilder_rsi};
+use crate::{close_before, restated, tick_mean, wilder_rsi};
 
 /// What a series is: how its values stand to those of the others.
 #[derive(Clone, Copy, Debug, PartialEq, Eq)]
@@ -42,6 +42,10 @@ pub enum Role {
     Multiple,
     /// A level of an index from 0 to 100.
     Level,
+    /// Whether the close before bar 0 is known: any number but 0 says so.
+    CloseKnown,
+    /// That close, which is looked at only then: refusal 5 by the test of a series' value.
+    CloseBefore,
 }
 
 // The roles as the types that C passes.
@@ -52,6 +56,8 @@ type Period = f64;
 type Weight = f64;
 type Multiple = f64;
 type Level = f64;
+type CloseKnown = usize;
+type CloseBefore = f64;
 
 impl Role {
     /// Whether the longest window limits it.
@@ -73,11 +79,20 @@ impl Role {
         self == Role::Level
     }
 
+    /// Whether it is of the close before bar 0, the flag or the number.
+    pub fn is_close(self) -> bool {
+        matches!(self, Role::CloseKnown | Role::CloseBefore)
+    }
+
     /// The value that a word says.
     pub fn value(self, word: &str) -> Value {
         match self {
-            Role::Window | Role::Season | Role::WholePeriod => Value::Count(word.parse().expect("a whole number")),
-            Role::Period | Role::Weight | Role::Multiple | Role::Level => Value::Real(word.parse().expect("a number")),
+            Role::Window | Role::Season | Role::WholePeriod | Role::CloseKnown => {
+                Value::Count(word.parse().expect("a whole number"))
+            }
+            Role::Period | Role::Weight | Role::Multiple | Role::Level | Role::CloseBefore => {
+                Value::Real(word.parse().expect("a number"))
+            }
         }
     }
 }
@@ -128,6 +143,17 @@ impl Function {
         self.places(Role::is_window).next().is_some()
     }
 
+    pub fn takes_close(&self) -> bool {
+        self.places(Role::is_close).next().is_some()
+    }
+
+    /// The close before bar 0 that a call supplies.
+    pub fn close_of(&self, call: &Call) -> Option<f64> {
+        let known = self.values(call, |role| role == Role::CloseKnown).next()?;
+        let close = self.values(call, |role| role == Role::CloseBefore).next()?;
+        close_before::supplied(known, close)
+    }
+
     /// Makes a call of the library, and gives its answer and the cells that it counts of each output.
     pub fn run(&self, call: &Call) -> (Answer, Vec<Vec<u64>>) {
         let mut outputs: Vec<Lent> = call.outputs.iter().map(|len| Lent::filled(self.kind, *len, 1)).collect();
@@ -163,13 +189,13 @@ pub fn named(name: &str) -> Option<&'static Function> {
     FUNCTIONS.iter().find(|f| f.name == name)
 }
 
-/// Names the series and the parameters of a call.
+/// Names the series and the parameters of a call; what is timed need not look at all of them.
 macro_rules! take {
     ($call:ident, [$($series:ident),+], [$($parameter:ident: $role:ident),*]) => {
         let mut _given = $call.series.iter();
         $(let $series: &[f64] = _given.next().unwrap();)+
         let mut _values = $call.parameters.iter();
-        $(let $parameter: $role = (*_values.next().unwrap()).into();)*
+        $(#[allow(unused_variables)] let $parameter: $role = (*_values.next().unwrap()).into();)*
     };
 }
 
@@ -273,8 +299,9 @@ functions! {
         source: restated::ultimate_smoother(price, period); timed: pure::ultimate_smoother(price, period),
     }
     true_range "true_range" {
-        series: [high: High, low: Low, close_prev: CloseBefore], parameters: [], outputs: [out], cells: f64, work: [],
-        source: pure::true_range(high, low, close_prev),
+        series: [high: High, low: Low, close_prev: CloseBefore],
+        parameters: [close_known: CloseKnown, close_before: CloseBefore], outputs: [out], cells: f64, work: [],
+        source: close_before::true_range(high, low, close_prev, close_before::supplied(close_known, close_before)),
     }
     single_sma_positions "single_sma_positions" {
         series: [series: Price], parameters: [n: Window], outputs: [out], cells: f64, work: [work],
@@ -311,9 +338,13 @@ functions! {
         source: pure::jurik_volty(close, period, power),
     }
     ultimate_oscillator "ultimate_oscillator" {
-        series: [high: High, low: Low, close: Price], parameters: [short_period: Window, med_period: Window, long_period: Window],
+        series: [high: High, low: Low, close: Price],
+        parameters: [short_period: Window, med_period: Window, long_period: Window, close_known: CloseKnown, close_before: CloseBefore],
         outputs: [out], cells: f64, work: [work],
-        source: pure::ultimate_oscillator(high, low, close, short_period, med_period, long_period),
+        source: {
+            let before = close_before::supplied(close_known, close_before);
+            close_before::ultimate_oscillator(high, low, close, [short_period, med_period, long_period], before)
+        },
     }
     holt_winters "holt_winters" {
         series: [series: Price], parameters: [season_length: Season, alpha: Weight, beta: Weight, gamma: Weight],
@@ -355,9 +386,13 @@ functions! {
         timed: pure::ultimate_bands(close, period, std_multiplier, smooth_period),
     }
     ultimate_channel "ultimate_channel" {
-        series: [high: High, low: Low, close: Price], parameters: [period: WholePeriod, multiplier: Multiple],
+        series: [high: High, low: Low, close: Price],
+        parameters: [period: WholePeriod, multiplier: Multiple, close_known: CloseKnown, close_before: CloseBefore],
         outputs: [middle, upper, lower], cells: f64, work: [work],
-        source: restated::ultimate_channel(high, low, close, period, multiplier);
+        source: {
+            let before = close_before::supplied(close_known, close_before);
+            restated::ultimate_channel(high, low, close, period, multiplier, before)
+        };
         timed: pure::ultimate_channel(high, low, close, period, multiplier),
     }
 }

@@ -100,7 +100,7 @@ pub fn seeded(function: &'static Function, seed: u64, calls: usize) -> impl Iter
     let mut rng = rng_of(function, seed);
     let mut edges = edges(&mut rng, function).into_iter();
     (0..calls.max(edges.len())).map(move |_| {
-        let call = edges.next().unwrap_or_else(|| generate::random(&mut rng, function));
+        let call = edges.next().unwrap_or_else(|| generate::any(&mut rng, function));
         (call, rng.word())
     })
 }

@@ -2,7 +2,7 @@
 
 use crate::call::{Call, Value};
 use crate::catalogue::{Domain, Function, Role};
-use crate::generate::{ODD_PERIODS, ODD_REALS, ODD_WHOLE_PERIODS, ODD_WINDOWS, plain, put};
+use crate::generate::{FLAGS, ODD_PERIODS, ODD_REALS, ODD_WHOLE_PERIODS, ODD_WINDOWS, plain, put, supply};
 use crate::limits::{PERIOD_LIMIT, SERIES_LIMIT, WINDOW_LIMIT, within_limit};
 use crate::rng::Rng;
 use crate::series::{DAMAGED, damage, large, near_ties, walk, wide};
@@ -26,6 +26,7 @@ pub fn edges(rng: &mut Rng, function: &Function) -> Vec<Call> {
     pairs_of_faults(rng, function, &mut calls);
     long(rng, function, &mut calls);
     ties(rng, function, &mut calls);
+    calls.extend([0, 1, 2, 7, 40].into_iter().flat_map(|len| closes(rng, function, len)));
     calls
 }
 
@@ -37,6 +38,8 @@ pub fn modest(function: &Function) -> Vec<Value> {
         Role::Weight => Value::Real(0.25),
         Role::Multiple => Value::Real(0.5),
         Role::Level => Value::Real(50.0),
+        Role::CloseKnown => Value::Count(0),
+        Role::CloseBefore => Value::Real(f64::NAN),
     };
     let mut parameters: Vec<Value> = function.roles.iter().enumerate().map(value).collect();
     put(function, &mut parameters, Role::is_level, [70.0, 30.0, 50.0].map(Value::Real));
@@ -50,7 +53,7 @@ fn with_parameter(function: &Function, place: usize, value: Value) -> Vec<Value>
     parameters
 }
 
-/// The edges of one parameter for a series of this length.
+/// The edges of one parameter for a series of this length; those of the close before bar 0 are in `closes`.
 pub fn edge_values(role: Role, len: usize) -> Vec<Value> {
     let around = [len.wrapping_sub(1), len, len + 1, len + 2];
     let reals = |list: &[f64]| list.iter().map(|x| Value::Real(*x)).collect();
@@ -62,6 +65,7 @@ pub fn edge_values(role: Role, len: usize) -> Vec<Value> {
         Role::WholePeriod => counts(&[&[1, 2, 3, 4, 5], &around, ODD_WHOLE_PERIODS]),
         Role::Period => reals(ODD_PERIODS),
         Role::Weight | Role::Multiple | Role::Level => reals(ODD_REALS),
+        Role::CloseKnown | Role::CloseBefore => Vec::new(),
     }
 }
 
@@ -87,6 +91,7 @@ fn every_place_at_the_limit(rng: &mut Rng, function: &Function, calls: &mut Vec<
     let refused = |role: &Role| match role {
         Role::Window | Role::Season | Role::WholePeriod => Some(Value::Count(usize::MAX)),
         Role::Period | Role::Weight | Role::Multiple | Role::Level => Some(Value::Real(f64::INFINITY)),
+        Role::CloseKnown | Role::CloseBefore => None,
     };
     let refused = function.roles.iter().map(refused).enumerate();
     let refused = refused.filter_map(|(place, value)| Some(with_parameter(function, place, value?)));
@@ -210,16 +215,19 @@ enum Fault {
     Value(usize),
     /// The parameter at a place is another.
     Parameter(usize, Value),
+    /// The close before bar 0 is supplied, and a NaN.
+    Close,
 }
 
 impl Fault {
-    fn put(self, call: &mut Call) {
+    fn put(self, function: &Function, call: &mut Call) {
         match self {
             Fault::Length(place, length) => call.series[place].resize(length, 1.0),
             Fault::Output(place) => call.outputs[place] -= 1,
             Fault::Work => call.work = call.work.saturating_sub(1),
             Fault::Value(place) => call.series[place][0] = f64::NAN,
             Fault::Parameter(place, value) => call.parameters[place] = value,
+            Fault::Close => supply(function, call, 1, f64::NAN),
         }
     }
 }
@@ -237,9 +245,11 @@ fn faults(function: &Function, len: usize) -> Vec<Fault> {
             Role::WholePeriod => &[0, len + 2, PERIOD_LIMIT + 1].map(Value::Count),
             Role::Period => &[0.5, 513.0, f64::NAN].map(Value::Real),
             Role::Weight | Role::Multiple | Role::Level => &[Value::Real(f64::INFINITY)],
+            Role::CloseKnown | Role::CloseBefore => &[],
         };
         faults.extend(values.iter().map(|value| Fault::Parameter(place, *value)));
     }
+    faults.extend(function.takes_close().then_some(Fault::Close));
     faults
 }
 
@@ -250,11 +260,29 @@ fn pairs_of_faults(rng: &mut Rng, function: &Function, calls: &mut Vec<Call>) {
     for (place, first) in faults.iter().enumerate() {
         for second in &faults[place..] {
             let mut call = plain(rng, function, LEN, modest(function));
-            first.put(&mut call);
-            second.put(&mut call);
+            first.put(function, &mut call);
+            second.put(function, &mut call);
             calls.push(call);
         }
     }
+}
+
+/// Calls with the close before bar 0, where a function takes it: each flag with one close; then with the flag and
+/// without it the edges of refusal 5; and closes above, below and on bar 0, which goes from 3 to 5 and closes at 4.
+pub fn closes(rng: &mut Rng, function: &Function, len: usize) -> Vec<Call> {
+    let flags = FLAGS.iter().map(|known| (*known, 100.25));
+    let edges = [1, 0].into_iter().flat_map(|known| DAMAGED.iter().map(move |close| (known, *close)));
+    let near = [9.0, 1.0, 3.0, 4.0, 5.0].map(|close| (1, close));
+    let supplied: Vec<(usize, f64)> = flags.chain(edges).chain(near).collect();
+    let call = |(known, close): (usize, f64)| {
+        let mut call = plain(rng, function, len, modest(function));
+        for (series, value) in call.series.iter_mut().zip([5.0, 3.0, 4.0]) {
+            series.iter_mut().take(1).for_each(|first| *first = value);
+        }
+        supply(function, &mut call, known, close);
+        call
+    };
+    if function.takes_close() { supplied.into_iter().map(call).collect() } else { Vec::new() }
 }
 
 /// Windows of some hundred bars, from where a rank just below the middle rounds to -0.0.

@@ -206,7 +206,7 @@ fn no_look_ahead(seeds: &[u64], pairs: usize) -> bool {
 }
 
 fn earlier_cells(rng: &mut Rng, function: &Function, fact: &mut Fact) {
-    let whole = generate::random(rng, function);
+    let whole = generate::any(rng, function);
     if whole.series.iter().any(|s| s.is_empty() || s.len() != whole.bars()) {
         return;
     }

@@ -4,7 +4,7 @@ use crate::call::{Call, Value};
 use crate::catalogue::{Function, Role};
 use crate::limits::{PERIOD_LIMIT, WINDOW_LIMIT};
 use crate::rng::Rng;
-use crate::series::{bars, damage, series};
+use crate::series::{DAMAGED, bars, damage, series, within_limits};
 
 pub const ODD_WINDOWS: &[usize] =
     &[0, WINDOW_LIMIT - 1, WINDOW_LIMIT, WINDOW_LIMIT + 1, 1 << 31, 1 << 32, 1 << 63, usize::MAX];
@@ -27,6 +27,8 @@ pub const ODD_REALS: &[f64] = &[
 ];
 pub const ODD_PERIODS: &[f64] =
     &[0.0, -0.0, 511.0, 512.0, 513.0, -1.0, 0.5, 511.5, 1e300, 5e-324, f64::INFINITY, f64::NEG_INFINITY, f64::NAN];
+/// Flags that are not 0, some of which are where they are cut to fewer bits.
+pub const FLAGS: &[usize] = &[1, 2, 256, 1 << 32, 1 << 63, usize::MAX];
 /// Levels that an index of small ticks often has, too.
 const LEVELS: &[f64] = &[0.0, 20.0, 25.0, 30.0, 50.0, 70.0, 75.0, 80.0, 100.0];
 
@@ -96,6 +98,8 @@ fn parameter(rng: &mut Rng, role: Role, len: usize) -> Value {
             let usual = rng.pick(LEVELS);
             Value::Real(real(rng, usual))
         }
+        Role::CloseKnown => Value::Count(0),
+        Role::CloseBefore => Value::Real(f64::NAN),
     }
 }
 
@@ -164,6 +168,32 @@ pub fn random(rng: &mut Rng, function: &Function) -> Call {
         call.work = room(rng, call.work);
     }
     call
+}
+
+/// A random call; where a function takes the close before bar 0, half of the calls supply it.
+pub fn any(rng: &mut Rng, function: &Function) -> Call {
+    let mut call = random(rng, function);
+    if function.takes_close() && rng.one_in(2) {
+        let close = close(rng, function, &call);
+        supply(function, &mut call, rng.pick(FLAGS), close);
+    }
+    call
+}
+
+/// A close before bar 0: mostly near that bar, else of any kind, and some that are refused.
+fn close(rng: &mut Rng, function: &Function, call: &Call) -> f64 {
+    let place = rng.below(function.series.len());
+    let near = call.series[place].first().copied().unwrap_or(1.0);
+    match rng.below(10) {
+        0..7 => within_limits(near + rng.pick(&[0.0, 0.01, 1.0]) * rng.between(-4, 4) as f64),
+        7..9 => series(rng, function.domain, 1)[0],
+        _ => rng.pick(DAMAGED),
+    }
+}
+
+/// Supplies the close before bar 0, by a flag and a number.
+pub fn supply(function: &Function, call: &mut Call, known: usize, close: f64) {
+    put(function, &mut call.parameters, Role::is_close, [Value::Count(known), Value::Real(close)]);
 }
 
 /// The length of a slice where `need` cells are asked: as many, more, or too few.

@@ -4,6 +4,7 @@ mod bench;
 mod call;
 mod catalogue;
 mod clock;
+mod close_before;
 mod compare;
 mod differences;
 mod documents;

@@ -3,7 +3,7 @@
 
 use crate::call::{Call, Kind, Value};
 use crate::catalogue::{self, Function, Role};
-use crate::edges::{edge_values, modest, with_windows};
+use crate::edges::{closes, edge_values, modest, with_windows};
 use crate::generate::{self, plain};
 use crate::limits::{PERIOD_LIMIT, SERIES_LIMIT, WINDOW_LIMIT};
 use crate::published;
@@ -15,6 +15,8 @@ use crate::source;
 const LONGEST: usize = 60;
 /// How many calls of a function are chosen for no edge.
 const RANDOM: usize = 8;
+/// How many bars a call at an edge has.
+const LEN: usize = 7;
 
 /// How a record gives its series and the cells that the call writes.
 #[derive(Clone, Copy)]
@@ -30,7 +32,8 @@ pub fn print() {
     calls.iter().flatten().for_each(|line| println!("{line}"));
 }
 
-/// The starred cases, a published table and each edge, a few calls of any kind, and calls of long series by rule.
+/// The starred cases, a published table and each edge, a few calls of any kind, those with the close before bar 0, and
+/// calls of long series by rule.
 fn records(function: &'static Function) -> Vec<Vec<String>> {
     let mut rng = Rng::new(seed(function.name));
     let mut calls = starred(function);
@@ -38,6 +41,7 @@ fn records(function: &'static Function) -> Vec<Vec<String>> {
     calls.extend(short_edges(&mut rng, function));
     let random = std::iter::repeat_with(|| generate::random(&mut rng, function));
     calls.extend(random.filter(|call| call.series.iter().all(|s| s.len() <= LONGEST)).take(RANDOM));
+    calls.extend(closes(&mut rng, function, LEN));
     let short = calls.iter().map(|call| record(function, call, Form::WrittenOut));
     let long = long(function);
     short.chain(long.iter().map(|call| record(function, call, Form::ByRule))).collect()
@@ -79,7 +83,6 @@ fn starred(function: &Function) -> Vec<Call> {
 /// The edges that a short series has: each parameter, each odd value in one place, each room, one series of another
 /// length.
 fn short_edges(rng: &mut Rng, function: &Function) -> Vec<Call> {
-    const LEN: usize = 7;
     let mut calls = vec![plain(rng, function, 0, modest(function))];
     for place in 0..function.roles.len() {
         for value in edge_values(function.roles[place], LEN) {

@@ -2,6 +2,7 @@
 //! whose periods exp and cos give those coefficients on this machine, pure.rs itself must give the same cells.
 
 use crate::call::{Kind, Lines};
+use crate::close_before;
 use crate::rng::Rng;
 use crate::smoother::{LONGEST, agrees, by_table};
 
@@ -34,14 +35,22 @@ pub fn rsx_ss2(close: &[f64], period: usize, smooth_period: usize) -> Words {
 }
 
 /// The smoothed close, and above and below it a multiple of the smoothed average range.
-pub fn ultimate_channel(high: &[f64], low: &[f64], close: &[f64], period: usize, multiplier: f64) -> Words {
+/// Where the close before bar 0 is supplied, the source has no such call.
+pub fn ultimate_channel(
+    high: &[f64],
+    low: &[f64],
+    close: &[f64],
+    period: usize,
+    multiplier: f64,
+    before: Option<f64>,
+) -> Words {
     let given = || pure::ultimate_channel(high, low, close, period, multiplier);
     if high.is_empty() || period == 0 {
         return given().words();
     }
-    let mut close_before = vec![0.0];
-    close_before.extend(&close[..close.len() - 1]);
-    let ranges = pure::true_range(high, low, &close_before);
+    let mut closes = vec![0.0];
+    closes.extend(&close[..close.len() - 1]);
+    let ranges = close_before::true_range(high, low, &closes, before);
     let mut average = vec![f64::NAN; ranges.len()];
     for i in period - 1..ranges.len() {
         average[i] = if i + 1 == period {
@@ -51,7 +60,7 @@ pub fn ultimate_channel(high: &[f64], low: &[f64], close: &[f64], period: usize,
         };
     }
     let lines = around(by_table(close, period), multiplier, by_table(&average, period / 2));
-    tied("ultimate_channel", [period, period / 2], lines, given)
+    if before.is_some() { lines.words() } else { tied("ultimate_channel", [period, period / 2], lines, given) }
 }
 
 /// The smoothed close, and above and below it a multiple of the smoothed deviation of the last closes.
@@ -108,7 +117,7 @@ pub fn check() {
             let (high, low, close) = (walk(bars), walk(bars), walk(bars));
             ultimate_smoother(&close, period as f64);
             rsx_ss2(&close, other, period);
-            ultimate_channel(&high, &low, &close, period, 1.5);
+            ultimate_channel(&high, &low, &close, period, 1.5, None);
             ultimate_bands(&close, period, 1.5, other);
             ultimate_bands(&close, other, 1.5, period);
             calls += 5;

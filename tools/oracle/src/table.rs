@@ -27,6 +27,9 @@ pub fn answer(function: &Function, call: &Call) -> Answer {
     if !call.series.iter().flatten().all(|x| accepted(function.domain, *x)) {
         return Answer::refused(5);
     }
+    if function.close_of(call).is_some_and(|close| !accepted(function.domain, close)) {
+        return Answer::refused(5);
+    }
     if function.values(call, Role::is_f64_parameter).any(|x: f64| !x.is_finite()) {
         return Answer::refused(6);
     }
@@ -69,7 +72,7 @@ fn too_long(role: Role, value: Value) -> bool {
             let period = f64::from(value);
             !(0.0..=LONGEST_PERIOD as f64).contains(&period) || period.fract() != 0.0
         }
-        Role::Weight | Role::Multiple | Role::Level => false,
+        Role::Weight | Role::Multiple | Role::Level | Role::CloseKnown | Role::CloseBefore => false,
     }
 }
 

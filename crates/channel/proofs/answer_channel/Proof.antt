@@ -9,12 +9,14 @@ use Rattle.channel.proofs.answer_channel.Tie as tie
 returns : tie.Need-returns
 unfolding channelAnswer
 returns c =
-    let finite = c .before in
+    let close = c .before in
+    let finite = close .before in
     let narrow = finite .before .before in
     let some = narrow .before in
     let long = some .before in
     rw (
       c .and-then .ensures,
+      close .check-close .ensures,
       finite .unless-refused3 .ensures,
       finite .before .is-finite .ensures,
       narrow .unless-refused2 .ensures,
@@ -35,6 +37,7 @@ answer-channel-spec =
     (λ c κs. search needs)  -- unless-refused-requires-2
     (λ c κs. search needs)  -- is-finite-requires
     (λ c κs. search needs)  -- unless-refused-requires-3
+    (λ c κs. search needs)  -- check-close-requires
     (λ c κs. search needs)  -- and-then-requires
     returns
     )

@@ -17,13 +17,13 @@ use Rattle.channel.proofs.ultimate_channel.Tie as tie
 opened : (c : tie.Then1) →
     let due = c .before .before .before in
     let a = due .before .before .before .before .before .before .before .before .before .before .args in
-    ChannelRoom (a .period) (now (a .high)) (now (a .low)) (now (a .close))
+    ChannelRoom (a .period) (a .first) (now (a .high)) (now (a .low)) (now (a .close))
     (min (length (now (a .middle))) (min (length (now (a .upper))) (length (now (a .lower)))))
     × (8 * length (now (a .high)) ≤ length (due .cells-due .last .1 .1 .0))
 opened c =
     let due = c .before .before .before in
     let some = some-due (rw (c .if1 .taken) at (due .cells-due .ensures)) in
-    let ready = channel-ready _ _ _ _ _ _ _ _ _ (due .before .before .answer-channel .ensures) some in
+    let ready = channel-ready _ _ _ _ _ _ _ _ _ _ (due .before .before .answer-channel .ensures) some in
     (ready .0, rw (due .cells-due .ensures .long) (ready .1))
 
 -- the same, once the cells are written
@@ -36,7 +36,7 @@ returns c =
     let cells = clear .before .before .before .before .before .before .before .before in
     let then = cells .before .before .before .before in
     let due = then .before .before .before in
-    written-band-call (due .before .before .answer-channel .ensures) (channel-bars _ _ _ _ _ _ _ _ _)
+    written-band-call (due .before .before .answer-channel .ensures) (channel-bars _ _ _ _ _ _ _ _ _ _)
     (rw (then .if1 .taken) at (due .cells-due .ensures)) (cells .write-channel .ensures) (untouched {k = 0})
     (omega arith) (clear .clear .ensures)
 
@@ -50,7 +50,7 @@ ultimate-channel-spec =
     tie.close
     (tie.spec
     (λ c κs. search needs)  -- answer-channel-requires
-    (λ c κs. channel-clearable _ _ _ _ _ _ _ _ _ (c .before .answer-channel .ensures))  -- cells-due-requires
+    (λ c κs. channel-clearable _ _ _ _ _ _ _ _ _ _ (c .before .answer-channel .ensures))  -- cells-due-requires
     (λ c κs. opened (c .before .before .before) .0)  -- write-channel-requires
     -- mul-clear
     (λ c. let o = opened (then-of (c .before .before .before .before .before .before .before)) .1 in search needs)

@@ -32,8 +32,8 @@ returns-2 c =
     let else = outer .before .before .before in
     record {
       middle = ends (else .before .before .before .write-smooth .ensures) (omega arith);
-      upper = filled-upper _ _ _ (no-width _ _ _ _ (else .if1 .left)) (outer .fill-outer-lines .ensures .0);
-      lower = filled-lower _ _ _ (no-width _ _ _ _ (else .if1 .left)) (outer .fill-outer-lines .ensures .1);
+      upper = filled-upper _ _ _ (no-width _ _ _ _ _ (else .if1 .left)) (outer .fill-outer-lines .ensures .0);
+      lower = filled-lower _ _ _ (no-width _ _ _ _ _ (else .if1 .left)) (outer .fill-outer-lines .ensures .1);
     }
 
 pub write-channel-spec : {M : Type 1} → statement M

@@ -24,6 +24,7 @@ write-ranges-requires c κs =
         work-long = tt;
       },
       omega arith,
+      search needs,
     )
 
 write-average-requires : tie.Need-write-average-requires

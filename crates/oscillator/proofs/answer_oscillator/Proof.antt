@@ -7,9 +7,15 @@ use Rattle.oscillator.proofs.answer_oscillator.Tie as tie
 returns : tie.Need-returns
 unfolding oscillatorAnswer
 returns c =
-    let windows = c .before in
+    let close = c .before in
+    let windows = close .before in
     let slices = windows .before in
-    rw (c .and-then .ensures, windows .check-three-windows .ensures, slices .check-three-with-work .ensures)
+    rw (
+      c .and-then .ensures,
+      close .check-close .ensures,
+      windows .check-three-windows .ensures,
+      slices .check-three-with-work .ensures,
+    )
 
 pub answer-oscillator-spec : {M : Type 1} → statement M
 answer-oscillator-spec =
@@ -17,6 +23,7 @@ answer-oscillator-spec =
     (tie.spec
     (λ c κs. search needs)  -- check-three-with-work-requires
     (λ c κs. search needs)  -- check-three-windows-requires
+    (λ c κs. search needs)  -- check-close-requires
     (λ c κs. search needs)  -- and-then-requires
     returns
     )

@@ -13,12 +13,12 @@ use Rattle.oscillator.proofs.ultimate_oscillator.Tie as tie
 -- where cells are due
 opened : (c : tie.Then1) →
     let a = c .before .before .before .before .before .before .before .before .before .before .before .args in
-    Ready (now (a .high)) (now (a .low)) (now (a .close)) (a .short-period) (a .med-period) (a .long-period)
+    Ready (now (a .high)) (now (a .low)) (now (a .close)) (a .first) (a .short-period) (a .med-period) (a .long-period)
     (length (now (a .out))) (length (now (a .work)))
 opened c =
     let due = c .before .before .before in
     let some = some-due (rw (c .if1 .taken) at (due .cells-due .ensures)) in
-    oscillator-ready _ _ _ _ _ _ _ _ (due .before .before .answer-oscillator .ensures) some
+    oscillator-ready _ _ _ _ _ _ _ _ _ (due .before .before .answer-oscillator .ensures) some
 
 write-oscillator-requires : tie.Need-write-oscillator-requires
 write-oscillator-requires c κs =
@@ -31,7 +31,7 @@ returns c =
     let cells = clear .before .before .before .before .before .before in
     let then = cells .before .before .before in
     let due = then .before .before .before in
-    written-call (due .before .before .answer-oscillator .ensures) (oscillator-bars _ _ _ _ _ _ _ _)
+    written-call (due .before .before .answer-oscillator .ensures) (oscillator-bars _ _ _ _ _ _ _ _ _)
     (rw (then .if1 .taken) at (due .cells-due .ensures)) (cells .write-oscillator .ensures) (omega arith)
     (clear .clear .ensures)
 
@@ -45,7 +45,7 @@ ultimate-oscillator-spec =
     tie.close
     (tie.spec
     (λ c κs. search needs)  -- answer-oscillator-requires
-    (λ c κs. oscillator-clearable _ _ _ _ _ _ _ _ (c .before .answer-oscillator .ensures))  -- cells-due-requires
+    (λ c κs. oscillator-clearable _ _ _ _ _ _ _ _ _ (c .before .answer-oscillator .ensures))  -- cells-due-requires
     write-oscillator-requires
     -- mul-clear, clear-requires
     (λ c. let o = opened (c .before .before .before .before .before .before .before .before) in search needs)

@@ -12,16 +12,17 @@ use Rattle.oscillator.proofs.write_pressures.Statement.{statement}
 use Rattle.oscillator.proofs.write_pressures.Tie as tie
 
 abbrev Inv-loop : tie.InvT-loop
-Inv-loop low close out₀ i₀ out i = (i ≤ length close) × Writing i (pressures (line low) (line close)) out₀ out
+Inv-loop low close first out₀ i₀ out i =
+    (i ≤ length close) × Writing i (pressures first (line low) (line close)) out₀ out
 
 abbrev μ-loop : tie.MeasureT-loop
-μ-loop low close out₀ i₀ out i = length close - i
+μ-loop low close first out₀ i₀ out i = length close - i
 
 loop-again : tie.Need-loop-again Inv-loop μ-loop
 loop-again c =
     let told = c .before in
     let at = told .before .before .before .before .loop in
-    let cell = pressure-at _ _ (at .i) (c .pressure-of .ensures) (told .close-before .ensures) in
+    let cell = pressure-at _ _ _ (at .i) (c .pressure-of .ensures) (told .close-before .ensures) in
     (omega arith, one-more (at .inv .1) cell (omega arith))
 
 pub write-pressures-spec : {M : Type 1} → statement M

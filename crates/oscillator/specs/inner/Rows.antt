@@ -1,5 +1,6 @@
 -- What the functions under `ultimate_oscillator` ask of each other. Assumes nothing.
 use mathlib.Core.Path.{_≡_}
+use mathlib.Core.Bool.{true}
 use mathlib.Core.List.{List, [], _∷_}
 use Prim.Native.Nat.{ℕ, _+_, _*_, _≤_, max}
 use lib.ListN.{length}
@@ -9,14 +10,18 @@ use Rattle.checks.specs.inner.Three.{ValuesOfThree}
 use Rattle.cells.specs.Written.{Writing}
 use Rattle.windows.specs.declared.Eight.{Eight}
 use Rattle.windows.specs.inner.Eight.{eachLane}
+use Rattle.true_range.specs.declared.CloseBefore.{CloseBefore}
+use Rattle.true_range.specs.TrueRange.{acceptedClose}
 use Rattle.oscillator.specs.Oscillator.{ratio, weighed}
 use Rattle.oscillator.specs.inner.Begun.{Windows₃, afresh}
 
--- three series of one length with accepted values, three windows, a cell for each bar, and eight rows of work cells
-pub record Ready (high low close : List Float) (short medium long out work : ℕ) : Type 0 where
+-- three series of one length with accepted values, an accepted close before bar 0, three windows, a cell for each bar,
+-- and eight rows of work cells
+pub record Ready (high low close : List Float) (first : CloseBefore) (short medium long out work : ℕ) : Type 0 where
   pub lows : length low ≡ length high
   pub closes : length close ≡ length high
   pub values : ValuesOfThree high low close
+  pub first-close : acceptedClose first ≡ true
   pub short-window : Window short
   pub medium-window : Window medium
   pub long-window : Window long

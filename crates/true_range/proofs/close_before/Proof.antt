@@ -8,9 +8,9 @@ pub close-before-spec : {M : Type 1} → statement M
 close-before-spec =
     tie.close
     (tie.spec
-    (λ c. before-first _ _ (c .if1 .taken))  -- returns
+    (λ c. before-first _ _ _ (c .if1 .taken))  -- returns
     (λ c. search needs)  -- sub-t4
     (λ c. search needs)  -- mul-t5
     (λ c. search needs)  -- shared-slice-read-t7
-    (λ c. before-next _ _ (c .before .if1 .left))  -- returns-2
+    (λ c. before-next _ _ _ (c .before .if1 .left))  -- returns-2
     )

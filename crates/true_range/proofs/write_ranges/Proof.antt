@@ -13,18 +13,18 @@ use Rattle.true_range.proofs.write_ranges.Statement.{statement}
 use Rattle.true_range.proofs.write_ranges.Tie as tie
 
 abbrev Inv-loop : tie.InvT-loop
-Inv-loop high low close back out₀ i₀ out i =
+Inv-loop high low close back first out₀ i₀ out i =
     (i ≤ length high)
-    × Writing i (trueRanges (line high) (line low) (givenBefore (backBy back (line close)))) out₀ out
+    × Writing i (trueRanges (line high) (line low) (givenBefore first (backBy back (line close)))) out₀ out
 
 abbrev μ-loop : tie.MeasureT-loop
-μ-loop high low close back out₀ i₀ out i = length high - i
+μ-loop high low close back first out₀ i₀ out i = length high - i
 
 range-of-requires : tie.Need-range-of-requires Inv-loop μ-loop
 range-of-requires c κs =
     let at = c .before .before .before .before in
     let pre = at .before .before .before .before .before .pre in
-    numbers-at _ _ _ (at .loop .i) (pre .0) (pre .1) (omega arith) (c .close-before .ensures)
+    numbers-at _ _ _ _ (at .loop .i) (pre .0) (pre .1) (pre .2) (omega arith) (c .close-before .ensures)
 
 loop-again : tie.Need-loop-again Inv-loop μ-loop
 loop-again c =
