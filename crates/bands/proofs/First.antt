@@ -37,20 +37,29 @@ module _ (k : ℕ) (s : List Float) (h : k ≤ length s) where
       writing-same (ends v first-long)
       (λ i l. p (line (take k s)) (line s) i (λ j m. getD-take k s j nan (omega arith)))
 
--- ---- NaN from bar k on
+-- ---- the bars from k on
 
+-- the part from bar k on was lent, and came back with the line's cells
+pub then-part : {k l : ℕ} {f g : Line} {old mid part : List Float} → Writing k f old mid
+    → Writing l g (take (length mid - k) (drop k mid)) part
+    → ((j : ℕ) → j < l → g j ≡ f (k + j)) → k ≤ length mid
+    → Writing (k + l) f old (take k mid ++ (part ++ drop (length mid - k) (drop k mid)))
+then-part {k} {l} {f} {g} v w same room = writing-same (lent-on v w room) each
+  where
+    each : (i : ℕ) → i < k + l → beside k f g i ≡ f i
+    each i b = go (ltb i k) refl
+      where
+        go : (t : Bool) → ltb i k ≡ t → beside k f g i ≡ f i
+        go true e = beside-first k f g i (ltb-true i k e)
+        go false e =
+            let q = ltb-false i k e in
+            let at : k + (i - k) ≡ i = omega arith in
+            rw at at (beside-second k f g (i - k) ∙ same (i - k) (omega arith))
+
+-- NaN from bar k on
 pub nan-then : {k l : ℕ} {f : Line} {old mid part : List Float} → Writing k f old mid
     → Writing (l - k) (λ i. nan) (take (length mid - k) (drop k mid)) part
     → ((i : ℕ) → k ≤ i → i < l → f i ≡ nan) → (k ≤ l) × (k ≤ length mid)
     → Writing l f old (take k mid ++ (part ++ drop (length mid - k) (drop k mid)))
-nan-then {k} {l} {f} v w late (h, room) = writing-same (ends (lent-on v w room) (omega arith)) each
-  where
-    each : (i : ℕ) → i < l → beside k f (λ j. nan) i ≡ f i
-    each i b = go (ltb i k) refl
-      where
-        go : (t : Bool) → ltb i k ≡ t → beside k f (λ j. nan) i ≡ f i
-        go true e = beside-first k f (λ j. nan) i (ltb-true i k e)
-        go false e =
-            let q = ltb-false i k e in
-            let at : k + (i - k) ≡ i = omega arith in
-            rw at at (beside-second k f (λ j. nan) (i - k)) ∙ sym (late i q b)
+nan-then {k} v w late (h, room) =
+    ends (then-part v w (λ j b. sym (late (k + j) (omega arith) (omega arith))) room) (omega arith)

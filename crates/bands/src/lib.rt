@@ -24,13 +24,7 @@ pub fn write_some_deviations(close: &[f64], n: usize, i: usize, out: &mut [f64])
     let mut middles = [0.0; 8];
     let mut variances = [0.0; 8];
     let count = deviations::write_spreads(close, n, n - 1, i, &mut middles, &mut variances);
-    let mut roots = [0.0; 8];
-    rounding_root::write_roots(&variances, count, &mut roots);
-    let mut j = 0;
-    while j < count {
-        out[i + j] = roots[j];
-        j += 1;
-    }
+    rounding_root::write_roots(&variances, count, &mut out[i..]);
     count
 }
 
