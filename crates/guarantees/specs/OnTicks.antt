@@ -88,13 +88,14 @@ whole-ticks {s} w = tick-line s (λ i h. is-true _ (all-at (fits binary64) s i (
 
 -- ---- the statements
 
--- The doubly averaged price of any series of whole ticks, in a call or not: from bar 2n - 2 it is at most 1/131,072 tick
--- from D / (n · n).
+-- The doubly averaged price of any series of whole ticks, in a call or not: from bar 2n - 2 it is at most 1/131,072
+-- tick from D / (n · n).
 pub doubly-averaged-on-ticks : {s : List Float} → WholeTicks s → (n : ℕ) → Window n → (i : ℕ) → 2 * n ≤ i + 2
     → i < length s → IsNearMean (D n s i) (n * n) (mean n (mean n (line s)) i)
 doubly-averaged-on-ticks w n v i b h =
     let M = v .narrow in
-    near-mean (mean-of-means-about (whole-ticks w) n (v .some) (omega arith) n (v .some) (omega arith) i (omega arith) h)
+    near-mean
+    (mean-of-means-about (whole-ticks w) n (v .some) (omega arith) n (v .some) (omega arith) i (omega arith) h)
 
 module _ {s out₀ out₁ : List Float} (w : WholeTicks s) (n : ℕ) {k : ℕ} where
   -- sma: from bar n - 1 each cell is the mean of the last n prices.
