@@ -40,7 +40,7 @@ int main(void)
     print_cells("averages of 1 and 2", tegbalowu_double_sma_positions(prices, BARS, 1, 2, cells, BARS), cells);
 
     print_cells("sma of 0", tegbalowu_sma(prices, BARS, 0, cells, BARS), cells);
-    print_cells("sma of 4097", tegbalowu_sma(prices, BARS, 4097, cells, BARS), cells);
+    print_cells("sma of 721", tegbalowu_sma(prices, BARS, 721, cells, BARS), cells);
     print_cells("sma without room", tegbalowu_sma(prices, BARS, 3, cells, BARS - 1), cells);
     print_cells("averages of 2 and 1", tegbalowu_double_sma_positions(prices, BARS, 2, 1, cells, BARS), cells);
     return 0;

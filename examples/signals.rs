@@ -23,7 +23,7 @@ fn main() {
     }
 
     println!("sma of 0: {:?}", sma(&prices, 0, &mut out));
-    println!("sma of 4097: {:?}", sma(&prices, 4097, &mut out));
+    println!("sma of 721: {:?}", sma(&prices, 721, &mut out));
     println!("sma without room: {:?}", sma(&prices, 3, &mut out[..5]));
     println!("one average without work: {:?}", single_sma_positions(&prices, 2, &mut out, &mut work[..47]));
 }

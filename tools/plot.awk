@@ -43,7 +43,7 @@ function reckon(    i, j, high, low) {
 
 function why() {
     if (refusal == 5) return "a price is beyond 1,073,741,824"
-    if (refusal == 7) return "a window is above 4,096"
+    if (refusal == 7) return "a window is above 720"
     if (refusal == 9) return "n is not below m"
     return "a line breaks its columns, and nothing more is read"
 }

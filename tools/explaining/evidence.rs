@@ -6,7 +6,7 @@ use crate::request::{Request, Rule};
 
 const LARGEST_VALUE: i64 = 1 << 30;
 const LARGEST_TICK: i64 = 1 << 24;
-const LONGEST_WINDOW: usize = 4096;
+const LONGEST_WINDOW: usize = 720;
 
 /// What a request is answered.
 pub enum Answer {
@@ -62,7 +62,7 @@ pub fn answer(request: &Request) -> Answer {
         return Answer::Refused { refusal: 5, why: format!("the price of bar {bar} is beyond 1,073,741,824") };
     }
     if *n > LONGEST_WINDOW || double && *m > LONGEST_WINDOW {
-        return Answer::Refused { refusal: 7, why: "a window is above 4,096".to_string() };
+        return Answer::Refused { refusal: 7, why: "a window is above 720".to_string() };
     }
     if prices.is_empty() || *n == 0 || double && *m == 0 {
         let why = if prices.is_empty() { "it has no bars" } else { "a window is 0" };

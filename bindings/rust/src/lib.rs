@@ -25,7 +25,7 @@
 //! assert_eq!(single_sma_positions(&prices, 2, &mut out, &mut work), Ok(4));
 //! assert_eq!(out, [0.0, 0.0, 1.0, -1.0]);
 //!
-//! let refused = sma(&prices, 4097, &mut out).unwrap_err();
+//! let refused = sma(&prices, 721, &mut out).unwrap_err();
 //! assert_eq!(refused, Refusal::WindowTooLong);
 //! assert_eq!(refused.number(), 7);
 //! ```

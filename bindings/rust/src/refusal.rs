@@ -65,7 +65,7 @@ refusals! {
     WorkTooShort = 4: "a work slice shorter than 8 times the series",
     ValueNotAccepted = 5: "a value that is not accepted; for `tick_mean` one that is no whole tick",
     ParameterNotFinite = 6: "a floating-point parameter that is not finite",
-    WindowTooLong = 7: "a window above 4,096; a smoother period that is not whole from 0 to 512",
+    WindowTooLong = 7: "a window above 720; a smoother period that is not whole from 0 to 512",
     SeriesTooShort = 8:
         "`triple_sma_positions`: m3 above the series' length; `ultimate_channel`: a period above that length + 1",
     WindowsOutOfOrder = 9: "`double_sma_positions`: n not below m; `triple_sma_positions`: not m1 < m2 < m3",

@@ -1,27 +1,31 @@
 -- Exact on whole ticks. A series here is a list of f64, each a whole number from -16,777,216 to 16,777,216
 -- (`WholeTicks`). Every sum and product named below is one of whole numbers, never rounded; what is said from a bar
--- on holds there and at every later bar below the count k of the call's answer. Assumes nothing.
+-- on holds there and at every later bar below the count k of the call's answer. Windows are all that a call takes, from
+-- 1 to `longestWindow` bars. Assumes nothing.
 use mathlib.Core.Path.{_≡_, sym, _∙_}
 use mathlib.Core.Bool.{cond, Bool, false, true, true≢false}
 use mathlib.Core.List.{List, [], _∷_}
-use Prim.Native.Nat.{ℕ, _+_, _-_, _*_, _<_, _≤_}
+use Prim.Native.Nat.{ℕ, _+_, _-_, _*_, _^_, _<_, _≤_}
 use native.Mathlib.Omega.{arith}
 use lib.IntN.{ℤ, pos, natAbs, _+ℤ_, _*ℤ_}
 use lib.Signed.{ltZ}
 use lib.ListN.{length, getD}
-use lib.Ieee.{Float, nan, binary64, round, fits}
+use lib.Ieee.{Float, nan, binary64, low, round, fits}
 use lib.Dec.{T}
 use Rattle.rounding.specs.Leaves.{plusOne, minusOne}
 use Rattle.rounding.specs.Whole.{isNegative}
-use Rattle.rounding.specs.Nearest.{NearestTo}
+use Rattle.rounding.specs.Nearest.{NearestTo, Number, distance}
+use Rattle.rounding_laws.proofs.About.{About, fine}
 use Rattle.rounding_laws.proofs.Quotient.{quotient, Whole, quotient-is, quotient-nearest, quotient-zero}
+use Rattle.limits.specs.Limits.{Window}
 use Rattle.calls.specs.declared.Answer.the-variants.{Cells}
 use Rattle.cells.specs.Line.{plusZero, line}
 use Rattle.rules_double.proofs.Open.{double-opened, double-room, double-whole}
 use Rattle.rules_double.specs.Double.{DoubleCall}
 use Rattle.exact_ticks.proofs.Exact.{window-whole, TickLine}
 use Rattle.averages.proofs.Ticks.{sma-exact}
-use Rattle.windows.specs.Window.{windowTotal}
+use Rattle.exact_ticks.proofs.Errors.{mean-of-means-about}
+use Rattle.windows.specs.Window.{windowTotal, mean}
 use Rattle.guarantees.specs.Series.{WholeTicks, price}
 use Rattle.rules_double.proofs.Ticks.{double-exact}
 use Rattle.rules_single.proofs.Ticks.{single-exact}
@@ -60,6 +64,18 @@ pub record IsMean (z : ℤ) (n : ℕ) (x : Float) : Type 0 where
   pub nearest : NearestTo binary64 z n x
   pub zero : z ≡ pos 0 → x ≡ plusZero
 
+-- x is a finite f64 at most 1/131,072 away from z / c
+pub record IsNearMean (z : ℤ) (c : ℕ) (x : Float) : Type 0 where
+  pub number : Number binary64 x
+  pub near : distance binary64 x z c * 131072 ≤ c * 2 ^ low binary64
+
+near-mean : {x : Float} {z : ℤ} {c : ℕ} → About binary64 x z c (c * (2 ^ 34 + 2 ^ 26)) → IsNearMean z c x
+near-mean {x} {z} {c} a =
+    record { number = a .number; near = small (distance binary64 x z c) (fine binary64) (a .close) }
+  where
+    small : (d u : ℕ) → d * 2 ≤ c * (2 ^ 34 + 2 ^ 26) * u → d * 131072 ≤ c * (2 ^ 53 * u)
+    small d u h = omega (arith, h)
+
 zero-mean : (z : ℤ) (n : ℕ) → Whole binary64 z n → z ≡ pos 0 → quotient binary64 z n ≡ plusZero
 zero-mean z n w e = rw e (quotient-zero (rw e at w))
 
@@ -72,8 +88,17 @@ whole-ticks {s} w = tick-line s (λ i h. is-true _ (all-at (fits binary64) s i (
 
 -- ---- the statements
 
+-- The doubly averaged price of any series of whole ticks, in a call or not: from bar 2n - 2 it is at most 1/131,072
+-- tick from D / (n · n).
+pub doubly-averaged-on-ticks : {s : List Float} → WholeTicks s → (n : ℕ) → Window n → (i : ℕ) → 2 * n ≤ i + 2
+    → i < length s → IsNearMean (D n s i) (n * n) (mean n (mean n (line s)) i)
+doubly-averaged-on-ticks w n v i b h =
+    let M = v .narrow in
+    near-mean
+    (mean-of-means-about (whole-ticks w) n (v .some) (omega arith) n (v .some) (omega arith) i (omega arith) h)
+
 module _ {s out₀ out₁ : List Float} (w : WholeTicks s) (n : ℕ) {k : ℕ} where
-  -- sma, for every window to 4,096: from bar n - 1 each cell is the mean of the last n prices.
+  -- sma: from bar n - 1 each cell is the mean of the last n prices.
   pub sma-on-ticks : SmaCall s n out₀ (Cells k) out₁ → (i : ℕ) → n ≤ i + 1 → i < k
       → IsMean (windowSumOf n s i) n (getD out₁ i nan)
   sma-on-ticks c i b h =
@@ -89,8 +114,8 @@ module _ {s out₀ out₁ : List Float} (w : WholeTicks s) (n : ℕ) {k : ℕ} w
         zero = λ e. zero-mean (windowSumOf n s i) n v e;
       })
 
-  -- Double, for every n < m to 4,096: from bar m - 1 the cell is +1 exactly when m times the last n prices' sum is at
-  -- least n times the last m prices' sum, else -1.
+  -- Double: from bar m - 1 the cell is +1 exactly when m times the last n prices' sum is at least n times the last m
+  -- prices' sum, else -1.
   pub double-on-ticks : (m : ℕ) → DoubleCall s n m out₀ (Cells k) out₁ → (i : ℕ) → m ≤ i + 1 → i < k
       → getD out₁ i nan ≡ sideOf (windowSumOf n s i *ℤ pos m) (windowSumOf m s i *ℤ pos n)
   double-on-ticks m c i b h =
@@ -103,16 +128,16 @@ module _ {s out₀ out₁ : List Float} (w : WholeTicks s) (n : ℕ) {k : ℕ} w
       (double-exact (whole-ticks w) n m i (o .short .some) (o .order) (omega arith) b (omega arith))
 
   module _ {work₀ work₁ : List Float} where
-    -- One average, for windows to 1,022: from bar 2n - 2 the cell has the sign of n · n · price - D, where that
-    -- difference and D are not 0.
-    pub single-on-ticks : SingleCall s n out₀ work₀ (Cells k) out₁ work₁ → n ≤ 1022 → (i : ℕ) → 2 * n ≤ i + 2 → i < k
+    -- One average: from bar 2n - 2 the cell has the sign of n · n · price - D, where that difference and D are not 0.
+    pub single-on-ticks : SingleCall s n out₀ work₀ (Cells k) out₁ work₁ → (i : ℕ) → 2 * n ≤ i + 2 → i < k
         → ¬ (D n s i ≡ pos 0) → ¬ (price s i *ℤ pos (n * n) ≡ D n s i) → getD out₁ i nan
         ≡ sideOf (price s i *ℤ pos (n * n)) (D n s i)
-    single-on-ticks c l i b h x y =
+    single-on-ticks c i b h x y =
         let r = bar nan accepted s (n ∷ []) (length work₀ ∷ []) (c .call) i h in
-        r .cell ∙ single-exact (whole-ticks w) n i (r .each .0 .some) l b (r .inside) x y
+        let M = r .each .0 .narrow in
+        r .cell ∙ single-exact (whole-ticks w) n i (r .each .0 .some) (omega arith) b (r .inside) x y
 
-    -- Middle, for every window to 4,096, with H and W the highest and the lowest of the last n window sums and S the
+    -- Middle, with H and W the highest and the lowest of the last n window sums and S the
     -- present one: from bar 2n - 2 the cell has the sign of 2 · S - (H + W), where that difference, H and W are not
     -- 0.
     pub mid-on-ticks : MidCall s n out₀ work₀ (Cells k) out₁ work₁ → (i : ℕ) → 2 * n ≤ i + 2 → i < k

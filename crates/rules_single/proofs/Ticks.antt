@@ -33,7 +33,11 @@ use Rattle.exact_ticks.proofs.TickMeans.{tick-line}
 use Rattle.exact_ticks.proofs.RunningSums.{running-sum-exact, running-sums-whole, size-times, some-abs, times-one}
 use Rattle.windows.specs.inner.RunningSums.{runningSums}
 use Rattle.rules_single.specs.inner.Tie.{tie}
-use Rattle.rules_single.specs.inner.Ticks.{longestExact, TickRows}
+use Rattle.rules_single.specs.inner.Ticks.{TickRows}
+
+-- how far the laws reach, beyond the longest window: there sums of window sums are exact and decide
+abbrev pub longestExact : ℕ
+longestExact = 1022
 
 module _ {l : ℕ} {f : Line} {t : ℕ → ℤ} (w : TickLine l f t) where
   pub single-exact : (n i : ℕ) → 0 < n → n ≤ longestExact → 2 * n ≤ i + 2 → i < l
@@ -119,5 +123,7 @@ module _ {n : ℕ} {s now : List Float} (r : TickRows n s now) (floats : (i : �
   pub by-total : tie (mul binary64 (line s i) (ofInt binary64 (pos (n * n)))) (line now (length s + i)) ≡ false
       → singleLine n (line s) i ≡ cond (lt (mul binary64 (line s i) (ofInt binary64 (pos (n * n))))
       (line now (length s + i))) minusOne plusOne
-  by-total e = rw total-cell (no-tie (tick-line s (λ j l. floats j) (r .ticks)) n (r .window .some) (r .narrow) i p h
+  by-total e =
+      let M : n ≤ longestExact = omega (arith, r .window .narrow) in
+      rw total-cell (no-tie (tick-line s (λ j l. floats j) (r .ticks)) n (r .window .some) M i p h
       (rw (← total-cell) e))

@@ -11,11 +11,10 @@ ghost use mathlib.Core.Bool.{true};
 ghost use Prim.Native.Nat.{_+_, _*_, _<_, _≤_};
 ghost use Rattle.values.specs.Accepted.{tick, all};
 ghost use Rattle.windows.specs.Window.{mean};
-ghost use Rattle.rules_single.specs.inner.Ticks.{longestExact, TickRows};
+ghost use Rattle.rules_single.specs.inner.Ticks.{TickRows};
 ghost use Rattle.margins.specs.inner.Decided.{Decided};
 ghost use Rattle.cells.specs.inner.Touched.{Touched};
 ghost use Rattle.checks.specs.inner.Due.{Priced};
-ghost use Rattle.window_means.specs.inner.Ticks.{longTicks};
 
 // The sign of a price less its average, 0 where that average is 0.0. The sign is taken first, so that a loop takes
 // several bars at a time.
@@ -77,14 +76,11 @@ fn write_tick_positions(series: &[f64], work: &[f64], n: usize, out: &mut [f64])
     }
 }
 
-// The longest window whose sums of window sums of whole ticks are exact and decide.
-const LONGEST_EXACT: usize = 1022;
-
 // Writes each bar's position of whole ticks. Running sums are exact, and decide all but ties. Two rows of `work` are
 // used.
 fn write_single_of_ticks(series: &[f64], n: usize, out: &mut [f64], work: &mut [f64])
     requires { ⌜ Priced 2 n (now series) (length (now out)) (length (now work)) ⌝ }
-    requires { ⌜ (n ≤ longestExact) × (all tick (now series) ≡ true) ⌝ }
+    requires { ⌜ all tick (now series) ≡ true ⌝ }
     ensures { λ _. ⌜ Writing (length (now (series .entry))) (singleLine n (line (now (series .entry))))
         (now (out .entry)) (now (out .exit))
         × Touched (2 * length (now (series .entry))) (now (work .entry)) (now (work .exit)) ⌝ }
@@ -120,15 +116,14 @@ fn write_single_by_margins(series: &[f64], n: usize, out: &mut [f64], work: &mut
 }
 
 // Writes each bar's position by the means of the means. One row of `work` is used.
-fn write_single_of_means(series: &[f64], n: usize, ticks: bool, out: &mut [f64], work: &mut [f64])
+fn write_single_of_means(series: &[f64], n: usize, out: &mut [f64], work: &mut [f64])
     requires { ⌜ Priced 2 n (now series) (length (now out)) (length (now work)) ⌝ }
-    requires { ⌜ ticks ≡ longTicks n (now series) ⌝ }
     ensures { λ _. ⌜ Writing (length (now (series .entry))) (singleLine n (line (now (series .entry))))
         (now (out .entry)) (now (out .exit))
         × Touched (2 * length (now (series .entry))) (now (work .entry)) (now (work .exit)) ⌝ }
 {
     let bars = series.len();
-    window_means::write_means_by(series, n, ticks, work);
+    window_means::write_means(series, n, work);
     window_means::write_means(&work[..bars], n, out);
     write_against_means(series, n, out);
 }
@@ -140,15 +135,12 @@ pub fn write_single(series: &[f64], n: usize, out: &mut [f64], work: &mut [f64])
         (now (out .entry)) (now (out .exit))
         × Touched (2 * length (now (series .entry))) (now (work .entry)) (now (work .exit)) ⌝ }
 {
-    let ticks = window_means::are_long_ticks(series, n);
-    if n <= LONGEST_EXACT {
-        if ticks {
-            write_single_of_ticks(series, n, out, work);
-            return;
-        }
+    if window_means::are_long_ticks(series, n) {
+        write_single_of_ticks(series, n, out, work);
+        return;
     }
     if write_single_by_margins(series, n, out, work) {
         return;
     }
-    write_single_of_means(series, n, ticks, out, work);
+    write_single_of_means(series, n, out, work);
 }

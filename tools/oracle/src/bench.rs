@@ -6,11 +6,11 @@ use crate::catalogue::{self, Domain, Function, Line};
 use crate::clock::by_turns;
 use crate::edges::{modest, with_windows};
 use crate::library::Lent;
-use crate::limits::{SERIES_LIMIT, WINDOW_LIMIT, within_limit};
+use crate::limits::{SERIES_LIMIT, WINDOW_LIMIT};
 use crate::rng::Rng;
 
 const LENGTHS: &[usize] = &[512, SERIES_LIMIT];
-const WINDOWS: &[usize] = &[2, 5, 20, 60, 250, 1_000, WINDOW_LIMIT];
+const WINDOWS: &[usize] = &[2, 5, 20, 60, 250, WINDOW_LIMIT];
 const PERIODS: &[usize] = &[2, 3, 4, 5, 20, 60, 250];
 
 /// What the series of a table are made of, each from the same walk of whole numbers.
@@ -99,7 +99,7 @@ struct Timing {
 impl Timing {
     /// One row for each of these windows that the series is long enough for.
     fn each(windows: &[usize], bars: usize, parameters: impl Fn(usize) -> Vec<Value>) -> Vec<Timing> {
-        let fitting = within_limit(windows).filter(|n| *n <= bars);
+        let fitting = windows.iter().copied().filter(|n| *n <= bars);
         fitting.map(|n| Timing { window: Some(n), parameters: parameters(n) }).collect()
     }
 

@@ -3,7 +3,7 @@
 use crate::call::{Call, Value};
 use crate::catalogue::{Domain, Function, Role};
 use crate::generate::{FLAGS, ODD_PERIODS, ODD_REALS, ODD_WHOLE_PERIODS, ODD_WINDOWS, plain, put, supply};
-use crate::limits::{PERIOD_LIMIT, SERIES_LIMIT, WINDOW_LIMIT, within_limit};
+use crate::limits::{PERIOD_LIMIT, SERIES_LIMIT, WINDOW_LIMIT};
 use crate::rng::Rng;
 use crate::series::{DAMAGED, damage, large, near_ties, walk, wide};
 use crate::ties::ties;
@@ -294,10 +294,9 @@ fn wide_windows(rng: &mut Rng, function: &Function, calls: &mut Vec<Call>) {
     }
 }
 
-/// Whole ticks with long windows and with cells of few bars: around 720, and around 1,023, from where the one-average
-/// rule has another form.
+/// Whole ticks with long windows, to the longest, and with cells of few bars.
 fn ticks_of_long_windows(rng: &mut Rng, function: &Function, calls: &mut Vec<Call>) {
-    for n in within_limit(&[363, 719, 720, 1_022, 1_023, 1_025]).filter(|_| function.has_window()) {
+    for n in [363, 511, 600, WINDOW_LIMIT - 1, WINDOW_LIMIT].into_iter().filter(|_| function.has_window()) {
         for more in [0, 1, 20, 41] {
             let series = function.series.iter().map(|_| walk(rng, 2 * n - 1 + more)).collect();
             calls.push(function.call(series, with_windows(function, n)));

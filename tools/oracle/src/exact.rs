@@ -7,8 +7,6 @@ use crate::limits::{TICK_LIMIT, WINDOW_LIMIT};
 use crate::nearly::{nearly_averaged, nearly_equal_means, nearly_in_the_middle, window_sums};
 use crate::rng::Rng;
 
-/// The largest window for which document 01 promises the one-average rule's sign.
-const ONE_AVERAGE_LIMIT: usize = 720;
 const SHOWN: usize = 5;
 
 /// A promise, and how often it was looked at.
@@ -146,7 +144,7 @@ fn double(rng: &mut Rng, function: &Function, fact: &mut Fact) {
 }
 
 fn one_average(rng: &mut Rng, function: &Function, fact: &mut Fact) {
-    let n = window(rng, ONE_AVERAGE_LIMIT.min(WINDOW_LIMIT));
+    let n = window(rng, WINDOW_LIMIT);
     let extra = rng.below(20);
     let mut ticks = ticks(rng, 2 * n - 1 + extra);
     let want = rng.between(-1, 1);
@@ -168,8 +166,7 @@ fn one_average(rng: &mut Rng, function: &Function, fact: &mut Fact) {
 }
 
 fn middle(rng: &mut Rng, function: &Function, fact: &mut Fact) {
-    let limit = if rng.one_in(40) { WINDOW_LIMIT } else { 600 };
-    let n = window(rng, limit.min(WINDOW_LIMIT));
+    let n = window(rng, WINDOW_LIMIT);
     let extra = rng.below(20);
     let mut ticks = ticks(rng, 2 * n - 1 + extra);
     nearly_in_the_middle(rng, &mut ticks, n);

@@ -48,7 +48,7 @@ fn window(rng: &mut Rng, len: usize) -> usize {
     match rng.below(100) {
         0..40 => 1 + rng.below(len.clamp(1, 6)),
         40..70 => 1 + rng.below(len.clamp(1, 24)),
-        70..85 => 1 + rng.below(len.clamp(1, 400)),
+        70..85 => 1 + rng.below(len.clamp(1, WINDOW_LIMIT)),
         85..94 => (len + rng.below(5)).saturating_sub(2),
         94..97 => len / 2 + rng.below(3),
         _ => rng.pick(ODD_WINDOWS),

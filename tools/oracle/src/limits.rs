@@ -3,15 +3,10 @@
 /// The longest series.
 pub const SERIES_LIMIT: usize = 65_536;
 /// The longest window.
-pub const WINDOW_LIMIT: usize = 4_096;
+pub const WINDOW_LIMIT: usize = 720;
 /// The longest smoother period.
 pub const PERIOD_LIMIT: usize = 512;
 /// The largest value that is accepted.
 pub const VALUE_LIMIT: f64 = 1_073_741_824.0;
 /// The largest whole tick.
 pub const TICK_LIMIT: i64 = 16_777_216;
-
-/// Those of the windows that are not above the limit.
-pub fn within_limit(windows: &[usize]) -> impl Iterator<Item = usize> {
-    windows.iter().copied().filter(|n| *n <= WINDOW_LIMIT)
-}

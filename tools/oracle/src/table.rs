@@ -4,7 +4,7 @@ use crate::call::{Answer, Call, Value};
 use crate::catalogue::{Domain, Function, Role};
 
 const LONGEST_SERIES: usize = 65_536;
-const LONGEST_WINDOW: usize = 4_096;
+const LONGEST_WINDOW: usize = 720;
 const LONGEST_PERIOD: usize = 512;
 const LARGEST_VALUE: f64 = 1_073_741_824.0;
 const LARGEST_TICK: f64 = 16_777_216.0;

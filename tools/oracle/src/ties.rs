@@ -3,7 +3,7 @@
 use crate::call::{Call, Value};
 use crate::catalogue::{Domain, Function, Line, Role};
 use crate::edges::with_windows;
-use crate::limits::within_limit;
+use crate::limits::WINDOW_LIMIT;
 use crate::nearly::nearly_averaged;
 use crate::rng::Rng;
 use crate::series::{series, within_limits};
@@ -69,8 +69,8 @@ fn patterns(function: &Function, calls: &mut Vec<Call>) {
 /// Whole ticks and hundredths in which at a bar n² times the price is the sum D of the window sums, or one beside it; the
 /// bar is the last, or others follow.
 fn averaged(rng: &mut Rng, function: &Function, calls: &mut Vec<Call>) {
-    let windows = within_limit(&[13, 14, 15, 24, 60, 250, 363, 719, 720, 1_022, 1_023, 2_000]);
-    for (n, want) in windows.flat_map(|n| [-1, 0, 1].map(|want| (n, want))) {
+    let windows = [13, 14, 15, 24, 60, 250, 363, 511, 600, WINDOW_LIMIT - 1, WINDOW_LIMIT];
+    for (n, want) in windows.into_iter().flat_map(|n| [-1, 0, 1].map(|want| (n, want))) {
         for (one, after) in [(1.0, 0), (1.0, 12), (100.0, 0), (100.0, 12)] {
             let level = rng.between(-30_000, 30_000);
             let mut ticks: Vec<i64> = (0..2 * n + 3).map(|_| level + rng.between(-50, 50)).collect();
@@ -104,7 +104,7 @@ fn at_changes(rng: &mut Rng, function: &Function, calls: &mut Vec<Call>) {
     let mut windows = vec![(2, 8), (3, 8), (5, 8), (13, 6), (24, 6), (60, 4), (250, 1)];
     if AVERAGED_TWICE.contains(&function.name) {
         windows.extend([(60, 24), (250, 6)]);
-        windows.extend(within_limit(&[720, 1_100]).map(|n| (n, 2)));
+        windows.extend([(600, 2), (WINDOW_LIMIT, 2)]);
     }
     for (n, times) in windows {
         for turn in 0..times {

@@ -39,9 +39,10 @@ tick-position-spec =
     (λ c. search needs)  -- mul-scaled
     (λ c. search needs)  -- shared-slice-read-scaled
     -- mul-scaled-2
-    (λ c. let l = c .before .before .before .pre .0 .narrow in record { fits = omega (arith, mul-le-mul l l) })
+    (λ c. let l = c .before .before .before .pre .0 .window .narrow in record { fits = omega (arith, mul-le-mul l l) })
     -- int-to-float-scaled
-    (λ c. let l = c .before .before .before .before .pre .0 .narrow in count-is-float _ (omega (arith, mul-le-mul l l)))
+    (λ c. let l = c .before .before .before .before .pre .0 .window .narrow in
+    count-is-float _ (omega (arith, mul-le-mul l l)))
     (λ c. search needs)  -- add-total
     (λ c. search needs)  -- mul-total
     (λ c. search needs)  -- shared-slice-read-total

@@ -11,33 +11,30 @@ use Rattle.rules_single.proofs.write_single.Tie as tie
 write-single-of-ticks-requires : tie.Need-write-single-of-ticks-requires
 write-single-of-ticks-requires c κs =
     let test = c .before .before in
-    let asked = test .before .before in
+    let asked = test .before in
     let start = asked .before .before .before .before in
     let ticks = known-ticks (start .args .n) (now (start .args .series)) (asked .are-long-ticks .ensures)
-    (test .if2 .taken) in
-    (search needs, (omega arith, ticks))
+    (test .if1 .taken) in
+    (search needs, ticks)
 
 returns-2 : tie.Need-returns-2
 returns-2 c =
     let decided = c .before .before .before .before .before .write-single-by-margins .ensures in
-    (decided .cells (c .if3 .taken), decided .work)
+    (decided .cells (c .if2 .taken), decided .work)
 
 write-single-of-means-requires : tie.Need-write-single-of-means-requires
 write-single-of-means-requires c κs =
     let tried = c .before .before .before .before .before .before .before in
-    let asked = tried .before .before .before .before in
-    let pre = asked .before .before .before .before .pre in
+    let pre = tried .before .before .before .before .before .before .before .before .pre in
     let out = tried .write-single-by-margins .ensures .used .long in
-    let work = tried .write-single-by-margins .ensures .work .long in (
-      record {
-        window = pre .window;
-        short = pre .short;
-        out-long = omega (arith, pre .out-long);
-        work-long = omega (arith, pre .work-long);
-        values = pre .values;
-      },
-      asked .are-long-ticks .ensures,
-    )
+    let work = tried .write-single-by-margins .ensures .work .long in
+    record {
+      window = pre .window;
+      short = pre .short;
+      out-long = omega (arith, pre .out-long);
+      work-long = omega (arith, pre .work-long);
+      values = pre .values;
+    }
 
 returns-3 : tie.Need-returns-3
 returns-3 c =

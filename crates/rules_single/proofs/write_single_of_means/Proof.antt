@@ -14,9 +14,9 @@ use Rattle.rules_single.specs.Single.{againstMean, singleLine}
 use Rattle.rules_single.proofs.write_single_of_means.Statement.{statement}
 use Rattle.rules_single.proofs.write_single_of_means.Tie as tie
 
-write-means-requires : tie.Need-write-means-requires
-write-means-requires c κs =
-    let long = part-long (c .before .before .before .before .write-means-by .ensures) (omega arith) in
+write-means-requires-2 : tie.Need-write-means-requires-2
+write-means-requires-2 c κs =
+    let long = part-long (c .before .before .before .before .write-means .ensures) (omega arith) in
     search needs
 
 returns : tie.Need-returns
@@ -25,23 +25,23 @@ returns c =
     let cells = c .before .before in
     let second = cells .before .before .before .before in
     let first = second .before .before .before .before .before in
-    let doubled = through (first .write-means-by .ensures) (omega arith) (mean _) (causal-mean _)
-    (second .write-means .ensures) in
+    let doubled = through (first .write-means .ensures) (omega arith) (mean _) (causal-mean _)
+    (second .write-means2 .ensures) in
     let positions = then-written doubled (cells .write-against-means .ensures) (omega arith) in (
       writing-same positions
           (λ i l. from-same _ plusZero _ _ i (λ b. ap (againstMean _) (read-back i nan doubled (omega arith)))),
-      touched-more (touched (first .write-means-by .ensures)) (omega arith),
+      touched-more (touched (first .write-means .ensures)) (omega arith),
     )
 
 pub write-single-of-means-spec : {M : Type 1} → statement M
 write-single-of-means-spec =
     tie.close
     (tie.spec
-    (λ c κs. search needs)  -- write-means-by-requires
+    (λ c κs. search needs)  -- write-means-requires
     (λ c. search needs)  -- slice-reshare-prefix-write-means
     -- slice-aggregate-write-means
-    (λ c. sym (part-long (c .before .before .before .write-means-by .ensures) (omega arith)))
-    write-means-requires
+    (λ c. sym (part-long (c .before .before .before .write-means .ensures) (omega arith)))
+    write-means-requires-2
     (λ c κs. search needs)  -- write-against-means-requires
     (λ c. search needs)  -- same-length
     (λ c. search needs)  -- same-length-2

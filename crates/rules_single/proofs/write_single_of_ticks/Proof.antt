@@ -37,8 +37,7 @@ write-tick-positions-requires c κs =
     let rows = lent-on (means .write-means-of-ticks .ensures) second (omega arith) in (
       record {
         window = pre .0 .window;
-        narrow = pre .1 .0;
-        ticks = pre .1 .1;
+        ticks = pre .1;
         room = omega (arith, rows .long);
         rows = stands rows;
       },

@@ -13,19 +13,14 @@ use Rattle.cells.specs.Written.{Writing}
 use Rattle.windows.specs.Window.{mean}
 use Rattle.windows.specs.inner.RunningSums.{runningSums}
 
--- the longest window whose sums of window sums decide
-abbrev pub longestExact : ℕ
-longestExact = 1022
-
 -- the means of s, and the sums of its last n window sums, in two rows
 abbrev pub Totals : ℕ → List Float → List Float → List Float → Type 0
 Totals n s old now =
     Writing (length s + length s) (beside (length s) (mean n (line s)) (runningSums n (runningSums n (line s)))) old now
 
--- whole ticks, a window for which the sums decide, and those rows in `now`
+-- whole ticks, a window, and those rows in `now`
 pub record TickRows (n : ℕ) (s now : List Float) : Type 0 where
   pub window : Window n
-  pub narrow : n ≤ longestExact
   pub ticks : all tick s ≡ true
   pub room : 2 * length s ≤ length now
   pub rows : Totals n s now now
