@@ -7,7 +7,7 @@ longestSeries = 65536
 
 -- bars of a window
 abbrev pub longestWindow : ℕ
-longestWindow = 4096
+longestWindow = 720
 
 -- bars of a smoother's period
 abbrev pub longestPeriod : ℕ

@@ -4,7 +4,7 @@
 pub const LONGEST_SERIES: usize = 65536;
 
 // Bars of a window.
-pub const LONGEST_WINDOW: usize = 4096;
+pub const LONGEST_WINDOW: usize = 720;
 
 // Bars of a smoother's period, and the same as f64.
 pub const LONGEST_PERIOD: usize = 512;
