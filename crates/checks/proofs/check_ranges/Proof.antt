@@ -1,4 +1,5 @@
--- `check_ranges` meets its contract: the lengths, the values of each series, and the order of every bar. Assumes nothing.
+-- `check_ranges` meets its contract: the lengths, the values of each series, and the order of every bar. Assumes
+-- nothing.
 use borrow.Author.Needs.{needs}
 use Rattle.checks.proofs.Two.{checked-two, ranged-both}
 use Rattle.checks.proofs.check_ranges.Statement.{statement}
