@@ -18,12 +18,14 @@
  *   2  series of unequal length
  *   3  an output shorter than the series
  *   4  a work slice shorter than 8 times the series
- *   5  a value that is not accepted; for tick_mean one that is no whole tick
+ *   5  a value that is not accepted; for tick_mean and double_sma_ranges one that is no whole tick
+ *  11  double_sma_ranges: a low above its high at some bar
  *   6  a floating-point parameter that is not finite
  *   7  a window above 720; a smoother period that is not whole from 0 to 512
  *   8  triple_sma_positions: m3 above the series' length; ultimate_channel: a period above that
  *      length + 1
- *   9  double_sma_positions: n not below m; triple_sma_positions: not m1 < m2 < m3
+ *   9  double_sma_positions and double_sma_ranges: n not below m; triple_sma_positions: not
+ *      m1 < m2 < m3
  *
  * Accepted are finite values of magnitude at most 1,073,741,824, other than -0.0. A whole tick is an
  * accepted value without a fraction, of magnitude at most 16,777,216.
@@ -210,6 +212,15 @@ tegbalowu_answer tegbalowu_single_sma_positions(const double *series, size_t ser
  */
 tegbalowu_answer tegbalowu_double_sma_positions(const double *series, size_t series_len, size_t n, size_t m,
                                                 double *out, size_t out_len);
+
+/*
+ * Double on prices known only within a range, a low and a high for each bar. From bar m-1 on: +1
+ * where every series of whole ticks from low to high gives +1 by the double rule, -1 where every
+ * one gives -1, 2 where both occur. Where low equals high at every bar these are the cells of
+ * tegbalowu_double_sma_positions. Refusals 1, 2, 3, 5, 11, 7, 9.
+ */
+tegbalowu_answer tegbalowu_double_sma_ranges(const double *low, size_t low_len, const double *high, size_t high_len,
+                                             size_t n, size_t m, int32_t *out, size_t out_len);
 
 /*
  * Triple: +1 where the mean of m1 values is above its own mean over m3 and its mean over m1 above

@@ -78,6 +78,7 @@ static uint64_t *u64(const slice *s) { return cells(s, U64); }
     CALL(ema, IN(0), WHOLE(0), OUT(f64, 0)) \
     CALL(exponential_smoothing, IN(0), REAL(0), OUT(f64, 0)) \
     CALL(double_sma_positions, IN(0), WHOLE(0), WHOLE(1), OUT(f64, 0)) \
+    CALL(double_sma_ranges, IN(0), IN(1), WHOLE(0), WHOLE(1), OUT(i32, 0)) \
     CALL(ultimate_smoother, IN(0), REAL(0), OUT(f64, 0)) \
     CALL(true_range, IN(0), IN(1), IN(2), WHOLE(0), REAL(1), OUT(f64, 0)) \
     CALL(single_sma_positions, IN(0), WHOLE(0), OUT(f64, 0), WORK) \

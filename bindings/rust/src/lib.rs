@@ -247,6 +247,19 @@ functions! {
     /// Refusals 1, 3, 5, 7, 9: 9 where n is not below m.
     tegbalowu_double_sma_positions double_sma_positions(series: &[f64], n: usize, m: usize, out: &mut [f64]);
 
+    /// Double on prices known only within a range, a low and a high for each bar. From bar m-1 on: +1 where every
+    /// series of whole ticks from `low` to `high` gives +1 by the double rule, -1 where every one gives -1, 2 where both
+    /// occur; 0 before. Refusals 1, 2, 3, 5, 11, 7, 9: 11 where a low is above its high, 9 where n is not below m.
+    ///
+    /// ```
+    /// let mut out = [9; 2];
+    /// assert_eq!(tegbalowu::double_sma_ranges(&[5.0, 5.0], &[6.0, 6.0], 1, 2, &mut out), Ok(2));
+    /// assert_eq!(out, [0, 2]);
+    /// ```
+    tegbalowu_double_sma_ranges double_sma_ranges(
+        low: &[f64], high: &[f64], n: usize, m: usize, out: &mut [i32]
+    );
+
     /// Middle: the sign of the mean of the last `n` values less half of the highest plus the lowest of the last n such
     /// means, from bar 2n-2 on; 0 before, and where either is 0. Refusals 1, 3, 4, 5, 7.
     tegbalowu_mid_positions mid_positions(series: &[f64], n: usize, out: &mut [f64], work: &mut [f64]);

@@ -63,12 +63,15 @@ refusals! {
     LengthsDiffer = 2: "series of unequal length",
     OutputTooShort = 3: "an output shorter than the series",
     WorkTooShort = 4: "a work slice shorter than 8 times the series",
-    ValueNotAccepted = 5: "a value that is not accepted; for `tick_mean` one that is no whole tick",
+    ValueNotAccepted = 5:
+        "a value that is not accepted; for `tick_mean` and `double_sma_ranges` one that is no whole tick",
+    LowAboveHigh = 11: "`double_sma_ranges`: a low above its high at some bar",
     ParameterNotFinite = 6: "a floating-point parameter that is not finite",
     WindowTooLong = 7: "a window above 720; a smoother period that is not whole from 0 to 512",
     SeriesTooShort = 8:
         "`triple_sma_positions`: m3 above the series' length; `ultimate_channel`: a period above that length + 1",
-    WindowsOutOfOrder = 9: "`double_sma_positions`: n not below m; `triple_sma_positions`: not m1 < m2 < m3",
+    WindowsOutOfOrder = 9:
+        "`double_sma_positions` and `double_sma_ranges`: n not below m; `triple_sma_positions`: not m1 < m2 < m3",
 }
 
 impl Error for Refusal {}

@@ -13,6 +13,7 @@ use Rattle.calls.specs.declared.Refusal.the-variants.{
   WindowTooLong,
   SeriesTooShort,
   WindowsOutOfOrder,
+  LowAboveHigh,
 }
 use Rattle.calls.specs.declared.Answer.{Answer}
 use Rattle.calls.specs.declared.Answer.the-variants.{Cells, Refused}
@@ -34,6 +35,7 @@ numbered ParameterNotFinite e = omega arith
 numbered WindowTooLong e = omega arith
 numbered SeriesTooShort e = omega arith
 numbered WindowsOutOfOrder e = omega arith
+numbered LowAboveHigh e = omega arith
 
 answered-with : (a : Answer) → refusalOf a ≡ 0 → a ≡ Cells (countOf a)
 answered-with (Cells k) e = refl

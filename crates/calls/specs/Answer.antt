@@ -1,10 +1,11 @@
--- What a call answers: document 01's numbers, and its table of refusals read from the top. Assumes nothing.
+-- What a call answers: the numbers of documents 01 and 02, and their table of refusals read from the top. Assumes
+-- nothing.
 use mathlib.Core.Bool.{Bool, true, false, _||_}
 use mathlib.Core.List.{List, [], _∷_, map}
 use Prim.Native.Nat.{ℕ, _*_}
 use lib.Dec.{leb, eqb}
 use lib.ListN.{length}
-use lib.Ieee.{Float}
+use lib.Ieee.{Float, le}
 use Rattle.calls.specs.declared.Refusal.{Refusal}
 use Rattle.calls.specs.declared.Refusal.the-variants.{
   SeriesTooLong,
@@ -16,13 +17,16 @@ use Rattle.calls.specs.declared.Refusal.the-variants.{
   WindowTooLong,
   SeriesTooShort,
   WindowsOutOfOrder,
+  LowAboveHigh,
 }
 use Rattle.calls.specs.declared.Answer.{Answer}
 use Rattle.calls.specs.declared.Answer.the-variants.{Cells, Refused}
-use Rattle.values.specs.Accepted.{finite, all}
+use Rattle.cells.specs.Line.{Line, line}
+use Rattle.cells.specs.Search.{everyBar}
+use Rattle.values.specs.Accepted.{finite, tick, all}
 use Rattle.limits.specs.Limits.{longestSeries, longestWindow, longestPeriod}
 
--- document 01's number of a refusal
+-- the number of a refusal
 abbrev pub number : Refusal → ℕ
 number SeriesTooLong = 1
 number LengthsDiffer = 2
@@ -33,6 +37,7 @@ number ParameterNotFinite = 6
 number WindowTooLong = 7
 number SeriesTooShort = 8
 number WindowsOutOfOrder = 9
+number LowAboveHigh = 11
 
 -- the number of the refusal, 0 where there is none
 abbrev pub refusalOf : Answer → ℕ
@@ -87,6 +92,17 @@ unfolding slices
 checked ok series outputs work =
     let lengths = map length series in
     andThen (slices lengths outputs work) (unless (all (all ok) series) ValueNotAccepted (Cells (first lengths)))
+
+-- no low is above its high, at the first k bars
+unfoldable pub inOrder : Line → Line → ℕ → Bool
+inOrder low high = everyBar (λ i. le (low i) (high i))
+
+-- Refusals 1 to 5 and then 11, of a low and a high for each bar: whole ticks, and no low above its high.
+unfoldable pub ranged : List Float → List Float → ℕ → Answer
+unfolding checked
+ranged low high output =
+    andThen (checked tick (low ∷ high ∷ []) (output ∷ []) [])
+    (unless (inOrder (line low) (line high) (length low)) LowAboveHigh (Cells (length low)))
 
 -- whether a zero is among them
 abbrev pub anyZero : List ℕ → Bool

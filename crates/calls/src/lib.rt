@@ -1,4 +1,4 @@
-// What a call answers: a count of cells, or one of document 01's refusals; and the same in numbers for C (`numbers`).
+// What a call answers: a count of cells, or a refusal; and the same in numbers for C (`numbers`).
 pub mod numbers;
 
 ghost use mathlib.Core.Path.{_≡_};
@@ -15,6 +15,7 @@ pub enum Refusal {
     WindowTooLong,
     SeriesTooShort,
     WindowsOutOfOrder,
+    LowAboveHigh,
 }
 
 pub enum Answer {
@@ -22,7 +23,7 @@ pub enum Answer {
     Refused(Refusal),
 }
 
-// Document 01's number of a refusal.
+// The number of a refusal.
 pub fn number_of(reason: Refusal) -> u64
     ensures { λ r. ⌜ r ≡ number reason ⌝ }
 {
@@ -36,6 +37,7 @@ pub fn number_of(reason: Refusal) -> u64
         Refusal::WindowTooLong => 7,
         Refusal::SeriesTooShort => 8,
         Refusal::WindowsOutOfOrder => 9,
+        Refusal::LowAboveHigh => 11,
     }
 }
 

@@ -9,6 +9,7 @@ ghost use Rattle.true_range.specs.TrueRange.{supplied, TrueRangeCall};
 ghost use Rattle.smoother.specs.Smoother.{UltimateSmootherCall};
 ghost use Rattle.rules_single.specs.Single.{SingleCall};
 ghost use Rattle.rules_double.specs.Double.{DoubleCall};
+ghost use Rattle.rules_double_ranges.specs.Ranges.{RangesCall};
 ghost use Rattle.rules_middle.specs.Middle.{MidCall};
 ghost use Rattle.calls.specs.Numbers.{InNumbers};
 ghost use Rattle.averages_wilder.specs.WilderRsi.{WilderRsiCall};
@@ -112,6 +113,20 @@ pub extern "C" fn tegbalowu_double_sma_positions(
     ensures { λ r. ⌜ InNumbers (λ a. DoubleCall (now (series .entry)) n m (now (out .entry)) a (now (out .exit))) r ⌝ }
 {
     calls::numbers::numbers(rules::double_sma_positions(series, n, m, out))
+}
+
+#[no_mangle]
+pub extern "C" fn tegbalowu_double_sma_ranges(
+    low: &[f64],
+    high: &[f64],
+    n: usize,
+    m: usize,
+    out: &mut [i32],
+) -> CAnswer
+    ensures { λ r. ⌜ InNumbers (λ a. RangesCall (now (low .entry)) (now (high .entry)) n m (now (out .entry)) a
+        (now (out .exit))) r ⌝ }
+{
+    calls::numbers::numbers(rules::double_sma_ranges(low, high, n, m, out))
 }
 
 #[no_mangle]

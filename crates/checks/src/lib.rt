@@ -1,5 +1,5 @@
-// The checks of a call: the refusals in document 01's order, for one series or three, one output or three, with a
-// work slice or without.
+// The checks of a call: the refusals in their order, for one series, two or three, one output or three, with a work
+// slice or without.
 use calls::Answer;
 use calls::Refusal;
 use limits::LONGEST_SERIES;
@@ -9,12 +9,13 @@ ghost use mathlib.Core.List.{[], _∷_};
 ghost use Prim.Native.Nat.{_*_, min, _≤_};
 ghost use lib.Dec.{leb};
 ghost use lib.ListN.{length};
+ghost use Rattle.cells.specs.Line.{line};
 ghost use Rattle.values.specs.Accepted.{accepted, tick, all};
 ghost use Rattle.calls.specs.Answer.{unless, andThen, slices, checked, clearedOf, emptyIf};
-ghost use Rattle.calls.specs.Answer.{windowed, answered, answeredWith};
+ghost use Rattle.calls.specs.Answer.{inOrder, ranged, windowed, answered, answeredWith};
 ghost use Rattle.calls.specs.inner.Fits.{windowFits};
 ghost use Rattle.calls.specs.declared.Answer.the-variants.{Cells};
-ghost use Rattle.calls.specs.declared.Refusal.the-variants.{WorkTooShort, ValueNotAccepted};
+ghost use Rattle.calls.specs.declared.Refusal.the-variants.{WorkTooShort, ValueNotAccepted, LowAboveHigh};
 ghost use Rattle.checks.specs.inner.Due.{CellsDue};
 
 // The first refusal by the lengths of a series and its output; else the series' length.
@@ -208,6 +209,58 @@ pub fn answer_tick_window(series: &[f64], n: usize, out: usize) -> Answer
     let bars = series.len();
     let next = check_window(bars, n, Answer::Cells(bars));
     and_then(due, next)
+}
+
+// The first refusal by the lengths of two series and an output; else the length.
+fn check_lengths_of_two(bars: usize, second: usize, out: usize) -> Answer
+    ensures { λ r. ⌜ r ≡ slices (bars ∷ second ∷ []) (out ∷ []) [] ⌝ }
+{
+    let short = (bars <= LONGEST_SERIES) & (second <= LONGEST_SERIES);
+    let room = unless_refused(bars <= out, Refusal::OutputTooShort, Answer::Cells(bars));
+    let same = unless_refused(second == bars, Refusal::LengthsDiffer, room);
+    unless_refused(short, Refusal::SeriesTooLong, same)
+}
+
+// Whether no low is above its high, at the bars that both series have.
+fn in_order(low: &[f64], high: &[f64]) -> bool
+    ensures { λ r. ⌜ r ≡ inOrder (line (now (low .entry))) (line (now (high .entry)))
+        (min (length (now (low .entry))) (length (now (high .entry)))) ⌝ }
+{
+    let bars = cells::smaller(low.len(), high.len());
+    let mut all = true;
+    let mut i = 0;
+    while i < bars {
+        all = all & (low[i] <= high[i]);
+        i += 1;
+    }
+    all
+}
+
+// The refusal of a low above its high, unless there was one before; the bars are looked at only then.
+fn check_order(due: Answer, low: &[f64], high: &[f64]) -> Answer
+    ensures { λ r. ⌜ r ≡ andThen due (unless (inOrder (line (now (low .entry))) (line (now (high .entry)))
+        (min (length (now (low .entry))) (length (now (high .entry))))) LowAboveHigh
+        (Cells (length (now (low .entry))))) ⌝ }
+{
+    if let Answer::Refused(_) = due {
+        return due;
+    }
+    unless_refused(
+        in_order(low, high),
+        Refusal::LowAboveHigh,
+        Answer::Cells(low.len()),
+    )
+}
+
+// The first refusal of a call with a low and a high of whole ticks for each bar, its output and no work slice, before
+// its parameters; else the length.
+pub fn check_ranges(low: &[f64], high: &[f64], out: usize) -> Answer
+    ensures { λ r. ⌜ r ≡ ranged (now (low .entry)) (now (high .entry)) out ⌝ }
+{
+    let lengths = check_lengths_of_two(low.len(), high.len(), out);
+    let highs = check_tick_values(lengths, high);
+    let due = check_tick_values(highs, low);
+    check_order(due, low, high)
 }
 
 // The first refusal by the lengths of three series and an output; else the length.

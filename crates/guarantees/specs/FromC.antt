@@ -1,14 +1,17 @@
 -- What is stated of a call holds of a C call. With refusal 0 its contract holds of the answer `Cells count`, whatever
 -- the function, so that each statement of this crate speaks to a C caller: `from-C` for those about `Cells k`,
 -- `from-C-of` for those about `Cells (length s)`. Shown here for a function of each shape: one output, a work slice,
--- whole-number cells, three outputs, three series, and two calls. Assumes nothing.
+-- whole-number cells, three outputs, two series, three series, and two calls. Assumes nothing.
 use mathlib.Core.Path.{_≡_, sym}
+use mathlib.Core.Bool.{true}
 use mathlib.Core.List.{List}
 use Prim.Native.Nat.{ℕ, _+_, _<_, _≤_}
-use lib.IntN.{ℤ}
+use lib.IntN.{ℤ, pos}
 use lib.ListN.{length, getD}
-use lib.Ieee.{Float, nan}
-use Rattle.cells.specs.Line.{plusZero}
+use lib.Ieee.{Float, nan, binary64, fits}
+use Rattle.rounding.specs.Leaves.{plusOne}
+use Rattle.cells.specs.Line.{plusZero, line}
+use Rattle.values.specs.Accepted.{all}
 use Rattle.calls.specs.declared.Answer.{Answer}
 use Rattle.calls.specs.declared.Answer.the-variants.{Cells}
 use Rattle.calls.specs.declared.numbers.CAnswer.{CAnswer}
@@ -17,11 +20,14 @@ use Rattle.calls.proofs.InNumbers.{accepted-call}
 use Rattle.averages.specs.Sma.{SmaCall}
 use Rattle.true_range.specs.TrueRange.{supplied, TrueRangeCall}
 use Rattle.bands.specs.Bands.{UltimateBandsCall}
+use Rattle.rules_double.specs.Double.{doubleLine}
+use Rattle.rules_double_ranges.specs.Ranges.{RangesCall}
 use Rattle.rules_held.specs.Held.{flat}
 use Rattle.rules_single.specs.Single.{SingleCall}
 use Rattle.rules_triple.specs.Triple.{TripleCall}
 use Rattle.guarantees.specs.Series.{WholeTicks}
 use Rattle.guarantees.specs.OnTicks.{windowSumOf, IsMean, sma-on-ticks}
+use Rattle.guarantees.specs.Ranges.{Inside, ranges-all-long}
 use Rattle.guarantees.specs.Positions.{Position, single-writes-positions}
 use Rattle.guarantees.specs.WholeCells.{WholePosition, triple-writes-positions}
 use Rattle.guarantees.specs.NanLines.{bands-outer-lines-nan}
@@ -61,6 +67,16 @@ pub bands-from-C : (s : List Float) (n : ℕ) (k : Float) (m : ℕ)
     → r .refusal ≡ 0 → 5 ≤ n → (i : ℕ) → i < r .count
     → (getD upper₁ i plusZero ≡ nan) × (getD lower₁ i plusZero ≡ nan)
 bands-from-C s n k m c e = bands-outer-lines-nan s n k m (from-C c e)
+
+-- Two series: where a cell of `tegbalowu_double_sma_ranges` is +1, so is the double rule's on every series of whole
+-- ticks inside the ranges.
+pub ranges-from-C : (low high : List Float) (n m : ℕ) {out₀ out₁ : List ℤ} {r : CAnswer}
+    → all (fits binary64) low ≡ true → all (fits binary64) high ≡ true
+    → InNumbers (λ a. RangesCall low high n m out₀ a out₁) r
+    → r .refusal ≡ 0 → (i : ℕ) → i < r .count → m ≤ i + 1 → {s : List Float} → Inside low high s
+    → getD out₁ i (pos 0) ≡ pos 1 → doubleLine n m (line s) i ≡ plusOne
+ranges-from-C low high n m v w c e i h b inside =
+    ranges-all-long low high n m v w (from-C c e) i h b inside
 
 -- Two calls: equal bars up to bar b give equal cells of `tegbalowu_sma` up to it.
 pub sma-from-C-no-look-ahead : {s t out₀ out₁ out₀′ out₁′ : List Float} {b : ℕ} (n : ℕ) {r r′ : CAnswer}

@@ -7,6 +7,7 @@ pub mod NanLines
 pub mod NoLookAhead
 pub mod OnTicks
 pub mod Positions
+pub mod Ranges
 pub mod RankPlace
 pub mod Series
 pub mod Starred

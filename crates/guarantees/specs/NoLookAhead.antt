@@ -40,6 +40,9 @@ use Rattle.rules_single.proofs.Single.{causal-single}
 use Rattle.rules_double.specs.Double.{doubleAnswer, DoubleCall}
 use Rattle.rules_double.proofs.Double.{causal-double}
 use Rattle.rules_double.proofs.Open.{double-opened}
+use Rattle.rules_double_ranges.specs.Ranges.{RangesCall}
+use Rattle.rules_double_ranges.proofs.Meaning.{causal-double-ranges}
+use Rattle.rules_double_ranges.proofs.Open.{ranges-opened}
 use Rattle.rules_middle.specs.Middle.{MidCall}
 use Rattle.rules_middle.proofs.Middle.{causal-mid}
 use Rattle.averages_wilder.proofs.Causal.{causal-wilder-rsi}
@@ -251,6 +254,22 @@ pub tick-mean-no-look-ahead : {s t : List Float} {out₀ out₁ out₀′ out₁
     → TickMeanCall s n out₀ (Cells (length s)) out₁ → TickMeanCall t n out₀′ (Cells (length t)) out₁′
     → EqualCells (pos 0) out₁ out₁′ b
 tick-mean-no-look-ahead equal n = windows-agree (pos 0) tick equal (n ∷ []) [] [] (λ w. causal-tick-mean n)
+
+-- the rule on ranges, two series each with equal bars
+pub ranges-no-look-ahead : {low high low′ high′ : List Float} {out₀ out₁ out₀′ out₁′ : List ℤ} {b : ℕ}
+    → EqualBars low low′ b → EqualBars high high′ b → (n m : ℕ)
+    → RangesCall low high n m out₀ (Cells (length low)) out₁
+    → RangesCall low′ high′ n m out₀′ (Cells (length low′)) out₁′
+    → EqualCells (pos 0) out₁ out₁′ b
+ranges-no-look-ahead {low} {high} {low′} {high′} {out₀} {out₀′ = out₀′} p q n m c c′ j l =
+    let u = p .left in
+    let v = p .right in
+    let o = ranges-opened low high n m (length out₀) (length low) (sym (c .answer)) (omega arith) in
+    let o′ = ranges-opened low′ high′ n m (length out₀′) (length low′) (sym (c′ .answer)) (omega arith) in
+    cell-at (pos 0) c (o .ranges .room) j (omega arith)
+    ∙ causal-double-ranges n m (o .short .some) (o .order) (line low) (line low′) (line high) (line high′) j
+    (λ i a. p .same i (omega arith)) (λ i a. q .same i (omega arith))
+    ∙ sym (cell-at (pos 0) c′ (o′ .ranges .room) j (omega arith))
 
 -- ---- three series, each with equal bars
 

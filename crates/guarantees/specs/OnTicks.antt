@@ -83,7 +83,8 @@ is-true : (t : Bool) → t ≡ true → T t
 is-true true e = tt
 is-true false e = absurd (true≢false (sym e))
 
-whole-ticks : {s : List Float} → WholeTicks s → TickLine (length s) (line s) (price s)
+-- such a series' prices, as whole numbers
+pub whole-ticks : {s : List Float} → WholeTicks s → TickLine (length s) (line s) (price s)
 whole-ticks {s} w = tick-line s (λ i h. is-true _ (all-at (fits binary64) s i (w .floats) h)) (w .ticks)
 
 -- ---- the statements

@@ -3,5 +3,6 @@ pub mod Enclosed
 pub mod Itself
 pub mod Outward
 pub mod Rounded
+pub mod Wholes
 pub mod WithZero
 pub mod Within

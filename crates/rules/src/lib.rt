@@ -4,6 +4,7 @@ ghost use Prim.Native.Nat.{_*_};
 ghost use Rattle.rules_single.specs.Single.{SingleCall};
 ghost use Rattle.rules_middle.specs.Middle.{MidCall};
 ghost use Rattle.rules_double.specs.Double.{DoubleCall};
+ghost use Rattle.rules_double_ranges.specs.Ranges.{RangesCall};
 ghost use Rattle.rules_bands.specs.Boll.{BollCall};
 ghost use Rattle.rules_bands.specs.BollReverse.{BollReverseCall};
 ghost use Rattle.rules_bands.specs.inner.Stages.{BandsCall};
@@ -51,6 +52,18 @@ pub fn double_sma_positions(series: &[f64], n: usize, m: usize, out: &mut [f64])
     let due = rules_double::answer_double(series, n, m, out.len());
     if calls::has_cells(due) {
         rules_double::write_double(series, n, m, out);
+    }
+    due
+}
+
+// Double on prices known only within a range: 1 where every series of whole ticks from low to high gives 1, -1 where
+// every one gives -1, and 2 where both occur, from bar m - 1 on.
+pub fn double_sma_ranges(low: &[f64], high: &[f64], n: usize, m: usize, out: &mut [i32]) -> Answer
+    ensures { λ r. ⌜ RangesCall (now (low .entry)) (now (high .entry)) n m (now (out .entry)) r (now (out .exit)) ⌝ }
+{
+    let due = rules_double_ranges::answer_ranges(low, high, n, m, out.len());
+    if calls::has_cells(due) {
+        rules_double_ranges::write_ranges(low, high, n, m, out);
     }
     due
 }

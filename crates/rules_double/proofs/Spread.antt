@@ -72,7 +72,7 @@ moved a b x y z n d =
     (cancelled (a *ℤ pos (n + d)) (b *ℤ pos n) (x *ℤ pos n) (x *ℤ pos d) (y *ℤ pos (n + d)) (z *ℤ pos n))
 
 -- the longer sum is the shorter one and a rest
-parted : (a r : ℤ) (n d : ℕ) → a *ℤ pos d -ℤ r *ℤ pos n ≡ a *ℤ pos (n + d) -ℤ (r +ℤ a) *ℤ pos n
+pub parted : (a r : ℤ) (n d : ℕ) → a *ℤ pos d -ℤ r *ℤ pos n ≡ a *ℤ pos (n + d) -ℤ (r +ℤ a) *ℤ pos n
 parted a r n d =
     parts-same (a *ℤ pos d -ℤ r *ℤ pos n) (a *ℤ pos (n + d) -ℤ (r +ℤ a) *ℤ pos n)
     (omega (

@@ -120,7 +120,7 @@ fn timings(function: &Function, bars: usize) -> Vec<Timing> {
         "jurik_volty" => Timing::only(&[Count(20), Real(1.0)]),
         "ultimate_bands" => Timing::each(PERIODS, bars, |n| vec![Count(n), Real(2.0), Count(10)]),
         "ultimate_channel" => Timing::each(PERIODS, bars, |n| vec![Count(n), Real(2.0), Count(0), Real(0.0)]),
-        "double_sma_positions" => windows(|n| vec![Count(n / 2), Count(n)]),
+        "double_sma_positions" | "double_sma_ranges" => windows(|n| vec![Count(n / 2), Count(n)]),
         "mms_positions" => windows(|n| vec![Count(n), Count(n)]),
         "triple_sma_positions" => Timing::each(&WINDOWS[1..], bars, |n| vec![Count(n / 4), Count(n / 2), Count(n)]),
         "ultimate_oscillator" => windows(|n| vec![Count((n / 4).max(1)), Count(n / 2), Count(n), Count(0), Real(0.0)]),

@@ -9,7 +9,7 @@ use std::hint::black_box;
 
 use crate::call::{Answer, Call, Cell, Kind, Lines, Value};
 use crate::library::Lent;
-use crate::{close_before, restated, tick_mean, wilder_rsi};
+use crate::{close_before, ranges, restated, tick_mean, wilder_rsi};
 
 /// What a series is: how its values stand to those of the others.
 #[derive(Clone, Copy, Debug, PartialEq, Eq)]
@@ -112,6 +112,8 @@ pub struct Function {
     pub kind: Kind,
     pub work: bool,
     pub domain: Domain,
+    /// Refusal 11 where a low, the first series, is above its high, the second.
+    pub ranged: bool,
     /// Refusal 9 where the windows do not rise strictly.
     pub rising: bool,
     /// The expected cells of a call that is answered.
@@ -269,6 +271,7 @@ const PLAIN: Function = Function {
     kind: Kind::F64,
     work: false,
     domain: Domain::Accepted,
+    ranged: false,
     rising: false,
     source: |_| Vec::new(),
     given: |_| Vec::new(),
@@ -394,5 +397,12 @@ functions! {
             restated::ultimate_channel(high, low, close, period, multiplier, before)
         };
         timed: pure::ultimate_channel(high, low, close, period, multiplier),
+    }
+    double_sma_ranges "double_sma_ranges" {
+        series: [low: Low, high: High], parameters: [n: Window, m: Window], outputs: [out], cells: i32, work: [],
+        source: ranges::line(low, high, n, m),
+        domain: Domain::WholeTicks,
+        ranged: true,
+        rising: true,
     }
 }

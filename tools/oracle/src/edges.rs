@@ -4,8 +4,9 @@ use crate::call::{Call, Value};
 use crate::catalogue::{Domain, Function, Role};
 use crate::generate::{FLAGS, ODD_PERIODS, ODD_REALS, ODD_WHOLE_PERIODS, ODD_WINDOWS, plain, put, supply};
 use crate::limits::{PERIOD_LIMIT, SERIES_LIMIT, WINDOW_LIMIT};
+use crate::ranges;
 use crate::rng::Rng;
-use crate::series::{DAMAGED, damage, large, near_ties, walk, wide};
+use crate::series::{DAMAGED, damage, for_each, large, near_ties, walk, wide};
 use crate::ties::ties;
 
 pub fn edges(rng: &mut Rng, function: &Function) -> Vec<Call> {
@@ -26,6 +27,7 @@ pub fn edges(rng: &mut Rng, function: &Function) -> Vec<Call> {
     pairs_of_faults(rng, function, &mut calls);
     long(rng, function, &mut calls);
     ties(rng, function, &mut calls);
+    ranges::edges(rng, function, &mut calls);
     calls.extend([0, 1, 2, 7, 40].into_iter().flat_map(|len| closes(rng, function, len)));
     calls
 }
@@ -99,8 +101,7 @@ fn every_place_at_the_limit(rng: &mut Rng, function: &Function, calls: &mut Vec<
     for (len, at) in (0..function.series.len()).flat_map(|at| (40..44).map(move |len| (len, at))) {
         for (place, parameters) in (0..len).flat_map(|place| parameters.iter().map(move |p| (place, p))) {
             for (turn, value) in [largest, -largest, largest.next_up(), -largest.next_up()].into_iter().enumerate() {
-                let wide = |_| wide(rng, function.domain, len);
-                let mut series: Vec<Vec<f64>> = function.series.iter().map(wide).collect();
+                let mut series = for_each(function, || wide(rng, function.domain, len));
                 if (turn + place) % 4 == 0 {
                     series.iter_mut().flatten().for_each(|x| *x = x.abs());
                 }
@@ -217,6 +218,8 @@ enum Fault {
     Parameter(usize, Value),
     /// The close before bar 0 is supplied, and a NaN.
     Close,
+    /// The low of the last bar is above its high.
+    Order,
 }
 
 impl Fault {
@@ -228,6 +231,10 @@ impl Fault {
             Fault::Value(place) => call.series[place][0] = f64::NAN,
             Fault::Parameter(place, value) => call.parameters[place] = value,
             Fault::Close => supply(function, call, 1, f64::NAN),
+            Fault::Order => {
+                let high = call.series[1][call.series[1].len() - 1];
+                *call.series[0].last_mut().unwrap() = high + 1.0;
+            }
         }
     }
 }
@@ -250,6 +257,7 @@ fn faults(function: &Function, len: usize) -> Vec<Fault> {
         faults.extend(values.iter().map(|value| Fault::Parameter(place, *value)));
     }
     faults.extend(function.takes_close().then_some(Fault::Close));
+    faults.extend(function.ranged.then_some(Fault::Order));
     faults
 }
 
@@ -298,7 +306,7 @@ fn wide_windows(rng: &mut Rng, function: &Function, calls: &mut Vec<Call>) {
 fn ticks_of_long_windows(rng: &mut Rng, function: &Function, calls: &mut Vec<Call>) {
     for n in [363, 511, 600, WINDOW_LIMIT - 1, WINDOW_LIMIT].into_iter().filter(|_| function.has_window()) {
         for more in [0, 1, 20, 41] {
-            let series = function.series.iter().map(|_| walk(rng, 2 * n - 1 + more)).collect();
+            let series = for_each(function, || walk(rng, 2 * n - 1 + more));
             calls.push(function.call(series, with_windows(function, n)));
         }
     }
@@ -309,7 +317,7 @@ fn zeros_first(rng: &mut Rng, function: &Function, calls: &mut Vec<Call>) {
     for (n, zeros) in [2, 5, 13, 14, 30].into_iter().flat_map(|n| [n - 1, n, n + 1, 2 * n + 3].map(|zeros| (n, zeros)))
     {
         for more in [3 * n, 3 * n + 1] {
-            let mut series: Vec<Vec<f64>> = function.series.iter().map(|_| walk(rng, zeros + more)).collect();
+            let mut series = for_each(function, || walk(rng, zeros + more));
             series.iter_mut().for_each(|series| series[..zeros].fill(0.0));
             calls.push(function.call(series, with_windows(function, n)));
         }
@@ -357,7 +365,7 @@ fn long(rng: &mut Rng, function: &Function, calls: &mut Vec<Call>) {
 /// The longest series with the longest window. pure.rs sorts every window of `rolling_rank` anew, so fewer bars there.
 pub fn extreme(rng: &mut Rng, function: &Function) -> Call {
     let len = if function.name == "rolling_rank" { 3 * WINDOW_LIMIT } else { SERIES_LIMIT };
-    let series = function.series.iter().map(|_| wide(rng, function.domain, len)).collect();
+    let series = for_each(function, || wide(rng, function.domain, len));
     function.call(series, with_windows(function, WINDOW_LIMIT))
 }
 

@@ -43,6 +43,7 @@ pub fn run(seeds: &[u64], series: usize) -> bool {
         ("sma", "sma is nearest the true mean", sma),
         ("double_sma_positions", "double decides as whole sums do", double),
         ("single_sma_positions", "one average has the sign of n*n*price - D", one_average),
+        ("double_sma_ranges", "ranges decide as the series inside do", ranges),
         ("mid_positions", "middle has the sign of 2S - (H + W)", middle),
     ];
     let mut good = true;
@@ -141,6 +142,29 @@ fn double(rng: &mut Rng, function: &Function, fact: &mut Fact) {
         let want = if above { 1.0 } else { -1.0 };
         fact.check(cells[bar] == want, || at(bar, &[n, m], cells[bar], &ticks));
     }
+}
+
+/// At the last bar the cell has the sign that all series inside the ranges have, or is 2 where the worst and the best
+/// one have each. Those two are given to pure.rs, and some between them.
+fn ranges(rng: &mut Rng, function: &Function, fact: &mut Fact) {
+    let m = window(rng, WINDOW_LIMIT).max(2);
+    let n = 1 + rng.below(m - 1);
+    let extra = rng.below(20);
+    let mut low = ticks(rng, m + extra);
+    nearly_equal_means(rng, &mut low, n, m);
+    let width = rng.pick(&[0, 1, 3, 40]);
+    let high: Vec<i64> = low.iter().map(|x| (x + rng.between(0, width)).min(TICK_LIMIT)).collect();
+    let (bar, recent) = (low.len() - 1, low.len() - n);
+    let worst = [&high[..recent], &low[recent..]].concat();
+    let best = [&low[..recent], &high[recent..]].concat();
+    let between = low.iter().zip(&high).map(|(low, high)| rng.between(*low, *high)).collect();
+    let prices = |ticks: &[i64]| ticks.iter().map(|x| *x as f64).collect::<Vec<f64>>();
+    let signs = [worst, best, between, low.clone(), high.clone()]
+        .map(|series| pure::double_sma_positions(&prices(&series), n, m)[bar] as i64);
+    let call = function.call(vec![prices(&low), prices(&high)], [n, m].map(Value::Count).to_vec());
+    let cell = cells(function, &call).expect("ranges in order are answered")[0][bar] as i64;
+    let holds = if cell == 2 { signs[..2] == [-1, 1] } else { signs == [cell; 5] };
+    fact.check(holds, || format!("bar {bar}, windows {n} and {m}, cell {cell}, signs {signs:?}"));
 }
 
 fn one_average(rng: &mut Rng, function: &Function, fact: &mut Fact) {

@@ -4,7 +4,7 @@ use crate::call::{Call, Value};
 use crate::catalogue::{Function, Role};
 use crate::limits::{PERIOD_LIMIT, WINDOW_LIMIT};
 use crate::rng::Rng;
-use crate::series::{DAMAGED, bars, damage, series, within_limits};
+use crate::series::{DAMAGED, bars, damage, for_each, series, within_limits};
 
 pub const ODD_WINDOWS: &[usize] =
     &[0, WINDOW_LIMIT - 1, WINDOW_LIMIT, WINDOW_LIMIT + 1, 1 << 31, 1 << 32, 1 << 63, usize::MAX];
@@ -142,7 +142,7 @@ pub fn plain(rng: &mut Rng, function: &Function, len: usize, parameters: Vec<Val
     let series = if function.series.len() > 1 && rng.one_in(2) {
         bars(rng, function, len)
     } else {
-        function.series.iter().map(|_| series(rng, function.domain, len)).collect()
+        for_each(function, || series(rng, function.domain, len))
     };
     function.call(series, parameters)
 }

@@ -16,6 +16,7 @@ mod library;
 mod limits;
 mod nearly;
 mod published;
+mod ranges;
 mod record;
 mod restated;
 mod rng;

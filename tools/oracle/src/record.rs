@@ -7,6 +7,7 @@ use crate::edges::{closes, edge_values, modest, with_windows};
 use crate::generate::{self, plain};
 use crate::limits::{PERIOD_LIMIT, SERIES_LIMIT, WINDOW_LIMIT};
 use crate::published;
+use crate::ranges;
 use crate::rng::Rng;
 use crate::series::DAMAGED;
 use crate::source;
@@ -32,12 +33,13 @@ pub fn print() {
     calls.iter().flatten().for_each(|line| println!("{line}"));
 }
 
-/// The starred cases, a published table and each edge, a few calls of any kind, those with the close before bar 0, and
-/// calls of long series by rule.
+/// The starred cases, a published table, small ranges and each edge, a few calls of any kind, those with the close
+/// before bar 0, and calls of long series by rule.
 fn records(function: &'static Function) -> Vec<Vec<String>> {
     let mut rng = Rng::new(seed(function.name));
     let mut calls = starred(function);
     calls.extend(published::call(function));
+    calls.extend(ranges::cases(function));
     calls.extend(short_edges(&mut rng, function));
     let random = std::iter::repeat_with(|| generate::random(&mut rng, function));
     calls.extend(random.filter(|call| call.series.iter().all(|s| s.len() <= LONGEST)).take(RANDOM));
@@ -119,7 +121,7 @@ fn short_edges(rng: &mut Rng, function: &Function) -> Vec<Call> {
 /// all its means; the longest smoother period and one above it.
 fn long(function: &Function) -> Vec<Call> {
     let call = |bars: usize, parameters: Vec<Value>| {
-        let line = (0..function.series.len()).map(|place| by_rule(place, bars)).collect();
+        let line = (0..function.series.len()).map(|series| by_rule(rule_of(function, series), bars)).collect();
         function.call(line, parameters)
     };
     let mut calls: Vec<Call> = [SERIES_LIMIT, SERIES_LIMIT + 1].map(|bars| call(bars, modest(function))).into();
@@ -138,6 +140,11 @@ fn long(function: &Function) -> Vec<Call> {
         }
     }
     calls
+}
+
+/// By which rule a series that is not written out goes: both ends of ranges by one.
+fn rule_of(function: &Function, series: usize) -> usize {
+    if function.ranged { 0 } else { series }
 }
 
 /// The rule of a series that is not written out: from 1 to 10,007, each series a bar ahead of the one before it.
@@ -159,7 +166,7 @@ fn given(function: &Function, call: &Call, form: Form) -> Vec<String> {
         Form::WrittenOut => {
             format!("in f64 {}{}", series.len(), text(series.iter().map(|x| one_nan(Kind::F64, x.to_bits()))))
         }
-        Form::ByRule => format!("rule {} {place}", series.len()),
+        Form::ByRule => format!("rule {} {}", series.len(), rule_of(function, place)),
     });
     let parameters = call.parameters.iter().map(|value| match value {
         Value::Count(n) => format!("whole {n}"),

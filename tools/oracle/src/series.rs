@@ -197,6 +197,15 @@ pub fn bars(rng: &mut Rng, function: &Function, len: usize) -> Vec<Vec<f64>> {
     function.series.iter().map(line).collect()
 }
 
+/// A series made for each that a function takes; of ranges the lower value of each bar is the low.
+pub fn for_each(function: &Function, mut make: impl FnMut() -> Vec<f64>) -> Vec<Vec<f64>> {
+    let mut all: Vec<Vec<f64>> = function.series.iter().map(|_| make()).collect();
+    if let ([low, high], true) = (&mut all[..], function.ranged) {
+        low.iter_mut().zip(high).filter(|(low, high)| low > high).for_each(|(low, high)| std::mem::swap(low, high));
+    }
+    all
+}
+
 /// Puts one to three odd values into a series.
 pub fn damage(rng: &mut Rng, series: &mut [f64]) {
     for _ in 0..1 + rng.below(3) {

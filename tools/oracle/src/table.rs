@@ -1,4 +1,4 @@
-//! Document 01's table of refusals, read from the top, apart from the library.
+//! The table of refusals of documents 01 and 02, read from the top, apart from the library.
 
 use crate::call::{Answer, Call, Value};
 use crate::catalogue::{Domain, Function, Role};
@@ -29,6 +29,9 @@ pub fn answer(function: &Function, call: &Call) -> Answer {
     }
     if function.close_of(call).is_some_and(|close| !accepted(function.domain, close)) {
         return Answer::refused(5);
+    }
+    if function.ranged && call.series[0].iter().zip(&call.series[1]).any(|(low, high)| low > high) {
+        return Answer::refused(11);
     }
     if function.values(call, Role::is_f64_parameter).any(|x: f64| !x.is_finite()) {
         return Answer::refused(6);

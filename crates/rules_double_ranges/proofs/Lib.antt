@@ -1,0 +1,6 @@
+pub mod Bars
+pub mod Between
+pub mod Meaning
+pub mod Open
+pub mod Order
+pub mod Seam
