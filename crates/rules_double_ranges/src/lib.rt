@@ -63,13 +63,7 @@ fn cell_of(worst: bool, best: bool) -> i32
     requires { ⌜ Implies «worst» «best» ⌝ }
     ensures { λ r. ⌜ r ≡ picked «worst» «best» ⌝ }
 {
-    if worst {
-        1
-    } else if best {
-        2
-    } else {
-        -1
-    }
+    3 * (best as i32) - (worst as i32) - 1
 }
 
 // The cell of a bar, from the sums of the lows and of the highs.
