@@ -16,6 +16,16 @@ mul-if1-2 c =
     let back = up-parts (a .size) (a .n) (pre .window .some) .0 in
     record { fits = omega (arith, rw (← c .half-up .ensures) at back) }
 
+returns : tie.Need-returns
+returns c =
+    let up = c .before .half-up .ensures in
+    rw up (sym (tied _ _ (c .before .before .pre .window .some) (omega (arith, rw up at (c .if1 .taken)))))
+
+returns-2 : tie.Need-returns-2
+returns-2 c =
+    let up = c .before .half-up .ensures in
+    rw up (sym (untied _ _ (c .before .before .pre .window .some) (rw up at (c .if1 .left))))
+
 pub half-even-spec : {M : Type 1} → statement M
 half-even-spec =
     tie.close
@@ -26,8 +36,6 @@ half-even-spec =
     (λ c. search needs)  -- mul-if1-3
     (λ c. search needs)  -- add-if1
     (λ c. search needs)  -- sub-result
-    (λ c. let up = c .before .half-up .ensures in
-    rw up (sym (tied _ _ (c .before .before .pre .window .some) (rw up at (c .if1 .taken)))))  -- returns
-    (λ c. let up = c .before .half-up .ensures in
-    rw up (sym (untied _ _ (c .before .before .pre .window .some) (rw up at (c .if1 .left)))))  -- returns-2
+    returns
+    returns-2
     )
