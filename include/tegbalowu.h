@@ -88,8 +88,8 @@ tegbalowu_answer tegbalowu_exponential_smoothing(const double *series, size_t se
                                                  size_t out_len);
 
 /*
- * The mean of the last n whole ticks, rounded to a whole tick, half away from zero, from bar n-1
- * on; 0 before. Refusals 1, 3, 5, 7.
+ * The mean of the last n whole ticks, rounded to a whole tick, half to even, from bar n-1 on; 0
+ * before. Refusals 1, 3, 5, 7.
  */
 tegbalowu_answer tegbalowu_tick_mean(const double *series, size_t series_len, size_t n, int64_t *out, size_t out_len);
 

@@ -146,13 +146,13 @@ functions! {
     /// Refusals 1, 3, 5, 6.
     tegbalowu_exponential_smoothing exponential_smoothing(series: &[f64], alpha: f64, out: &mut [f64]);
 
-    /// The mean of the last `n` whole ticks, rounded to a whole tick, half away from zero, from bar n-1 on; 0 before.
+    /// The mean of the last `n` whole ticks, rounded to a whole tick, half to even, from bar n-1 on; 0 before.
     /// Refusals 1, 3, 5, 7.
     ///
     /// ```
     /// let mut out = [7; 2];
     /// assert_eq!(tegbalowu::tick_mean(&[2.0, 3.0], 2, &mut out), Ok(2));
-    /// assert_eq!(out, [0, 3]);
+    /// assert_eq!(out, [0, 2]);
     /// ```
     tegbalowu_tick_mean tick_mean(series: &[f64], n: usize, out: &mut [i64]);
 

@@ -1,3 +1,5 @@
+pub mod Even
+pub mod Nearest
 pub mod Share
 pub mod Whole
 pub mod Causal

@@ -1,10 +1,11 @@
 -- Whole numbers in an i64: a number of small size keeps its value there, and sizes of sums. Assumes nothing.
 use mathlib.Core.Path.{_≡_, refl}
 use mathlib.Core.Bool.{true, false}
-use Prim.Native.Nat.{ℕ, suc, _+_, _*_, _/_, _^_, _≤_}
+use Prim.Native.Nat.{ℕ, suc, _^_, _≤_}
 use native.Mathlib.Omega.{arith}
 use borrow.Author.Tests.{ltb-true}
 use lib.Dec.{T}
+use lib.Ieee.Nearest.{closest}
 use lib.IntN.{ℤ, pos, negsuc, negℤ, natAbs, _-ℤ_, +ℤ-idl}
 use lib.Signed.{ltZ, nonNeg}
 use mir.Syntax.{w64}
@@ -33,12 +34,12 @@ pub not-below : (z : ℤ) → ltZ z (pos 0) ≡ false → T (nonNeg z)
 not-below (pos n) e = tt
 not-below (negsuc n) e = let z : _≡_ {A = ℕ} 0 1 = cc in absurd (omega arith)
 
-pub tick-below : (z : ℤ) (n : ℕ) → ltZ z (pos 0) ≡ true → toTick z n ≡ negℤ (pos ((2 * natAbs z + n) / (2 * n)))
+pub tick-below : (z : ℤ) (n : ℕ) → ltZ z (pos 0) ≡ true → toTick z n ≡ negℤ (pos (closest (natAbs z) n))
 unfolding toTick
 tick-below (pos a) n e = let l = ltb-true a 0 e in absurd (omega arith)
 tick-below (negsuc a) n e = refl
 
-pub tick-above : (z : ℤ) (n : ℕ) → ltZ z (pos 0) ≡ false → toTick z n ≡ pos ((2 * natAbs z + n) / (2 * n))
+pub tick-above : (z : ℤ) (n : ℕ) → ltZ z (pos 0) ≡ false → toTick z n ≡ pos (closest (natAbs z) n)
 unfolding toTick
 tick-above (pos a) n e = refl
 tick-above (negsuc a) n e = let z : _≡_ {A = ℕ} 0 1 = cc in absurd (omega arith)

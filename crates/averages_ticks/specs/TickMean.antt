@@ -1,8 +1,9 @@
 -- tick_mean, our own: what it answers and writes, on whole numbers. Assumes nothing.
 use mathlib.Core.List.{List, [], _∷_}
-use Prim.Native.Nat.{ℕ, suc, _+_, _*_, _/_, _-_}
+use Prim.Native.Nat.{ℕ, suc, _+_, _-_}
 use lib.IntN.{ℤ, pos, negsuc, negℤ}
 use lib.Ieee.{toSigned, Float}
+use lib.Ieee.Nearest.{closest}
 use lib.ListN.{length}
 use Rattle.rounding.specs.Whole.{total}
 use Rattle.cells.specs.Line.{Line, fromBar, line}
@@ -11,10 +12,10 @@ use Rattle.calls.specs.Call.{Call}
 use Rattle.calls.specs.declared.Answer.{Answer}
 use Rattle.values.specs.Accepted.{tick}
 
--- z / n to a whole tick, half away from zero
+-- z / n to a whole tick, a half to the even one: its size is rounded by `closest`, as in every operation of IEEE 754
 unfoldable pub toTick : ℤ → ℕ → ℤ
-toTick (pos a) n = pos ((2 * a + n) / (2 * n))
-toTick (negsuc a) n = negℤ (pos ((2 * suc a + n) / (2 * n)))
+toTick (pos a) n = pos (closest a n)
+toTick (negsuc a) n = negℤ (pos (closest (suc a) n))
 
 -- ---- tick_mean, our own: on whole numbers
 

@@ -3,6 +3,7 @@ use calls::Answer;
 ghost use mathlib.Core.Path.{_≡_};
 ghost use Prim.Native.Nat.{_+_, _*_, _/_, _<_, _≤_};
 ghost use lib.IntN.{natAbs};
+ghost use lib.Ieee.Nearest.{closest};
 ghost use Rattle.averages_ticks.specs.TickMean.{toTick, tickMeanLine, TickMeanCall};
 ghost use Rattle.averages_ticks.specs.inner.Share.{shareOf, Shared};
 ghost use Rattle.limits.specs.Limits.{longestWindow};
@@ -33,6 +34,19 @@ fn half_up(size: usize, n: usize, share: usize) -> usize
     }
 }
 
+// size / n to a whole tick, a half to the even one.
+fn half_even(size: usize, n: usize, share: usize) -> usize
+    requires { ⌜ Shared size n share ⌝ }
+    ensures { λ r. ⌜ r ≡ closest size n ⌝ }
+{
+    let up = half_up(size, n, share);
+    if up * (2 * n) == 2 * size + n {
+        up - up % 2
+    } else {
+        up
+    }
+}
+
 // z without its sign.
 fn size_of(z: i64) -> usize
     requires { ⌜ natAbs z ≤ 68719476736 ⌝ }
@@ -41,12 +55,12 @@ fn size_of(z: i64) -> usize
     if z < 0 { (0 - z) as usize } else { z as usize }
 }
 
-// sum / n to a whole tick, a half away from zero.
+// sum / n to a whole tick, a half to the even one.
 pub fn to_tick(sum: i64, n: usize, share: usize) -> i64
     requires { ⌜ Shared (natAbs sum) n share ⌝ }
     ensures { λ r. ⌜ r ≡ toTick sum n ⌝ }
 {
-    let size = half_up(size_of(sum), n, share) as i64;
+    let size = half_even(size_of(sum), n, share) as i64;
     if sum < 0 { 0 - size } else { size }
 }
 

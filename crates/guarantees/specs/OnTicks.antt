@@ -20,11 +20,15 @@ use Rattle.rounding_laws.proofs.Quotient.{quotient, Whole, quotient-is, quotien
 use Rattle.limits.specs.Limits.{Window}
 use Rattle.calls.specs.declared.Answer.the-variants.{Cells}
 use Rattle.cells.specs.Line.{plusZero, line}
+use Rattle.cells.proofs.Line.{from-bar}
 use Rattle.rules_double.proofs.Open.{double-opened, double-room, double-whole}
 use Rattle.rules_double.specs.Double.{DoubleCall}
 use Rattle.exact_ticks.proofs.Exact.{window-whole, TickLine}
 use Rattle.averages.proofs.Ticks.{sma-exact}
 use Rattle.exact_ticks.proofs.Errors.{mean-of-means-about}
+use Rattle.averages_ticks.proofs.Nearest.{tick-nearest}
+use Rattle.averages_ticks.specs.Nearest.{NearestWhole}
+use Rattle.averages_ticks.specs.TickMean.{TickMeanCall, tickMeanLine}
 use Rattle.windows.specs.Window.{windowTotal, mean}
 use Rattle.guarantees.specs.Series.{WholeTicks, price}
 use Rattle.rules_double.proofs.Ticks.{double-exact}
@@ -37,7 +41,7 @@ use Rattle.exact_ticks.proofs.TickMeans.{tick-line}
 use Rattle.rules_middle.specs.Middle.{MidCall}
 use Rattle.rules_single.specs.Single.{SingleCall}
 use Rattle.values.proofs.All.{all-at}
-use Rattle.values.specs.Accepted.{accepted}
+use Rattle.values.specs.Accepted.{accepted, tick}
 
 -- the sum of the last n prices at bar i: its window sum
 abbrev pub windowSumOf : ℕ → List Float → ℕ → ℤ
@@ -148,3 +152,12 @@ module _ {s out₀ out₁ : List Float} (w : WholeTicks s) (n : ℕ) {k : ℕ} w
         let r = bar nan accepted s (n ∷ []) (length work₀ ∷ []) (c .call) i h in
         let M = r .each .0 .narrow in
         r .cell ∙ middle-exact (whole-ticks w) n (r .each .0 .some) (omega arith) i b (r .inside) x y z
+
+-- tick_mean, for every window: from bar n - 1 each cell is a whole number nearest to the mean of the last n prices;
+-- where another is as near it is even, and where no other is, it is what a half away from zero gives.
+pub tick-mean-on-ticks : (s : List Float) {out₀ out₁ : List ℤ} (n : ℕ) {k : ℕ} → TickMeanCall s n out₀ (Cells k) out₁
+    → (i : ℕ) → n ≤ i + 1 → i < k → NearestWhole (windowSumOf n s i) n (getD out₁ i (pos 0))
+unfolding tickMeanLine
+tick-mean-on-ticks s n c i b h =
+    let r = bar (pos 0) tick s (n ∷ []) [] c i h in
+    rw (r .cell, from-bar (n - 1) (pos 0) _ i (omega arith)) (tick-nearest (windowSumOf n s i) n (r .each .0 .some))

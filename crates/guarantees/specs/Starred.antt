@@ -85,7 +85,7 @@ table =
     ∷ star (bollReverse 2 oneHalf) (4 ∷ 4 ∷ 8 ∷ []) (integer (pos 0) ∷ integer (pos 0) ∷ integer (negsuc 0) ∷ [])
     ∷ star (ema 3) (2 ∷ 4 ∷ 6 ∷ 10 ∷ []) (number nan ∷ number nan ∷ float 4 ∷ float 7 ∷ [])
     ∷ star (holtWinters 1 oneHalf (num 0) (num 0)) (4 ∷ 6 ∷ []) (float 4 ∷ float 5 ∷ [])
-    ∷ star (tickMean 2) (2 ∷ 3 ∷ []) (integer (pos 0) ∷ integer (pos 3) ∷ [])
+    ∷ star (tickMean 2) (2 ∷ 3 ∷ []) (integer (pos 0) ∷ integer (pos 2) ∷ [])
     ∷ []
 
 -- ---- what a case says of the function's own contract

@@ -1,5 +1,7 @@
 //! Demand 3 of document 01 on whole ticks: what the library's cells must be by whole-number arithmetic alone.
 
+use std::fmt::Debug;
+
 use crate::call::{Call, Value};
 use crate::catalogue::{self, Function, Role};
 use crate::generate;
@@ -45,6 +47,7 @@ pub fn run(seeds: &[u64], series: usize) -> bool {
         ("single_sma_positions", "one average has the sign of n*n*price - D", one_average),
         ("double_sma_ranges", "ranges decide as the series inside do", ranges),
         ("mid_positions", "middle has the sign of 2S - (H + W)", middle),
+        ("tick_mean", "tick_mean is nearest the true mean, half to even", tick_mean),
     ];
     let mut good = true;
     for (function, name, promise) in promises {
@@ -68,12 +71,15 @@ fn cells(function: &Function, call: &Call) -> Option<Vec<Vec<u64>>> {
     (answer.refusal == 0 && answer.count == call.bars() as u64).then_some(cells)
 }
 
-fn of_ticks(function: &Function, ticks: &[i64], windows: &[usize]) -> Vec<f64> {
+fn words_of_ticks(function: &Function, ticks: &[i64], windows: &[usize]) -> Vec<u64> {
     assert!(ticks.iter().all(|x| x.abs() <= TICK_LIMIT), "ticks beyond what is promised");
     let series = ticks.iter().map(|x| *x as f64).collect();
     let call = function.call(vec![series], windows.iter().map(|n| Value::Count(*n)).collect());
-    let cells = cells(function, &call).expect("whole ticks and windows in range are answered");
-    cells[0].iter().map(|word| f64::from_bits(*word)).collect()
+    cells(function, &call).expect("whole ticks and windows in range are answered").remove(0)
+}
+
+fn of_ticks(function: &Function, ticks: &[i64], windows: &[usize]) -> Vec<f64> {
+    words_of_ticks(function, ticks, windows).into_iter().map(f64::from_bits).collect()
 }
 
 /// Ticks around a level: from all alike in size to a wide range, with room to shift each by twice the spread and a
@@ -93,7 +99,7 @@ fn window(rng: &mut Rng, limit: usize) -> usize {
 }
 
 /// A fact's words for a bar that breaks it.
-fn at(bar: usize, windows: &[usize], cell: f64, ticks: &[i64]) -> String {
+fn at(bar: usize, windows: &[usize], cell: impl Debug, ticks: &[i64]) -> String {
     format!("bar {bar}, windows {windows:?}, cell {cell:?}, last ticks {:?}", &ticks[bar.saturating_sub(8)..=bar])
 }
 
@@ -205,6 +211,29 @@ fn middle(rng: &mut Rng, function: &Function, fact: &mut Fact) {
             fact.check(cells[bar] == sign, || at(bar, &[n], cells[bar], &ticks));
         }
     }
+}
+
+/// Of even windows the last mean lies halfway between two ticks.
+fn tick_mean(rng: &mut Rng, function: &Function, fact: &mut Fact) {
+    let n = window(rng, WINDOW_LIMIT);
+    let extra = rng.below(60);
+    let mut ticks = ticks(rng, n + extra);
+    let sum: i64 = ticks[extra..].iter().sum();
+    ticks[n + extra - 1] += n as i64 / 2 - sum.rem_euclid(n as i64);
+    let cells = words_of_ticks(function, &ticks, &[n]);
+    for (sum, bar) in window_sums(&ticks, n).iter().zip(n - 1..) {
+        let cell = cells[bar] as i64;
+        fact.check(is_nearest_tick(cell, *sum, n), || at(bar, &[n], cell, &ticks));
+    }
+}
+
+/// Whether no whole number is nearer to sum / n than the cell, and of two as near it is the even one.
+fn is_nearest_tick(cell: i64, sum: i128, n: usize) -> bool {
+    let distance = |x: i64| (x as i128 * n as i128 - sum).abs();
+    [cell - 1, cell + 1].into_iter().all(|other| {
+        let (here, there) = (distance(cell), distance(other));
+        here < there || here == there && cell % 2 == 0
+    })
 }
 
 /// The functions of which document 01 says that they look ahead, or may start elsewhere when bars are added.

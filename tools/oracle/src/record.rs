@@ -5,12 +5,13 @@ use crate::call::{Call, Kind, Value};
 use crate::catalogue::{self, Function, Role};
 use crate::edges::{closes, edge_values, modest, with_windows};
 use crate::generate::{self, plain};
-use crate::limits::{PERIOD_LIMIT, SERIES_LIMIT, WINDOW_LIMIT};
+use crate::limits::{PERIOD_LIMIT, SERIES_LIMIT, TICK_LIMIT, WINDOW_LIMIT};
 use crate::published;
 use crate::ranges;
 use crate::rng::Rng;
 use crate::series::DAMAGED;
 use crate::source;
+use crate::ties::{LEVELS, halfway};
 
 /// The longest series that is written out.
 const LONGEST: usize = 60;
@@ -34,7 +35,7 @@ pub fn print() {
 }
 
 /// The starred cases, a published table, small ranges and each edge, a few calls of any kind, those with the close
-/// before bar 0, and calls of long series by rule.
+/// before bar 0, means halfway between ticks, and calls of long series by rule.
 fn records(function: &'static Function) -> Vec<Vec<String>> {
     let mut rng = Rng::new(seed(function.name));
     let mut calls = starred(function);
@@ -44,6 +45,7 @@ fn records(function: &'static Function) -> Vec<Vec<String>> {
     let random = std::iter::repeat_with(|| generate::random(&mut rng, function));
     calls.extend(random.filter(|call| call.series.iter().all(|s| s.len() <= LONGEST)).take(RANDOM));
     calls.extend(closes(&mut rng, function, LEN));
+    calls.extend(half_ticks(function));
     let short = calls.iter().map(|call| record(function, call, Form::WrittenOut));
     let long = long(function);
     short.chain(long.iter().map(|call| record(function, call, Form::ByRule))).collect()
@@ -68,7 +70,7 @@ fn starred(function: &Function) -> Vec<Call> {
         "boll_reverse_positions" => &[(&[4.0, 4.0, 8.0], &[Count(2), Real(0.5)], &[0.0, 0.0, -1.0])],
         "ema" => &[(&[2.0, 4.0, 6.0, 10.0], &[Count(3)], &[NAN, NAN, 4.0, 7.0])],
         "holt_winters" => &[(&[4.0, 6.0], &[Count(1), Real(0.5), Real(0.0), Real(0.0)], &[4.0, 5.0])],
-        "tick_mean" => &[(&[2.0, 3.0], &[Count(2)], &[0.0, 3.0])],
+        "tick_mean" => &[(&[2.0, 3.0], &[Count(2)], &[0.0, 2.0])],
         _ => &[],
     };
     let call = |(series, parameters, cells): &(&[f64], &[Value], &[f64])| {
@@ -115,6 +117,15 @@ fn short_edges(rng: &mut Rng, function: &Function) -> Vec<Call> {
         calls.push(call);
     }
     calls
+}
+
+/// Means of `tick_mean` halfway between two ticks: of short windows, and of the longest with the largest sums of both
+/// signs.
+fn half_ticks(function: &Function) -> Vec<Call> {
+    let short = [2, 4].into_iter().flat_map(|n| LEVELS.iter().map(move |level| (n, *level)));
+    let long = [-TICK_LIMIT, TICK_LIMIT - 1].map(|level| (WINDOW_LIMIT, level));
+    let cases = short.chain(long).filter(|_| function.name == "tick_mean");
+    cases.map(|(n, level)| halfway(function, n, n + 1, level, 0)).collect()
 }
 
 /// Calls of long series: the longest and one bar more; the longest window and one above it, on a series in which it has

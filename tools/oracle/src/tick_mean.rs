@@ -1,4 +1,6 @@
-//! Document 01's tick mean: the window's sum over n to a whole tick, half away from zero.
+//! Document 01's tick mean with document 02's rounding: the window's sum over n to a whole tick, half to even.
+
+use std::cmp::Ordering;
 
 /// The cell of every bar of a series of whole ticks, 0 before bar n-1; no cell for a window of 0.
 pub fn line(series: &[f64], n: usize) -> Vec<i64> {
@@ -14,8 +16,12 @@ pub fn line(series: &[f64], n: usize) -> Vec<i64> {
     cells
 }
 
-/// sum / n to a whole number, half away from zero.
+/// sum / n to a whole number, half to even: the one below or the one above.
 fn nearest(sum: i64, n: i64) -> i64 {
-    let (down, left) = (sum.abs() / n, sum.abs() % n);
-    sum.signum() * if 2 * left >= n { down + 1 } else { down }
+    let (below, left) = (sum.div_euclid(n), sum.rem_euclid(n));
+    match (2 * left).cmp(&n) {
+        Ordering::Less => below,
+        Ordering::Equal => below + below.rem_euclid(2),
+        Ordering::Greater => below + 1,
+    }
 }

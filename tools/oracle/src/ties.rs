@@ -3,7 +3,7 @@
 use crate::call::{Call, Value};
 use crate::catalogue::{Domain, Function, Line, Role};
 use crate::edges::with_windows;
-use crate::limits::WINDOW_LIMIT;
+use crate::limits::{TICK_LIMIT, WINDOW_LIMIT};
 use crate::nearly::nearly_averaged;
 use crate::rng::Rng;
 use crate::series::{series, within_limits};
@@ -18,6 +18,9 @@ pub fn ties(rng: &mut Rng, function: &Function, calls: &mut Vec<Call>) {
     }
     if function.name == "rank_positions" {
         half_ranks(function, calls);
+    }
+    if function.name == "tick_mean" {
+        half_ticks(function, calls);
     }
     if function.series.len() == 1 && (function.name.ends_with("_positions") || function.name == "rolling_rank") {
         at_changes(rng, function, calls);
@@ -92,6 +95,26 @@ fn half_ranks(function: &Function, calls: &mut Vec<Call>) {
         let last = below as f64 - (n - 2) as f64;
         let series = [vec![0.0; n], vec![1.0; n - 2], vec![last, 2.0, 0.5]].concat();
         calls.push(function.call(vec![series], with_windows(function, n)));
+    }
+}
+
+/// The lower of two neighbouring ticks: of both signs, to the largest.
+pub const LEVELS: &[i64] = &[-TICK_LIMIT, 1 - TICK_LIMIT, -4, -3, -2, -1, 0, 1, 2, 3, TICK_LIMIT - 2, TICK_LIMIT - 1];
+
+/// Two neighbouring ticks by turns, so that the mean of an even number of bars lies halfway between them; one bar is by
+/// so much more.
+pub fn halfway(function: &Function, n: usize, bars: usize, level: i64, more: i64) -> Call {
+    let mut ticks: Vec<i64> = (0..bars as i64).map(|bar| level + bar % 2).collect();
+    ticks[bars / 2] = (ticks[bars / 2] + more).clamp(-TICK_LIMIT, TICK_LIMIT);
+    function.call(vec![ticks.iter().map(|x| *x as f64).collect()], with_windows(function, n))
+}
+
+/// Means halfway between two ticks, and a tick beside that in the sum.
+fn half_ticks(function: &Function, calls: &mut Vec<Call>) {
+    for n in [2, 4, 6, 10, 60, 250, WINDOW_LIMIT] {
+        for level in LEVELS {
+            calls.extend([0, 1, -1].map(|more| halfway(function, n, 2 * n + 3, *level, more)));
+        }
     }
 }
 
