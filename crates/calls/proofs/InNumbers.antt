@@ -13,6 +13,9 @@ use Rattle.calls.specs.declared.Refusal.the-variants.{
   WindowTooLong,
   SeriesTooShort,
   WindowsOutOfOrder,
+  CoveredTwice,
+  NotCovered,
+  PositionUnknown,
 }
 use Rattle.calls.specs.declared.Answer.{Answer}
 use Rattle.calls.specs.declared.Answer.the-variants.{Cells, Refused}
@@ -34,6 +37,9 @@ numbered ParameterNotFinite e = omega arith
 numbered WindowTooLong e = omega arith
 numbered SeriesTooShort e = omega arith
 numbered WindowsOutOfOrder e = omega arith
+numbered CoveredTwice e = omega arith
+numbered NotCovered e = omega arith
+numbered PositionUnknown e = omega arith
 
 answered-with : (a : Answer) → refusalOf a ≡ 0 → a ≡ Cells (countOf a)
 answered-with (Cells k) e = refl

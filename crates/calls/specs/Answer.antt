@@ -16,6 +16,9 @@ use Rattle.calls.specs.declared.Refusal.the-variants.{
   WindowTooLong,
   SeriesTooShort,
   WindowsOutOfOrder,
+  CoveredTwice,
+  NotCovered,
+  PositionUnknown,
 }
 use Rattle.calls.specs.declared.Answer.{Answer}
 use Rattle.calls.specs.declared.Answer.the-variants.{Cells, Refused}
@@ -33,6 +36,9 @@ number ParameterNotFinite = 6
 number WindowTooLong = 7
 number SeriesTooShort = 8
 number WindowsOutOfOrder = 9
+number CoveredTwice = 12
+number NotCovered = 13
+number PositionUnknown = 14
 
 -- the number of the refusal, 0 where there is none
 abbrev pub refusalOf : Answer → ℕ

@@ -15,6 +15,9 @@ pub enum Refusal {
     WindowTooLong,
     SeriesTooShort,
     WindowsOutOfOrder,
+    CoveredTwice,
+    NotCovered,
+    PositionUnknown,
 }
 
 pub enum Answer {
@@ -36,6 +39,9 @@ pub fn number_of(reason: Refusal) -> u64
         Refusal::WindowTooLong => 7,
         Refusal::SeriesTooShort => 8,
         Refusal::WindowsOutOfOrder => 9,
+        Refusal::CoveredTwice => 12,
+        Refusal::NotCovered => 13,
+        Refusal::PositionUnknown => 14,
     }
 }
 
