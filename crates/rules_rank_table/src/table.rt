@@ -3,12 +3,12 @@
 use calls::Answer;
 use calls::Refusal;
 ghost use mathlib.Core.Path.{_≡_};
-ghost use Prim.Native.Nat.{_/_, _<_, min};
-ghost use lib.Dec.{leb};
+ghost use Prim.Native.Nat.{_/_, _≤_, min};
+ghost use lib.IntN.{pos, _-ℤ_};
 ghost use lib.ListN.{length};
 ghost use Rattle.values.specs.Accepted.{all};
-ghost use Rattle.rules_rank_table.specs.Table.{Row, rowsRead, covers, coverCount, everyRank, isPosition};
-ghost use Rattle.rules_rank_table.specs.Table.{tableChecked, positionFor};
+ghost use Rattle.rules_rank_table.specs.Table.{rowsRead, covers, coverCount, isPosition, tableChecked};
+ghost use Rattle.rules_rank_table.specs.Table.{positionFor};
 ghost use Rattle.rules_rank_table.specs.Taken.{IsRead};
 ghost use Rattle.rules_rank_table.specs.inner.Stages.{rowAt, Counted};
 
@@ -48,6 +48,14 @@ pub fn cover_count(rows: &[i32], k: i32) -> usize
     count
 }
 
+// The number that stands at j where they are counted from -100 on.
+pub fn number_at(j: usize) -> i32
+    requires { ⌜ j ≤ 200 ⌝ }
+    ensures { λ k. ⌜ k ≡ pos j -ℤ pos 100 ⌝ }
+{
+    (j as i32) - 100
+}
+
 // How often the numbers from -100 to 100 are covered.
 pub fn count_covers(rows: &[i32]) -> Coverage
     ensures { λ c. ⌜ Counted (rowsRead (now (rows .entry))) 201 (c .once) (c .some) ⌝ }
@@ -56,7 +64,7 @@ pub fn count_covers(rows: &[i32]) -> Coverage
     let mut some = true;
     let mut j = 0;
     while j < 201 {
-        let count = cover_count(rows, (j as i32) - 100);
+        let count = cover_count(rows, number_at(j));
         once = once & (count <= 1);
         some = some & (count >= 1);
         j += 1;

@@ -1,0 +1,7 @@
+pub mod Causal
+pub mod Complete
+pub mod Known
+pub mod Open
+pub mod Picked
+pub mod Ranks
+pub mod RowsRead
