@@ -8,6 +8,7 @@ pub mod NoLookAhead
 pub mod OnTicks
 pub mod Positions
 pub mod RankPlace
+pub mod RankTable
 pub mod Series
 pub mod Starred
 pub mod WholeCells

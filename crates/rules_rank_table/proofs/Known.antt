@@ -36,7 +36,7 @@ is-position (inr (inr e)) = rw e
 
 -- ---- the positions that a table gives
 
-either : (t : Bool) (y z : ℤ) → isPosition y ≡ true → isPosition z ≡ true → isPosition (cond t y z) ≡ true
+pub either : (t : Bool) (y z : ℤ) → isPosition y ≡ true → isPosition z ≡ true → isPosition (cond t y z) ≡ true
 either true y z p q = p
 either false y z p q = q
 

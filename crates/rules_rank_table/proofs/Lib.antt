@@ -1,3 +1,4 @@
+pub mod ByRow
 pub mod Causal
 pub mod Complete
 pub mod Known

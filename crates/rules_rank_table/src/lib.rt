@@ -15,15 +15,16 @@ ghost use Rattle.rules_rank_table.specs.Table.{rowsRead};
 ghost use Rattle.rules_rank_table.specs.RankTable.{rankTableLine, rankTableAnswer};
 ghost use Rattle.rules_rank_table.specs.inner.Stages.{Known, TableRows};
 
-// The answer of `rank_table_positions`.
+// The answer of `rank_table_positions`. The table is looked at where there are cells to write.
 pub fn answer_rank_table(series: &[f64], n: usize, rows: &[i32], out: usize, work: usize) -> Answer
     ensures { λ r. ⌜ r ≡ rankTableAnswer (now (series .entry)) n (now (rows .entry)) out work ⌝ }
 {
-    let bars = series.len();
-    let due = checks::check_with_work(series, out, work);
-    let table = table::check_table(rows, Answer::Cells(bars));
-    let next = checks::check_window(bars, n, table);
-    checks::and_then(due, next)
+    let due = checks::answer_window_with_work(series, n, out, work);
+    if calls::has_cells(due) {
+        table::check_table(rows, due)
+    } else {
+        due
+    }
 }
 
 // Writes each bar's position: a count of means picks it. The rows of `work` are the means and the positions.

@@ -16,6 +16,7 @@ mod library;
 mod limits;
 mod nearly;
 mod published;
+mod rank_table;
 mod record;
 mod restated;
 mod rng;

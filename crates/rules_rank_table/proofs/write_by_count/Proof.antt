@@ -37,8 +37,8 @@ loop-again c =
     let at = c .before .before .before .before .before in
     let pre = at .before .before .before .before .before .before .pre in
     let position = picked (pre .0) (at .loop .i) (c .before .before .count-below .ensures) (omega arith) in
-    let same = toZ-ofZ w32 _ (record { sfits = toSigned-in 31 _ }) in
-    (omega arith, omega arith, one-more (at .loop .inv .2) (same ∙ position) (omega arith))
+    let cell = toZ-ofZ w32 _ (record { sfits = toSigned-in 31 _ }) ∙ position in
+    (omega arith, omega arith, one-more (at .loop .inv .2) cell (omega arith))
 
 returns : tie.Need-returns Inv-loop μ-loop
 returns c =
