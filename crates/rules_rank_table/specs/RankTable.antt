@@ -23,7 +23,6 @@ rankNumber c m = toSigned 31 (wholeRank c m)
 
 -- its position: that of the row that covers it, and flat where the rank is NaN, which is not looked up
 unfoldable pub tablePosition : List Row → ℕ → ℕ → ℤ
-unfolding isNan
 tablePosition rows c m = cond (isNan (wholeRank c m)) flat (positionFor (rankNumber c m) rows)
 
 -- the position of the mean's rank among the last n means, from bar 2n - 2 on

@@ -1,5 +1,4 @@
--- A desk's rank table: which whole hundredths of rank mean long, short and flat. Document 02 calls -1, 0 and 1
--- positions, and so does this. Assumes nothing.
+-- A desk's rank table: which whole hundredths of rank mean long, short and flat. Assumes nothing.
 use mathlib.Core.Bool.{Bool, cond, _&&_}
 use mathlib.Core.List.{List, [], _∷_}
 use Prim.Native.Nat.{ℕ, zero, suc}
@@ -51,7 +50,6 @@ isPosition p = leZ short p && leZ p long
 -- Refusal 12 where a number from -100 to 100 is covered twice, 13 where one is not covered, 14 for a position other than
 -- -1, 0 and 1, also of a row that covers nothing; then what is next.
 unfoldable pub tableChecked : List Row → Answer → Answer
-unfolding coverCount everyBar
 tableChecked rows next =
     unless (everyRank (λ k. leb (coverCount k rows) 1)) CoveredTwice
     (unless (everyRank (λ k. leb 1 (coverCount k rows))) NotCovered
