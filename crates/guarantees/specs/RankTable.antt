@@ -1,6 +1,6 @@
 -- The rank table: which tables are taken, and what is written where one is. `Rattle.rules_rank_table.specs.Taken` says
 -- what a row read is and what it covers. Assumes nothing.
-use mathlib.Core.Path.{_≡_, sym}
+use mathlib.Core.Path.{_≡_}
 use mathlib.Core.List.{List, [], _∷_}
 use Prim.Native.Nat.{ℕ, _-_, _*_, _<_, _≤_}
 use native.Mathlib.Omega.{arith}

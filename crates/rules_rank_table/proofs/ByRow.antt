@@ -1,7 +1,6 @@
 -- What is written where a table is taken: the position of the one row that covers the rank. And where a call is open,
 -- its answer is the table's. Assumes nothing.
 use mathlib.Core.Path.{_≡_, refl, sym, _∙_}
-use mathlib.Core.Bool.{true}
 use mathlib.Core.List.{List, [], _∷_}
 use Prim.Native.Nat.{ℕ, _+_, _-_, _*_, _<_, _≤_}
 use native.Mathlib.Omega.{arith}
@@ -24,8 +23,8 @@ use Rattle.calls.specs.Answer.{refusalOf, countOf, checked, windowed}
 use Rattle.calls.proofs.InNumbers.{accepted-call}
 use Rattle.rules_held.specs.Held.{flat}
 use Rattle.rules_rank.specs.Rank.{belowNow}
-use Rattle.rules_rank_table.specs.Table.{Row, rowsRead, isPosition, tableChecked}
-use Rattle.rules_rank_table.specs.RankTable.{rankNumber, tablePosition, rankTableLine, rankTableAnswer}
+use Rattle.rules_rank_table.specs.Table.{Row, rowsRead, tableChecked}
+use Rattle.rules_rank_table.specs.RankTable.{rankNumber, rankTableLine, rankTableAnswer}
 use Rattle.rules_rank_table.specs.Taken.{positionAt, CoveredOnce, Complete}
 use Rattle.rules_rank_table.specs.inner.Stages.{Known, Looked}
 use Rattle.rules_rank_table.proofs.Complete.{once, once-position, passed-count, passed-complete, complete-taken}

@@ -1,8 +1,8 @@
 -- A table is taken exactly if it is complete: counts of rows, and rows by their numbers in the slice. Assumes nothing.
-use mathlib.Core.Path.{_≡_, refl, sym, ap, _∙_}
-use mathlib.Core.Bool.{Bool, true, false, cond, _&&_, true≢false}
+use mathlib.Core.Path.{_≡_, refl, sym}
+use mathlib.Core.Bool.{Bool, true, false, cond}
 use mathlib.Core.List.{List, [], _∷_}
-use Prim.Native.Nat.{ℕ, zero, suc, _+_, _-_, _*_, _/_, _<_, _≤_, min}
+use Prim.Native.Nat.{ℕ, zero, suc, _+_, _-_, _/_, _<_, _≤_, min}
 use native.Mathlib.Nat.{not-suc-le-zero, le-of-suc-le-suc}
 use native.Mathlib.Omega.{arith}
 use borrow.Author.Tests.{leb-true, leb-false, le-leb, lt-ltb, le-ltb}
@@ -13,12 +13,11 @@ use lib.Signed.{leZ, _≤ℤ_}
 use Rattle.values.specs.Accepted.{all}
 use Rattle.values.proofs.All.{and-parts}
 use Rattle.cells.specs.Search.{everyBar}
-use Rattle.rules_held.specs.Held.{flat}
 use Rattle.calls.specs.declared.Answer.{Answer}
 use Rattle.rules_rank_table.specs.Table.{Row, rowsRead, covers, coverCount, isPosition, tableChecked, positionFor}
-use Rattle.rules_rank_table.specs.Taken.{IsRead, fromAt, toAt, positionAt, Covers, CoveredOnce, Complete}
-use Rattle.rules_rank_table.specs.inner.Stages.{rowAt, Counted, Known}
-use Rattle.rules_rank_table.proofs.Known.{OneOfThree, one-of-three, is-position}
+use Rattle.rules_rank_table.specs.Taken.{fromAt, toAt, positionAt, Covers, CoveredOnce, Complete}
+use Rattle.rules_rank_table.specs.inner.Stages.{rowAt}
+use Rattle.rules_rank_table.proofs.Known.{one-of-three, is-position}
 use Rattle.rules_rank_table.proofs.Open.{Passed}
 use Rattle.rules_rank_table.proofs.RowsRead.{rows-long, row-is}
 

@@ -1,5 +1,5 @@
 -- A bar's position from what the stages before it wrote. Assumes nothing.
-use mathlib.Core.Path.{_≡_, refl, sym, ap, _∙_}
+use mathlib.Core.Path.{_≡_, sym, _∙_}
 use mathlib.Core.List.{List}
 use Prim.Native.Nat.{ℕ, zero, suc, _+_, _-_, _*_, _<_, _≤_}
 use native.Mathlib.Omega.{arith}
@@ -8,7 +8,7 @@ use lib.IntN.{ℤ}
 use lib.ListN.{length}
 use lib.Ieee.{Float, nan, binary64, round, sub, mul, div, ofInt, inSigned, toSigned, isNan}
 use Rattle.rounding.specs.Leaves.{roundToWhole}
-use Rattle.cells.specs.Line.{Line, line, fromBar}
+use Rattle.cells.specs.Line.{Line, line}
 use Rattle.cells.proofs.Line.{from-bar, before-bar}
 use Rattle.cells.specs.Written.{Writing}
 use Rattle.cells.specs.inner.Leads.{Led}

@@ -1,13 +1,13 @@
 -- The rows that are read, by their numbers in the slice, and what the loops over them keep. Assumes nothing.
-use mathlib.Core.Path.{_≡_, refl, sym, ap, _∙_}
+use mathlib.Core.Path.{_≡_, refl, sym, _∙_}
 use mathlib.Core.List.{List, [], _∷_}
 use Prim.Native.Nat.{ℕ, zero, suc, _+_, _-_, _*_, _/_, _<_, _≤_, min}
 use native.Mathlib.Omega.{arith}
-use lib.IntN.{ℤ, pos}
+use lib.IntN.{ℤ}
 use lib.ListN.{length, getD, drop, drop-of-length-le}
 use lib.Seq.{drop-cons}
 use Rattle.rules_rank_table.specs.Table.{Row, firstRows, rowsRead}
-use Rattle.rules_rank_table.specs.Taken.{IsRead, fromAt, toAt, positionAt}
+use Rattle.rules_rank_table.specs.Taken.{IsRead}
 use Rattle.rules_rank_table.specs.inner.Stages.{rowAt}
 
 -- ---- the list and the slice

@@ -1,10 +1,8 @@
 -- rank_table_positions at small series and tables, computed from the definition. Assumes nothing.
 use mathlib.Core.Path.{_≡_, refl}
-use mathlib.Core.Bool.{true, false}
 use mathlib.Core.List.{List, [], _∷_, _++_, map}
 use Prim.Native.Nat.{ℕ, zero, suc, _-_, _^_}
-use lib.IntN.{ℤ, pos, negsuc, negℤ, _-ℤ_}
-use lib.ListN.{length}
+use lib.IntN.{ℤ, pos, negsuc}
 use lib.Ieee.{round, add, sub, mul, div, lt, eq, le, ofInt, ofBits, toBits, toSigned, isNan}
 use Rattle.limits.specs.Limits.{longestWindow}
 use Rattle.calls.specs.declared.Refusal.the-variants.{WindowTooLong, CoveredTwice, NotCovered, PositionUnknown}
@@ -80,11 +78,12 @@ unfolding tableChecked rowsRead coverCount everyBar
 sixteen-rows = refl
 
 -- one bar and no row: n 1 looks at the table, n 0 does not, and a window too long is refused before it; no bars
-rank-table-answers : map (λ n. rankTableAnswer (prices (pos 5 ∷ [])) n [] 1 8) (1 ∷ 0 ∷ longestWindow ∷ suc longestWindow ∷ [])
+rank-table-answers : map (λ n. rankTableAnswer (prices (pos 5 ∷ [])) n [] 1 8)
+    (1 ∷ 0 ∷ longestWindow ∷ suc longestWindow ∷ [])
     ++ rankTableAnswer (prices (pos 5 ∷ [])) 1 halves 1 8
     ∷ rankTableAnswer [] 1 [] 0 0
     ∷ []
     ≡ Refused NotCovered ∷ Cells 0 ∷ Refused NotCovered ∷ Refused WindowTooLong ∷ Cells 1 ∷ Cells 0 ∷ []
-unfolding rankTableAnswer tableChecked rowsRead coverCount everyBar slices checked windowed accepted ofInt round lt eq le
-    toBits
+unfolding rankTableAnswer tableChecked rowsRead coverCount everyBar slices checked windowed accepted ofInt round
+    lt eq le toBits
 rank-table-answers = refl

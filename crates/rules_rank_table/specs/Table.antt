@@ -3,7 +3,7 @@ use mathlib.Core.Bool.{Bool, cond, _&&_}
 use mathlib.Core.List.{List, [], _∷_}
 use Prim.Native.Nat.{ℕ, zero, suc}
 use lib.Dec.{leb}
-use lib.IntN.{ℤ, pos, negsuc, _-ℤ_}
+use lib.IntN.{ℤ, pos, _-ℤ_}
 use lib.Signed.{leZ}
 use Rattle.values.specs.Accepted.{all}
 use Rattle.cells.specs.Search.{everyBar}
@@ -47,8 +47,8 @@ everyRank test = everyBar (λ j. test (pos j -ℤ pos 100)) 201
 abbrev pub isPosition : ℤ → Bool
 isPosition p = leZ short p && leZ p long
 
--- Refusal 12 where a number from -100 to 100 is covered twice, 13 where one is not covered, 14 for a position other than
--- -1, 0 and 1, also of a row that covers nothing; then what is next.
+-- Refusal 12 where a number from -100 to 100 is covered twice, 13 where one is not covered, 14 for a position other
+-- than -1, 0 and 1, also of a row that covers nothing; then what is next.
 unfoldable pub tableChecked : List Row → Answer → Answer
 tableChecked rows next =
     unless (everyRank (λ k. leb (coverCount k rows) 1)) CoveredTwice

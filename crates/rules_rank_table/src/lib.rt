@@ -1,5 +1,5 @@
-// Positions by a desk's rank table: the table (`table`), ranks looked up in it (`lookup`), the answer, and how the cells
-// are written.
+// Positions by a desk's rank table: the table (`table`), ranks looked up in it (`lookup`), the answer, and how the
+// cells are written.
 mod lookup;
 mod table;
 

@@ -1,10 +1,7 @@
 // Ranks looked up in the table, one for each number of means below.
 ghost use mathlib.Core.Path.{_≡_};
 ghost use Prim.Native.Nat.{_-_, _<_, _≤_};
-ghost use lib.IntN.{ℤ};
 ghost use lib.ListN.{length};
-ghost use lib.Ieee.{binary64, ofInt};
-ghost use Rattle.limits.specs.Limits.{longestWindow};
 ghost use Rattle.cells.specs.Written.{Writing};
 ghost use Rattle.rules_rank_table.specs.Table.{rowsRead};
 ghost use Rattle.rules_rank_table.specs.RankTable.{tablePosition};

@@ -5,7 +5,6 @@ use calls::Refusal;
 ghost use mathlib.Core.Path.{_≡_};
 ghost use Prim.Native.Nat.{_/_, _≤_, min};
 ghost use lib.IntN.{pos, _-ℤ_};
-ghost use lib.ListN.{length};
 ghost use Rattle.values.specs.Accepted.{all};
 ghost use Rattle.rules_rank_table.specs.Table.{rowsRead, covers, coverCount, isPosition, tableChecked};
 ghost use Rattle.rules_rank_table.specs.Table.{positionFor};
