@@ -26,6 +26,9 @@
  *      length + 1
  *   9  double_sma_positions and double_sma_ranges: n not below m; triple_sma_positions: not
  *      m1 < m2 < m3
+ *  12  rank_table_positions: a number from -100 to 100 that two rows cover
+ *  13  rank_table_positions: a number from -100 to 100 that no row covers
+ *  14  rank_table_positions: a position other than -1, 0 and 1
  *
  * Accepted are finite values of magnitude at most 1,073,741,824, other than -0.0. A whole tick is an
  * accepted value without a fraction, of magnitude at most 16,777,216.
@@ -262,6 +265,18 @@ tegbalowu_answer tegbalowu_mms_positions(const double *series, size_t series_len
  */
 tegbalowu_answer tegbalowu_rank_positions(const double *series, size_t series_len, size_t n, double *out,
                                           size_t out_len, double *work, size_t work_len);
+
+/*
+ * Each rank of rank_positions looked up in a table. rows is flat, three numbers a row: from, to and a
+ * position. The first 16 rows are read; the others, and one or two numbers left over, are not looked
+ * at. A row covers the whole hundredths of rank from the first to the second of its numbers, both
+ * included, and nothing where the first exceeds the second. From bar 2n-2 on the cell is the position
+ * of the row that covers the rank; 0 before, and at every bar where n is 1, whose rank is NaN. The
+ * table is not looked at where the answer is empty. Refusals 1, 3, 4, 5, 7, 12, 13, 14.
+ */
+tegbalowu_answer tegbalowu_rank_table_positions(const double *series, size_t series_len, size_t n, const int32_t *rows,
+                                                size_t rows_len, int32_t *out, size_t out_len, double *work,
+                                                size_t work_len);
 
 /*
  * Bollinger's bands of the means of n prices, from bar 2n-2 on: +1 where the mean is above the

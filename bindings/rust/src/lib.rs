@@ -329,6 +329,24 @@ functions! {
     /// ```
     tegbalowu_rank_positions rank_positions(series: &[f64], n: usize, out: &mut [f64], work: &mut [f64]);
 
+    /// Each rank of [`rank_positions`] looked up in a table. `rows` has three numbers a row: from, to and a position.
+    /// The first 16 rows are read; the others, and one or two numbers left over, are not looked at. A row covers the
+    /// whole hundredths of rank from its first to its second number, both included, and nothing where the first exceeds
+    /// the second. From bar 2n-2 on the cell is the position of the row that covers the rank; 0 before, and at every
+    /// bar where n is 1, whose rank is NaN. The table is not looked at where the answer is empty.
+    /// Refusals 1, 3, 4, 5, 7, 12, 13, 14.
+    ///
+    /// ```
+    /// let rows = [-100, -1, -1, 0, 100, 1];
+    /// let mut out = [9; 3];
+    /// let mut work = tegbalowu::work_for(3);
+    /// assert_eq!(tegbalowu::rank_table_positions(&[3.0, 1.0, 2.0], 2, &rows, &mut out, &mut work), Ok(3));
+    /// assert_eq!(out, [0, 0, -1]);
+    /// ```
+    tegbalowu_rank_table_positions rank_table_positions(
+        series: &[f64], n: usize, rows: &[i32], out: &mut [i32], work: &mut [f64]
+    );
+
     /// Rolling rank: the place, from 1, in the sorted window of the first value less than 1e-8 away from the present
     /// one, from bar window-1 on; 0 before. A window of 0 gives 0 at every bar. Refusals 1, 3, 4, 5, 7.
     ///

@@ -72,6 +72,9 @@ refusals! {
         "`triple_sma_positions`: m3 above the series' length; `ultimate_channel`: a period above that length + 1",
     WindowsOutOfOrder = 9:
         "`double_sma_positions` and `double_sma_ranges`: n not below m; `triple_sma_positions`: not m1 < m2 < m3",
+    CoveredTwice = 12: "`rank_table_positions`: a number from -100 to 100 that two rows cover",
+    NotCovered = 13: "`rank_table_positions`: a number from -100 to 100 that no row covers",
+    PositionUnknown = 14: "`rank_table_positions`: a position other than -1, 0 and 1",
 }
 
 impl Error for Refusal {}

@@ -14,6 +14,9 @@ use Rattle.calls.specs.declared.Refusal.the-variants.{
   SeriesTooShort,
   WindowsOutOfOrder,
   LowAboveHigh,
+  CoveredTwice,
+  NotCovered,
+  PositionUnknown,
 }
 use Rattle.calls.specs.declared.Answer.{Answer}
 use Rattle.calls.specs.declared.Answer.the-variants.{Cells, Refused}
@@ -36,6 +39,9 @@ numbered WindowTooLong e = omega arith
 numbered SeriesTooShort e = omega arith
 numbered WindowsOutOfOrder e = omega arith
 numbered LowAboveHigh e = omega arith
+numbered CoveredTwice e = omega arith
+numbered NotCovered e = omega arith
+numbered PositionUnknown e = omega arith
 
 answered-with : (a : Answer) → refusalOf a ≡ 0 → a ≡ Cells (countOf a)
 answered-with (Cells k) e = refl

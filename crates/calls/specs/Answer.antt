@@ -18,6 +18,9 @@ use Rattle.calls.specs.declared.Refusal.the-variants.{
   SeriesTooShort,
   WindowsOutOfOrder,
   LowAboveHigh,
+  CoveredTwice,
+  NotCovered,
+  PositionUnknown,
 }
 use Rattle.calls.specs.declared.Answer.{Answer}
 use Rattle.calls.specs.declared.Answer.the-variants.{Cells, Refused}
@@ -38,6 +41,9 @@ number WindowTooLong = 7
 number SeriesTooShort = 8
 number WindowsOutOfOrder = 9
 number LowAboveHigh = 11
+number CoveredTwice = 12
+number NotCovered = 13
+number PositionUnknown = 14
 
 -- the number of the refusal, 0 where there is none
 abbrev pub refusalOf : Answer → ℕ

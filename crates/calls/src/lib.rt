@@ -16,6 +16,9 @@ pub enum Refusal {
     SeriesTooShort,
     WindowsOutOfOrder,
     LowAboveHigh,
+    CoveredTwice,
+    NotCovered,
+    PositionUnknown,
 }
 
 pub enum Answer {
@@ -38,6 +41,9 @@ pub fn number_of(reason: Refusal) -> u64
         Refusal::SeriesTooShort => 8,
         Refusal::WindowsOutOfOrder => 9,
         Refusal::LowAboveHigh => 11,
+        Refusal::CoveredTwice => 12,
+        Refusal::NotCovered => 13,
+        Refusal::PositionUnknown => 14,
     }
 }
 

@@ -26,6 +26,7 @@ ghost use Rattle.rules_ema.specs.SingleEma.{SingleEmaCall};
 ghost use Rattle.rules_mms.specs.Mms.{MmsCall};
 ghost use Rattle.rules_rank.specs.Rank.{RankCall};
 ghost use Rattle.rules_rank.specs.RollingRank.{RollingRankCall};
+ghost use Rattle.rules_rank_table.specs.RankTable.{RankTableCall};
 ghost use Rattle.rules_triple.specs.Triple.{TripleCall};
 ghost use Rattle.sheet_text.specs.SheetText.{SheetCall};
 
@@ -353,6 +354,20 @@ pub extern "C" fn tegbalowu_rank_positions(
         (now (out .exit)) (now (work .exit))) r ⌝ }
 {
     calls::numbers::numbers(rules::rank_positions(series, n, out, work))
+}
+
+#[no_mangle]
+pub extern "C" fn tegbalowu_rank_table_positions(
+    series: &[f64],
+    n: usize,
+    rows: &[i32],
+    out: &mut [i32],
+    work: &mut [f64],
+) -> CAnswer
+    ensures { λ r. ⌜ InNumbers (λ a. RankTableCall (now (series .entry)) n (now (rows .entry)) (now (out .entry))
+        (now (work .entry)) a (now (out .exit)) (now (work .exit))) r ⌝ }
+{
+    calls::numbers::numbers(rules::rank_table_positions(series, n, rows, out, work))
 }
 
 #[no_mangle]

@@ -9,6 +9,7 @@ pub mod OnTicks
 pub mod Positions
 pub mod Ranges
 pub mod RankPlace
+pub mod RankTable
 pub mod Series
 pub mod Starred
 pub mod WholeCells

@@ -66,6 +66,10 @@ use Rattle.rules_rank.proofs.Causal.{causal-rank}
 use Rattle.rules_rank.specs.Rank.{RankCall}
 use Rattle.rules_rank.proofs.CausalRolling.{causal-rolling-rank}
 use Rattle.rules_rank.specs.RollingRank.{RollingRankCall, rollingRankAnswer}
+use Rattle.rules_rank_table.proofs.Causal.{causal-rank-table}
+use Rattle.rules_rank_table.proofs.Open.{rank-table-opened}
+use Rattle.rules_rank_table.specs.RankTable.{RankTableCall, rankTableAnswer}
+use Rattle.rules_rank_table.specs.Table.{rowsRead}
 use Rattle.rules_rsi.proofs.Index.{causal-rsi-reverse}
 use Rattle.rules_rsi.specs.RsiReverse.{RsiReverseCall}
 use Rattle.rules_triple.proofs.Crossover.{causal-triple}
@@ -240,6 +244,19 @@ module _ {s t : List Float} {out₀ out₁ out₀′ out₁′ : List ℤ} {work
   rsi-reverse-no-look-ahead n upper lower exit c c′ =
       table-agrees (pos 0) accepted equal (length work₀ ∷ []) (length work₀′ ∷ []) _ _
       (causal-rsi-reverse n upper lower exit) (c .call) (c′ .call)
+
+-- the rank table: the rows read are equal; the rest of the slices, and their lengths, may differ
+pub rank-table-no-look-ahead : {s t : List Float} {out₀ out₁ out₀′ out₁′ : List ℤ}
+    {work₀ work₁ work₀′ work₁′ : List Float} {b : ℕ}
+    → EqualBars s t b → (n : ℕ) (table table′ : List ℤ) → rowsRead table ≡ rowsRead table′
+    → RankTableCall s n table out₀ work₀ (Cells (length s)) out₁ work₁
+    → RankTableCall t n table′ out₀′ work₀′ (Cells (length t)) out₁′ work₁′ → EqualCells (pos 0) out₁ out₁′ b
+unfolding rankTableAnswer
+rank-table-no-look-ahead {s = s} {out₀ = out₀} {work₀ = work₀} equal n table table′ rows c c′ =
+    let l = equal .left in
+    let o = rank-table-opened s n table (length out₀) (length work₀) (c .call .answer) (omega arith) in
+    table-agrees (pos 0) accepted equal _ _ _ _ (causal-rank-table (rowsRead table) n (o .window .some)) (c .call)
+    (rw (← rows) at (c′ .call))
 
 pub rolling-rank-no-look-ahead : {s t : List Float} {out₀ out₁ out₀′ out₁′ : List ℕ}
     {work₀ work₁ work₀′ work₁′ : List Float} {b : ℕ}

@@ -13,6 +13,7 @@ ghost use Rattle.rules_ema.specs.SingleEma.{SingleEmaCall};
 ghost use Rattle.rules_mms.specs.Mms.{MmsCall};
 ghost use Rattle.rules_rank.specs.Rank.{RankCall};
 ghost use Rattle.rules_rank.specs.RollingRank.{RollingRankCall};
+ghost use Rattle.rules_rank_table.specs.RankTable.{RankTableCall};
 ghost use Rattle.rules_triple.specs.Triple.{TripleCall};
 
 // One average: the sign of price less the doubly averaged price, from bar 2n - 2 on.
@@ -131,6 +132,25 @@ pub fn rank_positions(series: &[f64], n: usize, out: &mut [f64], work: &mut [f64
     let due = checks::answer_window_with_work(series, n, out.len(), work.len());
     if checks::cells_due(due, series.len(), work) {
         rules_rank::write_rank(series, n, out, work);
+        cells::clear(work, 8 * series.len());
+    }
+    due
+}
+
+// Each rank looked up in a desk's table, from bar 2n - 2 on. A row is three of `rows`: from, to and the position.
+pub fn rank_table_positions(
+    series: &[f64],
+    n: usize,
+    rows: &[i32],
+    out: &mut [i32],
+    work: &mut [f64],
+) -> Answer
+    ensures { λ r. ⌜ RankTableCall (now (series .entry)) n (now (rows .entry)) (now (out .entry)) (now (work .entry)) r
+        (now (out .exit)) (now (work .exit)) ⌝ }
+{
+    let due = rules_rank_table::answer_rank_table(series, n, rows, out.len(), work.len());
+    if checks::cells_due(due, series.len(), work) {
+        rules_rank_table::write_rank_table(series, n, rows, out, work);
         cells::clear(work, 8 * series.len());
     }
     due

@@ -108,7 +108,7 @@ over-within {x} w =
 
 module _ {c m : ℕ} (M : 0 < m) (most : m ≤ 2 ^ 53) (h : c ≤ m) where
   -- the rank before the division by 100 is a whole number from -100 to 100
-  whole-rank-within : Hundredths (wholeRank c m)
+  pub whole-rank-within : Hundredths (wholeRank c m)
   unfolding wholeRank
   whole-rank-within =
       let less = half-within (quotient-within M most h) in

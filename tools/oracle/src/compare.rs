@@ -1,10 +1,11 @@
 //! Runs calls through the library and through document 01's reading with pure.rs, and compares all they leave.
 
-use crate::call::{Call, Expected, Kind};
+use crate::call::{Answer, Call, Expected, Kind};
 use crate::catalogue::{self, Function};
 use crate::edges::{edges, extreme};
 use crate::generate;
 use crate::library::Lent;
+use crate::rank_table;
 use crate::rng::Rng;
 use crate::source;
 use std::collections::BTreeMap;
@@ -24,6 +25,48 @@ pub struct Tally {
     differ: usize,
 }
 
+impl Tally {
+    /// Counts a call, and whether something differs, which is printed with the call, the first few of them.
+    pub fn count(&mut self, name: &str, expected: &Expected, differs: Option<String>, call: impl Fn() -> String) {
+        self.calls += 1;
+        self.cells += expected.cells.iter().map(|line| line.len() as u64).sum::<u64>();
+        *self.by_refusal.entry(expected.answer.refusal).or_default() += 1;
+        self.empty += (expected.answer.refusal == 0 && expected.answer.count == 0) as usize;
+        if let Some(what) = differs {
+            self.differ += 1;
+            if self.differ <= SHOWN {
+                println!("{name}: {what}\n    {}", call());
+            }
+        }
+    }
+
+    fn print(&self, name: &str) {
+        let refused = self.by_refusal.iter().filter(|(refusal, _)| **refusal != 0);
+        let refused: String = refused.map(|(refusal, calls)| format!(" {refusal}:{calls}")).collect();
+        println!(
+            "{name}: {} calls, {} answered with {} cells, {} of them empty, refused{refused}, {} differ",
+            self.calls,
+            self.by_refusal.get(&0).unwrap_or(&0),
+            self.cells,
+            self.empty,
+            self.differ
+        );
+    }
+}
+
+/// What a call left that is not as expected.
+pub fn differs(answer: Answer, outputs: &[Lent], work: &Lent, expected: &Expected) -> Option<String> {
+    if answer != expected.answer {
+        return Some(format!("the answer is {answer:?}, expected {:?}", expected.answer));
+    }
+    let in_output = |(place, (output, cells)): (usize, (&Lent, &Vec<u64>))| {
+        output.differs(cells.iter().copied()).map(|what| format!("output {place}: {what}"))
+    };
+    let in_outputs = outputs.iter().zip(&expected.cells).enumerate().find_map(in_output);
+    let in_work = || work.differs((0..expected.cleared).map(|_| 0.0f64.to_bits()));
+    in_outputs.or_else(|| in_work().map(|what| format!("work {what}")))
+}
+
 /// One function and the memory that it is lent, used again for each call.
 pub struct Trial {
     function: &'static Function,
@@ -41,16 +84,8 @@ impl Trial {
     /// Makes one call both ways and counts it; a difference is printed, the first few of them.
     pub fn run(&mut self, call: &Call, salt: u64) {
         let expected = source::expected(self.function, call);
-        self.tally.calls += 1;
-        self.tally.cells += expected.answer.count * self.function.outputs as u64;
-        *self.tally.by_refusal.entry(expected.answer.refusal).or_default() += 1;
-        self.tally.empty += (expected.answer.refusal == 0 && expected.answer.count == 0) as usize;
-        if let Some(what) = self.difference(call, salt, &expected) {
-            self.tally.differ += 1;
-            if self.tally.differ <= SHOWN {
-                println!("{}: {what}\n    {}", self.function.name, describe(call));
-            }
-        }
+        let differs = self.difference(call, salt, &expected);
+        self.tally.count(self.function.name, &expected, differs, || describe(call));
     }
 
     /// What a call leaves that is not as expected.
@@ -61,34 +96,12 @@ impl Trial {
         self.work.fill(call.work, !salt);
         let library = self.function.library.expect("only exported functions are compared");
         let answer = library(call, &mut self.outputs, &mut self.work);
-        if answer != expected.answer {
-            return Some(format!("the answer is {answer:?}, expected {:?}", expected.answer));
-        }
-        let in_output = |(place, (output, cells)): (usize, (&Lent, &Vec<u64>))| {
-            output.differs(cells.iter().copied()).map(|what| format!("output {place}: {what}"))
-        };
-        let in_outputs = self.outputs.iter().zip(&expected.cells).enumerate().find_map(in_output);
-        let in_work = || self.work.differs((0..expected.cleared).map(|_| 0.0f64.to_bits()));
-        in_outputs.or_else(|| in_work().map(|what| format!("work {what}")))
-    }
-
-    fn print(&self) {
-        let refused = self.tally.by_refusal.iter().filter(|(refusal, _)| **refusal != 0);
-        let refused: String = refused.map(|(refusal, calls)| format!(" {refusal}:{calls}")).collect();
-        println!(
-            "{}: {} calls, {} answered with {} cells, {} of them empty, refused{refused}, {} differ",
-            self.function.name,
-            self.tally.calls,
-            self.tally.by_refusal.get(&0).unwrap_or(&0),
-            self.tally.cells,
-            self.tally.empty,
-            self.tally.differ
-        );
+        differs(answer, &self.outputs, &self.work, expected)
     }
 }
 
 /// A call in one line, with the first values of its series.
-fn describe(call: &Call) -> String {
+pub fn describe(call: &Call) -> String {
     let head = |s: &Vec<f64>| format!("{} bars {:?}", s.len(), &s[..s.len().min(24)]);
     let series: Vec<String> = call.series.iter().map(head).collect();
     format!("{:?}, outputs {:?}, work {}, {}", call.parameters, call.outputs, call.work, series.join("; "))
@@ -138,9 +151,11 @@ pub fn run(seeds: &[u64], calls: usize) -> bool {
         workers.into_iter().flat_map(|worker| worker.join().expect("a worker ended early")).collect()
     });
     trials.sort_by_key(|trial| catalogue::number(trial.function));
-    trials.iter().for_each(Trial::print);
-    let total: usize = trials.iter().map(|trial| trial.tally.calls).sum();
-    let differ: usize = trials.iter().map(|trial| trial.tally.differ).sum();
-    println!("compared {total} calls of {} functions, {differ} differ", trials.len());
-    differ == 0 && !trials.is_empty()
+    let mut tallies: Vec<(&str, Tally)> = trials.into_iter().map(|trial| (trial.function.name, trial.tally)).collect();
+    tallies.extend(rank_table::compared(seeds, calls));
+    tallies.iter().for_each(|(name, tally)| tally.print(name));
+    let total: usize = tallies.iter().map(|(_, tally)| tally.calls).sum();
+    let differ: usize = tallies.iter().map(|(_, tally)| tally.differ).sum();
+    println!("compared {total} calls of {} functions, {differ} differ", tallies.len());
+    differ == 0 && !tallies.is_empty()
 }

@@ -7,6 +7,7 @@ use crate::catalogue::{self, Function, Role};
 use crate::generate;
 use crate::limits::{TICK_LIMIT, WINDOW_LIMIT};
 use crate::nearly::{nearly_averaged, nearly_equal_means, nearly_in_the_middle, window_sums};
+use crate::rank_table;
 use crate::rng::Rng;
 
 const SHOWN: usize = 5;
@@ -62,7 +63,7 @@ pub fn run(seeds: &[u64], series: usize) -> bool {
         }
         good &= fact.wrong == 0;
     }
-    good & no_look_ahead(seeds, series)
+    good & no_look_ahead(seeds, series) & rank_table::no_look_ahead(seeds, series)
 }
 
 /// The cells of each output that the library gives for a call, or none where it does not answer with all its bars.

@@ -17,6 +17,7 @@ mod limits;
 mod nearly;
 mod published;
 mod ranges;
+mod rank_table;
 mod record;
 mod restated;
 mod rng;
