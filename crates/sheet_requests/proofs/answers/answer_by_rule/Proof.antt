@@ -1,4 +1,4 @@
--- `answer_complete` meets its contract: what the rule answers is printed, and the request is done. Assumes nothing.
+-- `answer_by_rule` meets its contract: what the rule answers is printed, and the request is done. Assumes nothing.
 use mathlib.Core.Path.{refl}
 use Prim.Native.Nat.{_≤_}
 use native.Mathlib.Omega.{arith}
@@ -10,8 +10,8 @@ use Rattle.calls.specs.Answer.{countOf}
 use Rattle.sheet_requests.specs.Answer.{ruleLine}
 use Rattle.sheet_lines.proofs.Positions.{text-same}
 use Rattle.sheet_requests.proofs.Answered.{clear-long, stays-clear, rule-most}
-use Rattle.sheet_requests.proofs.answers.answer_complete.Statement.{statement}
-use Rattle.sheet_requests.proofs.answers.answer_complete.Tie as tie
+use Rattle.sheet_requests.proofs.answers.answer_by_rule.Statement.{statement}
+use Rattle.sheet_requests.proofs.answers.answer_by_rule.Tie as tie
 
 -- there are no more positions than prices
 few : (c : tie.After-answer)
@@ -53,8 +53,8 @@ returns c =
       stays-clear (given .answer .ensures) (start .pre .1 .work-clear),
     )
 
-pub answer-complete-spec : {M : Type 1} → statement M
-answer-complete-spec =
+pub answer-by-rule-spec : {M : Type 1} → statement M
+answer-by-rule-spec =
     tie.close
     (tie.spec
     answer-requires
