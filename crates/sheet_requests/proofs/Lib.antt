@@ -1,5 +1,6 @@
 pub mod Answered
 pub mod Counting
+pub mod Desks
 pub mod Lines
 pub mod Prices
 pub mod Short

@@ -28,7 +28,7 @@ few c =
 answer-requires : tie.Need-answer-requires
 answer-requires c κs =
     let start = c .before .before .before .before .before .before in
-    (omega (arith, start .pre .1 .series-long), start .pre .1 .out-long, clear-long (start .pre .1 .work-clear))
+    (omega (arith, start .pre .2 .series-long), start .pre .2 .out-long, clear-long (start .pre .2 .work-clear))
 
 returns : tie.Need-returns
 returns c =
@@ -40,8 +40,9 @@ returns c =
     let a = start .args in
     let f = ruleLine (a .request) (take (a .request .bars) (now (a .series))) in (
       record {
-        state = rw (c .after .ensures, call .answer);
+        state = rw (start .pre .0, c .after .ensures, call .answer);
         text = rw (
+          start .pre .0,
           ← call .answer,
           ← text-same (a .request) (given .answer .result) f (now (a .out)) (omega arith),
           ← call .cells,
@@ -50,7 +51,7 @@ returns c =
       },
       refl,
       omega (arith, print .print-answer .ensures .1),
-      stays-clear (given .answer .ensures) (start .pre .1 .work-clear),
+      stays-clear (given .answer .ensures) (start .pre .2 .work-clear),
     )
 
 pub answer-by-rule-spec : {M : Type 1} → statement M
