@@ -9,5 +9,6 @@ pub mod OnTicks
 pub mod Positions
 pub mod RankPlace
 pub mod Series
+pub mod SheetCounts
 pub mod Starred
 pub mod WholeCells

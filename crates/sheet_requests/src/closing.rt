@@ -26,7 +26,8 @@ fn print_cut(text: &mut [u8], counts: Counts)
         ≡ broken counts Reason.InputEnds .prints ++ closing (afterLines 1 counts) ⌝ }
 {
     sheet_lines::text::print_head(text, 0, 0, 0, BROKEN_LINE, 0);
-    counts.after_lines(1).print(text, sheet_lines::text::HEAD_BYTES);
+    let cut = counts.after_lines(1);
+    cut.print(text, sheet_lines::text::HEAD_BYTES);
 }
 
 // Prints what the end of the input gives, with `kept` bytes that are too few for a line, and gives how many bytes.

@@ -6,7 +6,7 @@ use Rattle.sheet_requests.proofs.Counts.one_more.Statement.{statement}
 use Rattle.sheet_requests.proofs.Counts.one_more.Tie as tie
 
 sub-at : tie.Need-sub-at
-sub-at c = desk-between (c .before .args .desk) (c .before .pre) .0
+sub-at c = omega (arith, desk-between (c .before .args .desk) (c .before .pre))
 
 mul-many-more : tie.Need-mul-many-more
 mul-many-more c = omega (arith, desk-between (c .before .args .desk) (c .before .pre))
