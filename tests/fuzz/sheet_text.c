@@ -180,7 +180,7 @@ static void try_call(const uint8_t *input, size_t length, size_t out_len, uint8_
 int LLVMFuzzerTestOneInput(const uint8_t *data, size_t size)
 {
     size_t enough = size + TEGBALOWU_SHEET_ROOM;
-    uint8_t *input = malloc(size + 1);
+    uint8_t *input = calloc(1, size + 1);
     char *sheet = malloc(enough);
     must(input != NULL && sheet != NULL, "no memory");
     if (size > 0)
