@@ -308,7 +308,7 @@ tegbalowu_answer tegbalowu_rsi_reverse_positions(const double *series, size_t se
 /* The sheet of sheet(1), for those who have the whole input in memory. */
 
 /* The bytes of output that an input may need beyond one for each of its own: enough for every input. */
-#define TEGBALOWU_SHEET_ROOM 32
+#define TEGBALOWU_SHEET_ROOM 291
 
 /*
  * The sheet of the input: what sheet(1) writes for these bytes, any bytes. The first count bytes of

@@ -45,6 +45,7 @@ function why() {
     if (refusal == 5) return "a price is beyond 1,073,741,824"
     if (refusal == 7) return "a window is above 720"
     if (refusal == 9) return "n is not below m"
+    if (refusal == 15) return "the desk is not one of 1 to 16"
     return "a line breaks its columns, and nothing more is read"
 }
 

@@ -10,7 +10,7 @@
 #include <string.h>
 #include "tegbalowu.h"
 
-enum { MOST_BARS = 512, HEADER = 26, PRICE = 12, LONGER = 7 };
+enum { MOST_BARS = 512, HEADER = 26, PRICE = 12, DESKS = 16, LONGER = 7 };
 
 int LLVMFuzzerTestOneInput(const uint8_t *data, size_t size);
 
@@ -103,12 +103,16 @@ static int read_request(reading *at, request *asked)
     return 1;
 }
 
-/* Prints the answer of a request; 1 where it is refused. */
-static int answer(reading *at, const request *asked)
+/* Prints the answer of a request, and counts it for its desk where its rule refuses it. */
+static void answer(reading *at, const request *asked, unsigned long refused[DESKS])
 {
     static double out[MOST_BARS], work[8 * MOST_BARS];
     size_t bars = (size_t)asked->bars, n = (size_t)asked->n;
     tegbalowu_answer given;
+    if (asked->desk < 1 || asked->desk > DESKS) {
+        print_head(at, asked->desk, asked->rule, 15, 0);
+        return;
+    }
     if (asked->rule == 1)
         given = tegbalowu_single_sma_positions(asked->prices, bars, n, out, bars, work, 8 * bars);
     else if (asked->rule == 2)
@@ -118,7 +122,7 @@ static int answer(reading *at, const request *asked)
     print_head(at, asked->desk, asked->rule, given.refusal, given.count);
     for (size_t i = 0; i < given.count; i++)
         print(at, out[i] == 1.0 ? "   1\n" : out[i] == -1.0 ? "  -1\n" : "   0\n");
-    return given.refusal != 0;
+    refused[asked->desk - 1] += given.refusal != 0;
 }
 
 /* The sheet of the input: how many bytes it has. */
@@ -126,20 +130,20 @@ static size_t sheet_of(const uint8_t *input, size_t length, char *text, size_t r
 {
     static request asked;
     reading at = {input, input + length, text, 0, room};
-    unsigned long refused = 0;
+    unsigned long refused[DESKS] = {0};
     int whole = 1;
     char line[64];
     while (whole && at.next != at.end) {
         whole = read_request(&at, &asked);
-        if (whole) {
-            refused += (unsigned long)answer(&at, &asked);
-        } else {
+        if (whole)
+            answer(&at, &asked, refused);
+        else
             print_head(&at, 0, 0, 10, 0);
-            refused++;
-        }
     }
-    snprintf(line, sizeof line, "%12lu\n", refused);
-    print(&at, line);
+    for (int desk = 1; desk <= DESKS; desk++) {
+        snprintf(line, sizeof line, "%4d%12lu\n", desk, refused[desk - 1]);
+        print(&at, line);
+    }
     return at.filled;
 }
 
@@ -176,7 +180,7 @@ static void try_call(const uint8_t *input, size_t length, size_t out_len, uint8_
 int LLVMFuzzerTestOneInput(const uint8_t *data, size_t size)
 {
     size_t enough = size + TEGBALOWU_SHEET_ROOM;
-    uint8_t *input = malloc(size + 1);
+    uint8_t *input = calloc(1, size + 1);
     char *sheet = malloc(enough);
     must(input != NULL && sheet != NULL, "no memory");
     if (size > 0)

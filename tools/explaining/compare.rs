@@ -69,14 +69,16 @@ fn written(requests: &[Request]) -> String {
 /// What the evidence makes of the requests, as the sheet prints it, with how many cells were decided by what.
 fn answers(requests: &[Request], tally: &mut Tally) -> String {
     let mut text = String::new();
-    let mut refused = 0;
+    let mut refused = [0; evidence::DESKS];
     for request in requests {
         let head = |refusal: usize, count: usize| {
             format!("{:4}{:4}{refusal:4}{count:6}\n", request.desk, request.rule as usize + 1)
         };
         match evidence::answer(request) {
             Answer::Refused { refusal, .. } => {
-                refused += 1;
+                if refusal != 15 {
+                    refused[request.desk - 1] += 1;
+                }
                 text += &head(refusal, 0);
             }
             Answer::Empty { .. } => text += &head(0, 0),
@@ -90,7 +92,9 @@ fn answers(requests: &[Request], tally: &mut Tally) -> String {
             }
         }
     }
-    writeln!(text, "{refused:12}").unwrap();
+    for (desk, count) in (1..).zip(refused) {
+        writeln!(text, "{desk:4}{count:12}").unwrap();
+    }
     text
 }
 

@@ -4,6 +4,7 @@ use std::cmp::Ordering;
 
 use crate::request::{Request, Rule};
 
+pub const DESKS: usize = 16;
 const LARGEST_VALUE: i64 = 1 << 30;
 const LARGEST_TICK: i64 = 1 << 24;
 const LONGEST_WINDOW: usize = 720;
@@ -56,8 +57,11 @@ impl Rule {
 }
 
 pub fn answer(request: &Request) -> Answer {
-    let Request { n, m, rule, prices, .. } = request;
+    let Request { desk, n, m, rule, prices } = request;
     let double = *rule == Rule::Double;
+    if !(1..=DESKS).contains(desk) {
+        return Answer::Refused { refusal: 15, why: format!("the desk is not one of 1 to {DESKS}") };
+    }
     if let Some(bar) = prices.iter().position(|price| price.abs() > LARGEST_VALUE) {
         return Answer::Refused { refusal: 5, why: format!("the price of bar {bar} is beyond 1,073,741,824") };
     }

@@ -11,5 +11,6 @@ pub mod Ranges
 pub mod RankPlace
 pub mod RankTable
 pub mod Series
+pub mod SheetCounts
 pub mod Starred
 pub mod WholeCells

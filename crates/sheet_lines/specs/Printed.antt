@@ -1,4 +1,4 @@
--- What an answer prints, and the last line. Assumes nothing.
+-- What an answer prints, and the line of a desk's count. Assumes nothing.
 use mathlib.Core.Bool.{cond}
 use mathlib.Core.List.{List, [], _∷_, _++_}
 use Prim.Native.Nat.{ℕ, zero, suc}
@@ -9,20 +9,24 @@ use Rattle.cells.specs.Line.{Line, plusZero}
 use Rattle.sheet_lines.specs.Print.{printField}
 use Rattle.sheet_lines.specs.declared.Request.{Request}
 
--- the bytes of an answer's first line, of a position's line and of the last
--- line, each with its line feed; src/text.rt has constants of the same numbers
+-- the bytes of an answer's first line, of a position's line and of a desk's
+-- count, each with its line feed; src/text.rt has constants of the same numbers
 abbrev pub headBytes : ℕ
 headBytes = 19
 
 abbrev pub positionBytes : ℕ
 positionBytes = 5
 
-abbrev pub lastBytes : ℕ
-lastBytes = 13
+abbrev pub countBytes : ℕ
+countBytes = 17
 
--- the refusal of a line that breaks its columns; src/text.rt has a constant of the same number
+-- The program's own refusals: of a line that breaks its columns, and of a desk below 1
+-- or above 16. src/text.rt has constants of the same numbers.
 abbrev pub brokenLine : ℕ
 brokenLine = 10
+
+abbrev pub noSuchDesk : ℕ
+noSuchDesk = 15
 
 -- desk in 4 columns, rule in 4, refusal in 4, count in 6
 unfoldable pub headLine : ℕ → ℕ → ℕ → ℕ → List ℕ
@@ -45,6 +49,6 @@ unfoldable pub answerText : Request → Answer → Line → List ℕ
 answerText r answer f =
     headLine (r .desk) (r .rule) (refusalOf answer) (countOf answer) ++ positionLines (countOf answer) f
 
--- the number of refused requests in 12 columns
-unfoldable pub lastLine : ℕ → List ℕ
-lastLine refused = printField 12 refused ++ (10 ∷ [])
+-- desk in 4 columns, the number of its refused requests in 12
+unfoldable pub countLine : ℕ → ℕ → List ℕ
+countLine desk refused = printField 4 desk ++ (printField 12 refused ++ (10 ∷ []))

@@ -1,4 +1,4 @@
-// An answer's lines and the last line printed, on byte slices.
+// An answer's lines and the line of a desk's count printed, on byte slices.
 use crate::Request;
 use calls::Answer;
 ghost use mathlib.Core.Path.{_≡_};
@@ -11,23 +11,25 @@ ghost use Rattle.sheet_lines.specs.inner.Adds.{Adds};
 ghost use Rattle.sheet_lines.specs.Printed.{
   headBytes,
   positionBytes,
-  lastBytes,
+  countBytes,
   headLine,
   positionLine,
   positionLines,
   answerText,
-  lastLine,
+  countLine,
 };
 
-// The bytes of an answer's first line, of a position's line and of the last line, each with its line feed.
+// The bytes of an answer's first line, of a position's line and of a desk's count, each with its line feed.
 pub const HEAD_BYTES: usize = 19;
 
 pub const POSITION_BYTES: usize = 5;
 
-pub const LAST_BYTES: usize = 13;
+pub const COUNT_BYTES: usize = 17;
 
-// The refusal of a line that breaks its columns.
+// The refusals of a line that breaks its columns, and of a desk below 1 or above 16.
 pub const BROKEN_LINE: u64 = 10;
+
+pub const NO_SUCH_DESK: u64 = 15;
 
 // Prints an answer's first line from `at` on.
 pub fn print_head(text: &mut [u8], at: usize, desk: u64, rule: u64, refusal: u64, count: u64)
@@ -82,13 +84,14 @@ fn print_positions(text: &mut [u8], at: usize, cells: &[f64], count: usize)
     }
 }
 
-// Prints the number of refused requests from `at` on.
-pub fn print_last(text: &mut [u8], at: usize, refused: u64)
-    requires { ⌜ at + lastBytes ≤ length (now text) ⌝ }
-    ensures { λ _. ⌜ Adds at (lastLine refused) (at + lastBytes) (now (text .entry)) (now (text .exit)) ⌝ }
+// Prints the number of a desk's refused requests from `at` on.
+pub fn print_count(text: &mut [u8], at: usize, desk: u64, refused: u64)
+    requires { ⌜ at + countBytes ≤ length (now text) ⌝ }
+    ensures { λ _. ⌜ Adds at (countLine desk refused) (at + countBytes) (now (text .entry)) (now (text .exit)) ⌝ }
 {
-    crate::columns::print_field(text, at, 12, refused);
-    text[at + 12] = b'\n';
+    crate::columns::print_field(text, at, 4, desk);
+    crate::columns::print_field(text, at + 4, 12, refused);
+    text[at + 16] = b'\n';
 }
 
 // Prints an answer from `at` on, with the positions in `cells`, and gives the place after it.

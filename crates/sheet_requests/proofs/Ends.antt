@@ -13,7 +13,7 @@ use Rattle.sheet_lines.specs.Header.{headerBytes, priceBytes}
 use Rattle.sheet_lines.specs.Reason.{noFeed}
 use Rattle.sheet_requests.specs.declared.status.Fault.the-variants.{Nowhere, At}
 use Rattle.sheet_requests.specs.declared.Counts.{Counts}
-use Rattle.sheet_requests.specs.Counts.{afterBroken}
+use Rattle.sheet_requests.specs.Counts.{afterLines}
 use Rattle.sheet_requests.specs.Sheet.{
   State,
   waiting,
@@ -34,11 +34,11 @@ use Rattle.sheet_requests.specs.inner.Finished.{Finished}
 use Rattle.sheet_requests.proofs.Lines.{cut-line, outcome-stopped}
 use Rattle.sheet_requests.proofs.Strict.{header-reader, price-reader}
 
--- the refusal 10 and the last line
+-- the refusal 10 and what is printed last
 abbrev pub cut : Counts → Outcome
 cut counts =
     printing (broken counts InputEnds .prints)
-    (closed (afterBroken counts) (At (afterBroken counts .lines) InputEnds))
+    (closed (afterLines 1 counts) (At (afterLines 1 counts .lines) InputEnds))
 
 pub ends-waiting : (counts : Counts) (rest : List ℕ) → length rest ≡ 0
     → outcome (waiting counts) (lines rest) ≡ closed counts Nowhere

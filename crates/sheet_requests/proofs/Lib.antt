@@ -1,8 +1,11 @@
 pub mod Answered
 pub mod Counting
+pub mod Desks
 pub mod Lines
 pub mod Prices
+pub mod Requests
 pub mod Short
 pub mod Steps
 pub mod Strict
+pub mod Sums
 pub mod Ends

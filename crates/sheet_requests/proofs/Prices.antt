@@ -1,6 +1,6 @@
 -- What the loop that reads a request's prices goes by. Assumes nothing.
 use mathlib.Core.Path.{_≡_, refl, _∙_}
-use mathlib.Core.List.{List, [], _++_}
+use mathlib.Core.List.{List, _++_}
 use Prim.Native.Nat.{ℕ, suc, _+_, _-_, _*_, _<_, _≤_}
 use native.Mathlib.Numerals.{add-one}
 use native.Mathlib.Omega.{arith}
@@ -15,17 +15,15 @@ use Rattle.sheet_lines.specs.Header.{priceBytes, readPriceLine}
 use Rattle.sheet_lines.specs.Reason.{priceReason}
 use Rattle.sheet_requests.specs.declared.Counts.{Counts}
 use Rattle.sheet_requests.specs.Counts.{afterLines}
-use Rattle.sheet_requests.specs.Sheet.{collecting, broken, completed, withPrices, priced, lines, outcome}
+use Rattle.sheet_requests.specs.Sheet.{collecting, quiet, broken, completed, withPrices, priced, lines, outcome}
 use Rattle.sheet_requests.specs.inner.Place.{finally}
 use Rattle.sheet_requests.proofs.Lines.{finally-broken, line-at}
 use Rattle.sheet_requests.proofs.Strict.{price-reader}
 
 module _ (counts : Counts) (r : Request) (series : List Float) (got : ℕ) (h : got ≤ length series) where
   -- some price is missing: the request waits for it
-  pub waits : (got ≡ r .bars → ⊥) → withPrices counts r (take got series) ≡ record {
-    prints = [];
-    state = collecting counts r (take got series);
-  }
+  pub waits : (got ≡ r .bars → ⊥)
+      → withPrices counts r (take got series) ≡ quiet (collecting counts r (take got series))
   unfolding withPrices
   waits e = rw (length-take-le got series h, ne-eqb _ _ e)
 

@@ -1,6 +1,6 @@
 -- From the lines that were read to what holds of the whole output. Assumes nothing.
 use mathlib.Core.Path.{_≡_, refl, _∙_}
-use mathlib.Core.List.{List, [], _++_, append-assoc}
+use mathlib.Core.List.{List, _++_, append-assoc}
 use Prim.Native.Nat.{ℕ, _+_, _<_, _≤_}
 use native.Mathlib.Omega.{arith}
 use lib.ListN.{length, drop}
@@ -11,7 +11,7 @@ use Rattle.sheet_requests.specs.declared.blocks.Stage.the-variants.{Stop
 use Rattle.sheet_lines.specs.Printed.{headBytes}
 use Rattle.sheet_lines.specs.declared.reasons.Reason.{Reason}
 use Rattle.sheet_requests.specs.declared.Counts.{Counts}
-use Rattle.sheet_requests.specs.Sheet.{Step, broken, lines, outcome}
+use Rattle.sheet_requests.specs.Sheet.{Step, quiet, broken, lines, outcome}
 use Rattle.sheet_requests.specs.inner.Place.{stateOf, answerIfComplete, finally, Stepped}
 use Rattle.sheet_requests.specs.inner.Taken.{textRoom, Taken}
 use Rattle.sheet_requests.proofs.Lines.{finally-broken}
@@ -24,7 +24,7 @@ Comes block p series t at =
 
 -- where nothing is read any more, no step is to be made
 none-to-answer : (stage : Stage) (counts : Counts) (series : List Float) {reason : Reason} → stage ≡ Stopped reason
-    → answerIfComplete stage counts series ≡ record { prints = []; state = stateOf stage counts series }
+    → answerIfComplete stage counts series ≡ quiet (stateOf stage counts series)
 none-to-answer stage counts series e = rw e
 
 module _ {block : List ℕ} {p q : Place} {series series′ : List Float} {text text′ : List ℕ} where

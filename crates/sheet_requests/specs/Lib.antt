@@ -1,5 +1,6 @@
 -- How a request is answered, and what a whole sheet is.
 pub mod Answer
+pub mod ByDesk
 pub mod Cases
 pub mod Counts
 pub mod Sheet

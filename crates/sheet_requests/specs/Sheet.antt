@@ -15,12 +15,12 @@ use Rattle.sheet_lines.specs.declared.reasons.Reason.{Reason}
 use Rattle.sheet_lines.specs.declared.reasons.Reason.the-variants.{InputEnds}
 use Rattle.sheet_lines.specs.Header.{readHeader, readPriceLine}
 use Rattle.sheet_lines.specs.Reason.{headerReason, priceReason}
-use Rattle.sheet_lines.specs.Printed.{brokenLine, headLine, answerText}
+use Rattle.sheet_lines.specs.Printed.{brokenLine, noSuchDesk, headLine, answerText}
 use Rattle.sheet_requests.specs.declared.Counts.{Counts}
 use Rattle.sheet_requests.specs.declared.status.Fault.{Fault}
 use Rattle.sheet_requests.specs.declared.status.Fault.the-variants.{Nowhere, At}
 use Rattle.sheet_requests.specs.Answer.{ruleAnswer, ruleLine}
-use Rattle.sheet_requests.specs.Counts.{noneYet, after, afterLines, afterBroken, closing}
+use Rattle.sheet_requests.specs.Counts.{isDesk, noneYet, after, afterLines, closing}
 
 -- ---- the lines
 
@@ -42,27 +42,50 @@ pub data State : Type 0 where
   collecting : Counts → Request → List Float → State
   stopped : Counts → Reason → State
 
--- what a line prints, and the state after it
+-- a request with all its prices
+pub record Complete : Type 0 where
+  pub request : Request
+  pub prices : List Float
+
+-- what a line prints, the request that it completes, if it does, and the state after it
 pub record Step : Type 0 where
   pub prints : List ℕ
+  pub completes : List Complete
   pub state : State
+
+-- nothing is printed
+abbrev pub quiet : State → Step
+quiet s = record { prints = []; completes = []; state = s }
 
 -- desk 0, rule 0, refusal 10, count 0, and no further reading
 abbrev pub broken : Counts → Reason → Step
-broken c reason = record { prints = headLine 0 0 brokenLine 0; state = stopped (afterBroken c) reason }
+broken c reason =
+    record { prints = headLine 0 0 brokenLine 0; completes = []; state = stopped (afterLines 1 c) reason }
+
+-- What a request with all its prices prints: the answer of its rule, if its desk
+-- is one of the sixteen, and else its desk, its rule, refusal 15, count 0.
+abbrev pub answerOf : Request → List Float → List ℕ
+answerOf r prices =
+    cond (isDesk (r .desk)) (answerText r (ruleAnswer r prices) (ruleLine r prices))
+    (headLine (r .desk) (r .rule) noSuchDesk 0)
+
+-- the counts after it: refusal 15 is in none
+abbrev pub countedAfter : Counts → Request → List Float → Counts
+countedAfter c r prices = cond (isDesk (r .desk)) (after c r (ruleAnswer r prices)) c
 
 -- a request with all its prices is answered
 abbrev pub completed : Counts → Request → List Float → Step
 completed c r prices =
     record {
-      prints = answerText r (ruleAnswer r prices) (ruleLine r prices);
-      state = waiting (after c r (ruleAnswer r prices));
+      prints = answerOf r prices;
+      completes = record { request = r; prices = prices } ∷ [];
+      state = waiting (countedAfter c r prices);
     }
 
 -- a request with these prices: more are to come, or they are all there
 unfoldable pub withPrices : Counts → Request → List Float → Step
 withPrices c r prices =
-    cond (eqb (length prices) (r .bars)) (completed c r prices) (record { prints = []; state = collecting c r prices })
+    cond (eqb (length prices) (r .bars)) (completed c r prices) (quiet (collecting c r prices))
 
 abbrev pub begun : Counts → List ℕ → Header → Step
 begun c line (Asked r) = withPrices (afterLines 1 c) r []
@@ -75,7 +98,7 @@ priced c r prices line Unpriced = broken c (priceReason line)
 abbrev pub step : State → List ℕ → Step
 step (waiting c) line = begun c line (readHeader line)
 step (collecting c r prices) line = priced c r prices line (readPriceLine line)
-step (stopped c reason) line = record { prints = []; state = stopped c reason }
+step (stopped c reason) line = quiet (stopped c reason)
 
 -- ---- the whole
 
@@ -96,7 +119,7 @@ closed c fault = record { text = closing c; fault = fault }
 unfoldable pub ending : State → Outcome
 ending (waiting c) = closed c Nowhere
 ending (collecting c r prices) =
-    printing (broken c InputEnds .prints) (closed (afterBroken c) (At (afterBroken c .lines) InputEnds))
+    printing (broken c InputEnds .prints) (closed (afterLines 1 c) (At (afterLines 1 c .lines) InputEnds))
 ending (stopped c reason) = closed c (At (c .lines) reason)
 
 -- what the lines come to from a state on

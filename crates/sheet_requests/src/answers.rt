@@ -5,12 +5,17 @@ use crate::blocks::Sheet;
 use crate::blocks::Stage;
 use calls::Answer;
 use sheet_lines::Request;
+use sheet_lines::text::NO_SUCH_DESK;
 ghost use mathlib.Core.Path.{_≡_};
+ghost use mathlib.Core.Bool.{true, false};
+ghost use mathlib.Core.List.{List};
 ghost use Prim.Native.Nat.{_≤_, _+_, _*_};
 ghost use lib.ListN.{length, take};
+ghost use lib.Ieee.{Float};
 ghost use Rattle.sheet_lines.specs.Header.{mostBars};
 ghost use Rattle.sheet_lines.specs.Printed.{headBytes, positionBytes};
 ghost use Rattle.sheet_requests.specs.Answer.{workCells, RequestCall};
+ghost use Rattle.sheet_requests.specs.Counts.{isDesk};
 ghost use Rattle.sheet_requests.specs.Sheet.{completed};
 ghost use Rattle.sheet_requests.specs.inner.Place.{textOwed, answerIfComplete, PricesFit, Stepped, SteppedInRoom};
 ghost use Rattle.sheet_requests.specs.inner.Lent.{Lent};
@@ -33,6 +38,54 @@ pub fn answer(request: Request, series: &[f64], out: &mut [f64], work: &mut [f64
     }
 }
 
+// Answers a request of one of the desks by its rule, and prints the answer.
+fn answer_by_rule(
+    request: Request,
+    counts: Counts,
+    at: usize,
+    series: &[f64],
+    out: &mut [f64],
+    work: &mut [f64],
+    text: &mut [u8],
+    filled: usize,
+) -> Place
+    requires { ⌜ (isDesk (request .desk) ≡ true) × (request .bars ≤ mostBars) × Lent (now series) (now out) (now work)
+        × (filled + headBytes + positionBytes * request .bars ≤ length (now text)) ⌝ }
+    ensures { λ r. ⌜ Stepped (completed counts request (take (request .bars) (now (series .entry))))
+        (now (series .entry)) at filled r (now (text .entry)) (now (text .exit))
+        × (r .sheet .stage ≡ Stage.Waiting) × (r .filled ≤ filled + headBytes + positionBytes * request .bars)
+        × (now (work .exit) ≡ now (work .entry)) ⌝ }
+{
+    let given = answer(request, series, out, work);
+    let end = sheet_lines::text::print_answer(text, filled, request, given, out);
+    Place {
+        sheet: Sheet {
+            stage: Stage::Waiting,
+            counts: counts.after(request, given),
+        },
+        at: at,
+        filled: end,
+    }
+}
+
+// Prints that the request's desk is none of the desks.
+fn refuse_desk(request: Request, counts: Counts, at: usize, text: &mut [u8], filled: usize) -> Place
+    requires { ⌜ (isDesk (request .desk) ≡ false) × (filled + headBytes ≤ length (now text)) ⌝ }
+    ensures { λ r. ⌜ ((series prices : List Float)
+        → Stepped (completed counts request prices) series at filled r (now (text .entry)) (now (text .exit)))
+        × (r .sheet .stage ≡ Stage.Waiting) × (r .filled ≡ filled + headBytes) ⌝ }
+{
+    sheet_lines::text::print_head(text, filled, request.desk, request.rule, NO_SUCH_DESK, 0);
+    Place {
+        sheet: Sheet {
+            stage: Stage::Waiting,
+            counts: counts,
+        },
+        at: at,
+        filled: filled + sheet_lines::text::HEAD_BYTES,
+    }
+}
+
 // Answers a request whose prices are all there, and prints the answer.
 fn answer_complete(
     request: Request,
@@ -51,15 +104,10 @@ fn answer_complete(
         × (r .sheet .stage ≡ Stage.Waiting) × (r .filled ≤ filled + headBytes + positionBytes * request .bars)
         × (now (work .exit) ≡ now (work .entry)) ⌝ }
 {
-    let given = answer(request, series, out, work);
-    let end = sheet_lines::text::print_answer(text, filled, request, given, out);
-    Place {
-        sheet: Sheet {
-            stage: Stage::Waiting,
-            counts: counts.after(request, given),
-        },
-        at: at,
-        filled: end,
+    if crate::is_desk(request.desk) {
+        answer_by_rule(request, counts, at, series, out, work, text, filled)
+    } else {
+        refuse_desk(request, counts, at, text, filled)
     }
 }
 

@@ -92,7 +92,7 @@ fn stop(counts: Counts, reason: Reason, at: usize, text: &mut [u8], filled: usiz
     Place {
         sheet: Sheet {
             stage: Stage::Stopped(reason),
-            counts: counts.broken(),
+            counts: counts.after_lines(1),
         },
         at: at,
         filled: filled + sheet_lines::text::HEAD_BYTES,

@@ -11,7 +11,7 @@ ghost use mathlib.Core.Path.{_≡_};
 ghost use mathlib.Core.List.{_++_};
 ghost use Prim.Native.Nat.{_<_, _≤_};
 ghost use lib.ListN.{length, take};
-ghost use Rattle.sheet_requests.specs.Counts.{afterBroken, closing};
+ghost use Rattle.sheet_requests.specs.Counts.{afterLines, closing};
 ghost use Rattle.sheet_requests.specs.Sheet.{broken};
 ghost use Rattle.sheet_requests.specs.inner.Place.{nextLineBytes};
 ghost use Rattle.sheet_requests.specs.inner.Finished.{cutBytes, Finished, FaultAtEnd};
@@ -23,10 +23,11 @@ const CUT_BYTES: usize = sheet_lines::text::HEAD_BYTES + CLOSING_BYTES;
 fn print_cut(text: &mut [u8], counts: Counts)
     requires { ⌜ cutBytes ≤ length (now text) ⌝ }
     ensures { λ _. ⌜ take cutBytes (now (text .exit))
-        ≡ broken counts Reason.InputEnds .prints ++ closing (afterBroken counts) ⌝ }
+        ≡ broken counts Reason.InputEnds .prints ++ closing (afterLines 1 counts) ⌝ }
 {
     sheet_lines::text::print_head(text, 0, 0, 0, BROKEN_LINE, 0);
-    counts.broken().print(text, sheet_lines::text::HEAD_BYTES);
+    let cut = counts.after_lines(1);
+    cut.print(text, sheet_lines::text::HEAD_BYTES);
 }
 
 // Prints what the end of the input gives, with `kept` bytes that are too few for a line, and gives how many bytes.
@@ -73,9 +74,9 @@ pub fn finish(status: Status, sheet: Sheet, kept: usize, text: &mut [u8]) -> usi
 
 // The line after those that were read is missing, or not whole.
 fn missing_line(counts: Counts) -> Fault
-    ensures { λ r. ⌜ r ≡ Fault.At (afterBroken counts .lines) Reason.InputEnds ⌝ }
+    ensures { λ r. ⌜ r ≡ Fault.At (afterLines 1 counts .lines) Reason.InputEnds ⌝ }
 {
-    let cut = counts.broken();
+    let cut = counts.after_lines(1);
     Fault::At(cut.lines, Reason::InputEnds)
 }
 

@@ -19,19 +19,28 @@ use Rattle.sheet_lines.specs.declared.Request.{Request}
 use Rattle.sheet_lines.specs.declared.Header.{Header}
 use Rattle.sheet_lines.specs.declared.Header.the-variants.{Asked, Malformed}
 use Rattle.sheet_lines.specs.Header.{headerBytes, priceBytes, columned, readHeader, readPriceLine}
-use Rattle.sheet_lines.specs.Printed.{brokenLine, headLine, positionLine, positionLines, answerText, lastLine}
+use Rattle.sheet_lines.specs.Printed.{
+  brokenLine,
+  noSuchDesk,
+  headLine,
+  positionLine,
+  positionLines,
+  answerText,
+  countLine,
+}
 use Rattle.sheet_lines.specs.declared.reasons.Reason.{Reason}
 use Rattle.sheet_lines.specs.declared.reasons.Reason.the-variants.{InputEnds}
 use Rattle.sheet_lines.specs.Reason.{headerReason, priceReason}
 use Rattle.sheet_requests.specs.declared.Counts.{Counts}
 use Rattle.sheet_requests.specs.Answer.{ruleAnswer, ruleLine}
-use Rattle.sheet_requests.specs.Counts.{noneYet, afterLines, closing, afterBroken}
+use Rattle.sheet_requests.specs.Counts.{desks, isDesk, noneYet, refusedOf, afterLines, countLines, closing}
 use Rattle.sheet_requests.specs.Sheet.{
   State,
   waiting,
   collecting,
   stopped,
   Step,
+  quiet,
   lengthen,
   lines,
   broken,
@@ -66,9 +75,20 @@ length-head : (d r q c : ℕ) → length (headLine d r q c) ≡ 19
 unfolding headLine
 length-head d r q c = simp (length-append, length-field)
 
-length-last : (n : ℕ) → length (lastLine n) ≡ 13
-unfolding lastLine
-length-last n = simp (length-append, length-field)
+length-count : (d n : ℕ) → length (countLine d n) ≡ 17
+unfolding countLine
+length-count d n = simp (length-append, length-field)
+
+length-counts : (k : ℕ) (count : ℕ → ℕ) → length (countLines k count) ≡ 17 * k
+unfolding countLines
+length-counts zero count = refl
+length-counts (suc k) count =
+    rw (
+      length-append (countLines k count) (countLine (suc k) (count (suc k))),
+      length-counts k count,
+      length-count (suc k) (count (suc k)),
+    )
+    (omega arith)
 
 length-position : (x : Float) → length (positionLine x) ≡ 5
 length-position x = go (lt plusZero x) (lt x plusZero)
@@ -120,13 +140,13 @@ all-lines (b ∷ rest) = go (eqb b 10) (lines rest) (all-lines rest)
 
 -- what a state may still print beyond a byte for each byte that it reads
 abbrev owing : State → ℕ
-owing (waiting c) = 32
-owing (collecting c r prices) = 51 + 5 * length prices
-owing (stopped c reason) = 13
+owing (waiting c) = 291
+owing (collecting c r prices) = 310 + 5 * length prices
+owing (stopped c reason) = 272
 
 -- a request with these prices is answered, or waits
 with-prices-few : (c : Counts) (r : Request) (prices : List Float)
-    → length (withPrices c r prices .prints) + owing (withPrices c r prices .state) ≤ 51 + 5 * length prices
+    → length (withPrices c r prices .prints) + owing (withPrices c r prices .state) ≤ 310 + 5 * length prices
 unfolding withPrices answerText
 with-prices-few c r prices = go (eqb (length prices) (r .bars))
   where
@@ -136,8 +156,8 @@ with-prices-few c r prices = go (eqb (length prices) (r .bars))
     text : List ℕ
     text = headLine (r .desk) (r .rule) (refusalOf a) (countOf a) ++ positionLines (countOf a) (ruleLine r prices)
 
-    long : length text ≤ 19 + 5 * length prices
-    long =
+    long : (t : Bool) → length (cond t text (headLine (r .desk) (r .rule) noSuchDesk 0)) ≤ 19 + 5 * length prices
+    long true =
         rw (
           length-append (headLine (r .desk) (r .rule) (refusalOf a) (countOf a))
               (positionLines (countOf a) (ruleLine r prices)),
@@ -145,11 +165,12 @@ with-prices-few c r prices = go (eqb (length prices) (r .bars))
           length-positions,
         )
         (omega (arith, rule-most r prices))
+    long false = omega (arith, length-head (r .desk) (r .rule) noSuchDesk 0)
 
     go : (t : Bool) →
-        let s : Step = cond t (completed c r prices) (record { prints = []; state = collecting c r prices }) in
-        length (s .prints) + owing (s .state) ≤ 51 + 5 * length prices
-    go true = omega (arith, long)
+        let s : Step = cond t (completed c r prices) (quiet (collecting c r prices)) in
+        length (s .prints) + owing (s .state) ≤ 310 + 5 * length prices
+    go true = omega (arith, long (isDesk (r .desk)))
     go false = omega arith
 
 broken-few : (c : Counts) (reason : Reason) → length (broken c reason .prints) ≡ 19
@@ -180,14 +201,14 @@ stepped (stopped c reason) line = omega arith
 stepped (waiting c) line = go (readHeader line) (asked-long line)
   where
     go : (h : Header) → ((r : Request) → h ≡ Asked r → length line ≡ headerBytes)
-        → length (begun c line h .prints) + owing (begun c line h .state) ≤ 32 + length line
+        → length (begun c line h .prints) + owing (begun c line h .state) ≤ 291 + length line
     go (Asked r) f = omega (arith, with-prices-few (afterLines 1 c) r [], f r refl)
     go Malformed f = omega (arith, broken-few c (headerReason line))
 stepped (collecting c r prices) line = go (readPriceLine line) (priced-long line)
   where
     go : (p : Price) → ((x : Float) → p ≡ Ticks x → length line ≡ priceBytes)
         → length (priced c r prices line p .prints) + owing (priced c r prices line p .state)
-        ≤ 51 + 5 * length prices + length line
+        ≤ 310 + 5 * length prices + length line
     go (Ticks x) f =
         omega (
           arith,
@@ -198,16 +219,16 @@ stepped (collecting c r prices) line = go (readPriceLine line) (priced-long line
     go Unpriced f = omega (arith, broken-few c (priceReason line))
 
 ends-few : (s : State) → length (ending s .text) ≤ owing s
-unfolding ending closing
-ends-few (waiting c) = omega (arith, length-last (c .refused))
+unfolding ending
+ends-few (waiting c) = omega (arith, length-counts desks (refusedOf c))
 ends-few (collecting c r prices) =
     omega (
       arith,
-      length-append (broken c InputEnds .prints) (closing (afterBroken c)),
+      length-append (broken c InputEnds .prints) (closing (afterLines 1 c)),
       broken-few c InputEnds,
-      length-last (afterBroken c .refused),
+      length-counts desks (refusedOf (afterLines 1 c)),
     )
-ends-few (stopped c reason) = omega (arith, length-last (c .refused))
+ends-few (stopped c reason) = omega (arith, length-counts desks (refusedOf c))
 
 outcome-few : (s : State) (ls : List (List ℕ)) → length (outcome s ls .text) ≤ owing s + all ls
 unfolding outcome

@@ -10,6 +10,7 @@ use crate::source;
 const HEADER: &[usize] = &[4, 4, 6, 6, 6];
 const PRICE: usize = 12;
 const MOST_BARS: usize = 512;
+const DESKS: usize = 16;
 const FIELDS: [&str; 5] = ["desk", "rule", "n", "m", "bars"];
 
 struct Request {
@@ -20,29 +21,34 @@ struct Request {
     prices: Vec<f64>,
 }
 
-/// Answers each request in turn; a line that breaks its columns is refusal 10, and nothing is read after it. Gives what
-/// is said of that line.
+/// Answers each request in turn; a line that breaks its columns is refusal 10, and nothing is read after it. Then come
+/// the desks with their refused requests. Gives what is said of the broken line.
 pub fn run(mut input: impl BufRead, mut output: impl Write) -> Result<Option<String>> {
-    let mut refused = 0;
+    let mut refused = [0; DESKS];
     let mut lines = 0;
     let mut fault = None;
     while fault.is_none() && !input.fill_buf()?.is_empty() {
         match read_request(&mut input, &mut lines)? {
-            Ok(request) => refused += answer(request, &mut output)?,
+            Ok(request) => answer(request, &mut refused, &mut output)?,
             Err(words) => {
                 print_head(&mut output, 0, 0, 10, 0)?;
-                refused += 1;
                 fault = Some(format!("line {lines}: {words}"));
             }
         }
     }
-    writeln!(output, "{refused:12}")?;
+    for (desk, count) in (1..).zip(refused) {
+        writeln!(output, "{desk:4}{count:12}")?;
+    }
     output.flush()?;
     Ok(fault)
 }
 
-/// Prints the answer of one request, and gives 1 if it is refused.
-fn answer(request: Request, output: &mut impl Write) -> Result<usize> {
+/// Prints the answer of one request, and counts it for its desk if the rule refuses it. A desk that is none of the
+/// sixteen has refusal 15, whatever the rule says.
+fn answer(request: Request, refused: &mut [usize; DESKS], output: &mut impl Write) -> Result<()> {
+    if !(1..=DESKS).contains(&request.desk) {
+        return print_head(output, request.desk, request.rule, 15, 0);
+    }
     let function = rule(request.rule).expect("the rule was read");
     let windows = [request.n, request.m].map(Value::Count);
     let parameters = function.places(Role::is_window).zip(windows).map(|(_, window)| window).collect();
@@ -52,7 +58,8 @@ fn answer(request: Request, output: &mut impl Write) -> Result<usize> {
     for cell in &expected.cells[0] {
         writeln!(output, "{:4}", f64::from_bits(*cell) as i64)?;
     }
-    Ok((expected.answer.refusal != 0) as usize)
+    refused[request.desk - 1] += (expected.answer.refusal != 0) as usize;
+    Ok(())
 }
 
 fn print_head(output: &mut impl Write, desk: usize, rule: usize, refusal: u64, count: u64) -> Result<()> {

@@ -89,14 +89,42 @@ pub fn edges(rng: &mut Rng) -> Vec<Vec<u8>> {
         (1, 3, 257, 0, 512),
         (1, 2, 511, 512, 512),
         (1, 1, 2, 0, 999_999),
-        (16, 1, 2, 0, 3),
-        (17, 1, 2, 0, 3),
         (17, 3, 999_999, 0, 3),
+        (17, 2, 3, 3, 3),
+        (9999, 4, 1, 2, 3),
     ] {
         let text = header(desk, rule, n, m, bars) + &lines((0..bars.min(600) as i64).map(|_| rng.between(-9, 9)));
         texts.push(text.clone());
         texts.push(text + EXAMPLE);
     }
+    // Each desk with a good request, a refused one and an empty one; and all of them in one sheet.
+    let mut all = String::new();
+    for desk in 0..=18 {
+        let good = header(desk, 2, 1, 2, 2) + &lines([4, 5].into_iter());
+        let refused = header(desk, 2, 2, 1, 1) + &lines([5].into_iter());
+        let text = good + &refused + &header(desk, 1, 1, 0, 0) + &refused.repeat(desk);
+        all += &text;
+        texts.push(text);
+    }
+    texts.push(all);
+    // Refusal 15 beside 10, 5, 7, 9 and an empty answer.
+    for desk in [0, 1, 16, 17] {
+        for (rule, n, m, price) in [
+            (1, 1, 0, "           x"),
+            (1, 1, 0, ""),
+            (1, 1, 0, "  1073741825"),
+            (1, WINDOW_LIMIT + 1, 0, "           5"),
+            (2, 2, 2, "           5"),
+            (3, 0, 0, "           5"),
+        ] {
+            let head = header(desk, rule, n, m, 1);
+            texts.push(head.clone());
+            texts.push(format!("{head}{price}\n"));
+            texts.push(format!("{head}{price}\n{EXAMPLE}"));
+        }
+    }
+    // More refused requests than a block holds.
+    texts.push((0..3_000).map(|i| header(i % 18, 1 + i % 3, 999_999, 0, 0)).collect());
     for price in [
         "          -0",
         "         -00",

@@ -2,7 +2,7 @@
 -- and buffers, and what reading its prices promises. Assumes nothing.
 use mathlib.Core.Path.{_≡_}
 use mathlib.Core.Bool.{true, false, cond}
-use mathlib.Core.List.{List, [], _++_}
+use mathlib.Core.List.{List, _++_}
 use Prim.Native.Nat.{ℕ, _+_, _-_, _*_, _<_, _≤_}
 use lib.ListN.{length, take, drop}
 use lib.Seq.{slice}
@@ -25,6 +25,7 @@ use Rattle.sheet_requests.specs.Sheet.{
   collecting,
   stopped,
   Step,
+  quiet,
   broken,
   withPrices,
   lines,
@@ -63,9 +64,9 @@ Incomplete (Stopped reason) = Unit {0}
 
 -- the step that is still to be made: a request that has all its prices is to be answered
 abbrev pub answerIfComplete : Stage → Counts → List Float → Step
-answerIfComplete Waiting counts series = record { prints = []; state = waiting counts }
+answerIfComplete Waiting counts series = quiet (waiting counts)
 answerIfComplete (Collecting r got) counts series = withPrices counts r (take got series)
-answerIfComplete (Stopped reason) counts series = record { prints = []; state = stopped counts reason }
+answerIfComplete (Stopped reason) counts series = quiet (stopped counts reason)
 
 -- of a request that may have all its prices no more were read than it has bars, and all fit the series
 abbrev pub PricesFit : Stage → Type 0

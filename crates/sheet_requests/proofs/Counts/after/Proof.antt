@@ -9,7 +9,7 @@ after-spec =
     (tie.spec
     (λ c. search needs)  -- enum-told
     (λ c. search needs)  -- enum-told-2
-    (λ c κs. search needs)  -- many-more-requires
+    (λ c κs. search needs)  -- one-more-requires
     (λ c. search needs)  -- returns
-    (λ c. rw (c .before .enum-told2 .given .1, c .many-more .ensures))  -- returns-2
+    (λ c. rw (c .before .enum-told2 .given .1) (c .one-more .ensures))  -- returns-2
     )

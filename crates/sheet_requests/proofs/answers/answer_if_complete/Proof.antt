@@ -1,14 +1,14 @@
 -- `answer_if_complete` meets its contract: with all its prices the request
 -- is answered, and else nothing is done. Assumes nothing.
 use mathlib.Core.Path.{_≡_, refl}
-use mathlib.Core.List.{List, []}
+use mathlib.Core.List.{List}
 use Prim.Native.Nat.{ℕ, _+_}
 use native.Mathlib.Omega.{arith}
 use borrow.Author.Needs.{needs}
 use denote.Ref.{now}
 use lib.Ieee.{Float}
 use Rattle.sheet_lines.proofs.Printing.{add-none}
-use Rattle.sheet_requests.specs.Sheet.{Step}
+use Rattle.sheet_requests.specs.Sheet.{Step, quiet}
 use Rattle.sheet_requests.specs.declared.blocks.Place.{Place}
 use Rattle.sheet_requests.specs.inner.Place.{stateOf, textOwed, Incomplete, SteppedInRoom}
 use Rattle.sheet_requests.proofs.Prices.{waits, all-there}
@@ -17,7 +17,7 @@ use Rattle.sheet_requests.proofs.answers.answer_if_complete.Tie as tie
 
 -- where no step is to be made, the place stays
 stays : {t : Step} {series : List Float} {p : Place} {text : List ℕ}
-    → t ≡ record { prints = []; state = stateOf (p .sheet .stage) (p .sheet .counts) series }
+    → t ≡ quiet (stateOf (p .sheet .stage) (p .sheet .counts) series)
     → Incomplete (p .sheet .stage)
     → SteppedInRoom t series (p .at) (p .filled) p text text (p .filled + textOwed (p .sheet .stage))
 stays e h =

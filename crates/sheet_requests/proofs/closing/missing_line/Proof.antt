@@ -7,6 +7,6 @@ pub missing-line-spec : {M : Type 1} → statement M
 missing-line-spec =
     tie.close
     (tie.spec
-    (λ c κs. search needs)  -- broken-requires
-    (λ c. rw (c .broken .ensures))  -- returns
+    (λ c κs. search needs)  -- after-lines-requires
+    (λ c. rw (c .after-lines .ensures))  -- returns
     )

@@ -10,14 +10,14 @@ returns c =
     let last = c .before .before in
     let more = last .before .before in
     let head = more .before .before .before in
-    rw (← more .broken .ensures) (add-more (head .print-head .ensures) (last .print .ensures) (omega arith) .text)
+    rw (← more .after-lines .ensures) (add-more (head .print-head .ensures) (last .print .ensures) (omega arith) .text)
 
 pub print-cut-spec : {M : Type 1} → statement M
 print-cut-spec =
     tie.close
     (tie.spec
     (λ c κs. search needs)  -- print-head-requires
-    (λ c κs. search needs)  -- broken-requires
+    (λ c κs. search needs)  -- after-lines-requires
     (λ c κs. search needs)  -- print-requires
     (λ c. search needs)  -- same-length
     returns
