@@ -101,9 +101,9 @@ pub flat-market-reads-50 : (s : List Float) (n : ℕ) {out₀ out₁ work₀ wor
 unfolding wilderRsiLine eq
 flat-market-reads-50 s n {work₀ = work₀} flat c i b h =
     let r = bar nan accepted s (n ∷ []) (length work₀ ∷ []) (c .call) i h in
-    let w = r .each .0 in
-    let at : n + (i - n) ≡ i = omega arith in
     let inside = r .inside in
-    let up = average-of-zeros n w (gains (line s)) (i - n) (λ j p l. gains-none s flat (r .values) j (omega arith)) in
-    let down = average-of-zeros n w (losses (line s)) (i - n) (λ j p l. losses-none s flat (r .values) j (omega arith)) in
-    rw (r .cell, from-bar n nan _ i b, ← at, up, down)
+    let none = average-of-zeros n (r .each .0) in
+    let up = none (gains (line s)) (i - n) (λ j p l. gains-none s flat (r .values) j (omega arith)) in
+    let down = none (losses (line s)) (i - n) (λ j p l. losses-none s flat (r .values) j (omega arith)) in
+    let here : i ≡ n + (i - n) = omega arith in
+    rw (r .cell, from-bar n nan _ i b, here, up, down)
