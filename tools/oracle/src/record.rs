@@ -32,8 +32,8 @@ pub fn print() {
     calls.iter().flatten().for_each(|line| println!("{line}"));
 }
 
-/// The starred cases, a published table and each edge, a few calls of any kind, those with the close before bar 0, flat
-/// markets, and calls of long series by rule.
+/// The starred cases, a published table and each edge, a few calls of any kind, those with the close before bar 0, and
+/// calls of long series by rule.
 fn records(function: &'static Function) -> Vec<Vec<String>> {
     let mut rng = Rng::new(seed(function.name));
     let mut calls = starred(function);
@@ -42,7 +42,6 @@ fn records(function: &'static Function) -> Vec<Vec<String>> {
     let random = std::iter::repeat_with(|| generate::random(&mut rng, function));
     calls.extend(random.filter(|call| call.series.iter().all(|s| s.len() <= LONGEST)).take(RANDOM));
     calls.extend(closes(&mut rng, function, LEN));
-    calls.extend(flat_markets(function));
     let short = calls.iter().map(|call| record(function, call, Form::WrittenOut));
     let long = long(function);
     short.chain(long.iter().map(|call| record(function, call, Form::ByRule))).collect()
@@ -81,8 +80,19 @@ fn starred(function: &Function) -> Vec<Call> {
     cases.iter().map(call).collect()
 }
 
+/// Flat markets of `wilder_rsi`: whole, after a rise and a fall, and before one; with n 2 so long that the average gain
+/// fades to 0.
+fn flat_markets(function: &Function) -> Vec<Call> {
+    let after = |first: f64, bars: usize| [vec![first], vec![1.0; bars - 1]].concat();
+    let before = [vec![1.0; LEN], vec![2.0, 2.0]].concat();
+    let series = [vec![5.0; 3], vec![1.0, 2.0, 2.0, 1.0, 4.0], after(0.0, LEN), after(2.0, LEN), before];
+    let short = series.into_iter().flat_map(|series| [1, 2, 3].map(|n| (series.clone(), n)));
+    let cases = short.chain([(after(0.0, 1_080), 2)]).filter(|_| function.name == "wilder_rsi");
+    cases.map(|(series, n)| function.call(vec![series], with_windows(function, n))).collect()
+}
+
 /// The edges that a short series has: each parameter, each odd value in one place, each room, one series of another
-/// length.
+/// length, a flat market.
 fn short_edges(rng: &mut Rng, function: &Function) -> Vec<Call> {
     let mut calls = vec![plain(rng, function, 0, modest(function))];
     for place in 0..function.roles.len() {
@@ -113,18 +123,8 @@ fn short_edges(rng: &mut Rng, function: &Function) -> Vec<Call> {
         call.series[place].pop();
         calls.push(call);
     }
+    calls.extend(flat_markets(function));
     calls
-}
-
-/// Flat markets of `wilder_rsi`: whole, after a rise and a fall, and before one; with n 2 so long that the average gain
-/// fades to 0.
-fn flat_markets(function: &Function) -> Vec<Call> {
-    let after = |first: f64, bars: usize| [vec![first], vec![1.0; bars - 1]].concat();
-    let before = [vec![1.0; LEN], vec![2.0, 2.0]].concat();
-    let series = [vec![5.0; 3], vec![1.0, 2.0, 2.0, 1.0, 4.0], after(0.0, LEN), after(2.0, LEN), before];
-    let short = series.into_iter().flat_map(|series| [1, 2, 3].map(|n| (series.clone(), n)));
-    let cases = short.chain([(after(0.0, 1_080), 2)]).filter(|_| function.name == "wilder_rsi");
-    cases.map(|(series, n)| function.call(vec![series], with_windows(function, n))).collect()
 }
 
 /// Calls of long series: the longest and one bar more; the longest window and one above it, on a series in which it has
