@@ -1,9 +1,9 @@
 -- `wilder_rsi` of a flat market: where all prices are equal, both averages are 0 and every cell from bar n on is 50.
 -- Assumes nothing.
-use mathlib.Core.Path.{_≡_, refl, sym, _∙_}
-use mathlib.Core.Bool.{Bool, true, false, false≢true}
+use mathlib.Core.Path.{_≡_, refl, _∙_}
+use mathlib.Core.Bool.{true, false≢true}
 use mathlib.Core.List.{List, [], _∷_}
-use Prim.Native.Nat.{ℕ, zero, suc, _+_, _-_, _*_, _^_, _<_, _≤_}
+use Prim.Native.Nat.{ℕ, zero, suc, _+_, _-_, _^_, _<_, _≤_}
 use native.Mathlib.Nat.{zero-mul}
 use native.Mathlib.Omega.{arith}
 use lib.IntN.{pos}
@@ -48,32 +48,30 @@ unfolding sumFrom add sum round
 sum-of-zeros f a zero h = refl
 sum-of-zeros f a (suc k) h = rw (sum-of-zeros f a k (λ j l. h j (omega arith)), h k (omega arith))
 
--- of a line that is 0.0 from bar 1 on, d bars after the seed
-average-of-zeros : (n : ℕ) → Window n → (f : Line) (d : ℕ) → ((j : ℕ) → 0 < j → j ≤ n + d → f j ≡ plusZero)
+-- Wilder's, d bars after the seed
+average-of-zeros : (n : ℕ) → Window n → (f : Line) (d : ℕ) → ((j : ℕ) → j ≤ n + d → f j ≡ plusZero)
     → wilder n n f (n + d) ≡ plusZero
 unfolding wilder
 average-of-zeros n w f zero z =
     let narrow = w .narrow in
     let here : n + 0 ≡ n = omega arith in
-    let zeros = sum-of-zeros f (n + 1 - n) n (λ j l. z (n + 1 - n + j) (omega arith) (omega arith)) in
+    let zeros = sum-of-zeros f (n + 1 - n) n (λ j l. z (n + 1 - n + j) (omega arith)) in
     rw (here, carried-seed nan (wilderStep n) n (wilderSeed n n f) f, zeros) (zero-over n (w .some) (omega arith))
 average-of-zeros n w f (suc d) z =
     let back : n + suc d - 1 ≡ n + d = omega arith in
     rw (
       carried-next nan (wilderStep n) n (wilderSeed n n f) f (n + suc d) (omega arith),
       back,
-      average-of-zeros n w f d (λ j p l. z j p (omega arith)),
-      z (n + suc d) (omega arith) (omega arith),
+      average-of-zeros n w f d (λ j l. z j (omega arith)),
+      z (n + suc d) (omega arith),
     ) (zero-step n w)
 
--- ---- no change has neither a gain nor a loss
+-- ---- gains and losses of a flat market
 
 no-change : (x : Float) → finite x ≡ true → sub binary64 x x ≡ plusZero
 no-change nan h = absurd (false≢true h)
 no-change (inf s) h = absurd (false≢true h)
 no-change (fin s m e) h = number-less-itself s m e
-
--- ---- the statement
 
 -- all prices are equal: each is that of bar 0
 abbrev pub Flat : List Float → Type 0
@@ -95,6 +93,8 @@ module _ (s : List Float) (flat : Flat s) (ok : all accepted s ≡ true) where
   unfolding losses lt neg
   losses-none j h = rw (changes-none j h)
 
+-- ---- the statement
+
 -- A flat market reads 50: in an answered call of equal prices every cell from bar n on is 50.
 pub flat-market-reads-50 : (s : List Float) (n : ℕ) {out₀ out₁ work₀ work₁ : List Float} {k : ℕ} → Flat s
     → WilderRsiCall s n out₀ work₀ (Cells k) out₁ work₁ → (i : ℕ) → n ≤ i → i < k → getD out₁ i nan ≡ fifty
@@ -103,7 +103,7 @@ flat-market-reads-50 s n {work₀ = work₀} flat c i b h =
     let r = bar nan accepted s (n ∷ []) (length work₀ ∷ []) (c .call) i h in
     let inside = r .inside in
     let none = average-of-zeros n (r .each .0) in
-    let up = none (gains (line s)) (i - n) (λ j p l. gains-none s flat (r .values) j (omega arith)) in
-    let down = none (losses (line s)) (i - n) (λ j p l. losses-none s flat (r .values) j (omega arith)) in
+    let up = none (gains (line s)) (i - n) (λ j l. gains-none s flat (r .values) j (omega arith)) in
+    let down = none (losses (line s)) (i - n) (λ j l. losses-none s flat (r .values) j (omega arith)) in
     let here : i ≡ n + (i - n) = omega arith in
     rw (r .cell, from-bar n nan _ i b, here, up, down)
