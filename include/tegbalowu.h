@@ -108,8 +108,8 @@ tegbalowu_answer tegbalowu_holt_winters(const double *series, size_t series_len,
                                         size_t work_len);
 
 /*
- * Wilder's relative strength index, from bar n on; NaN before. 100 where the average loss is 0.
- * Refusals 1, 3, 4, 5, 7.
+ * Wilder's relative strength index, from bar n on; NaN before. Where the average loss is 0 it is
+ * 100, and 50 where the average gain is 0 too, as in a flat market. Refusals 1, 3, 4, 5, 7.
  */
 tegbalowu_answer tegbalowu_wilder_rsi(const double *series, size_t series_len, size_t n, double *out, size_t out_len,
                                       double *work, size_t work_len);

@@ -190,8 +190,16 @@ functions! {
         series: &[f64], season_length: usize, alpha: f64, beta: f64, gamma: f64, out: &mut [f64], work: &mut [f64]
     );
 
-    /// Wilder's relative strength index, from bar n on; NaN before. 100 where the average loss is 0.
-    /// Refusals 1, 3, 4, 5, 7.
+    /// Wilder's relative strength index, from bar n on; NaN before. Where the average loss is 0 it is 100, and 50 where
+    /// the average gain is 0 too, as in a flat market. Refusals 1, 3, 4, 5, 7.
+    ///
+    /// ```
+    /// let mut out = [9.0; 3];
+    /// let mut work = tegbalowu::work_for(3);
+    /// assert_eq!(tegbalowu::wilder_rsi(&[5.0, 5.0, 5.0], 2, &mut out, &mut work), Ok(3));
+    /// assert!(out[1].is_nan());
+    /// assert_eq!(out[2], 50.0);
+    /// ```
     tegbalowu_wilder_rsi wilder_rsi(series: &[f64], n: usize, out: &mut [f64], work: &mut [f64]);
 
     /// The relative strength index of exponential averages with factor 1 / period, smoothed with `smooth_period`: NaN

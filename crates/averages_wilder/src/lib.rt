@@ -62,12 +62,12 @@ pub fn write_average(series: &[f64], n: usize, out: &mut [f64])
     }
 }
 
-// The cell of two averages: 100 where the average loss is 0.
+// The cell of two averages: where the average loss is 0, 50 if the gain is 0 too and else 100.
 fn cell(averages: Averages) -> f64
     ensures { λ r. ⌜ r ≡ wilderCell (averages .gain) (averages .loss) ⌝ }
 {
     if averages.loss == 0.0 {
-        100.0
+        if averages.gain == 0.0 { 50.0 } else { 100.0 }
     } else {
         changes::strength(averages.gain, averages.loss)
     }

@@ -1,6 +1,7 @@
 -- What a user gets, as theorems about the definitions that the contracts cite.
 pub mod BollOfOne
 pub mod Exceptions
+pub mod FlatMarket
 pub mod FromC
 pub mod Leaves
 pub mod NanLines

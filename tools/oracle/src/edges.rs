@@ -22,6 +22,7 @@ pub fn edges(rng: &mut Rng, function: &Function) -> Vec<Call> {
     wide_windows(rng, function, &mut calls);
     ticks_of_long_windows(rng, function, &mut calls);
     zeros_first(rng, function, &mut calls);
+    flat_stretches(function, &mut calls);
     multiples(rng, function, &mut calls);
     at_the_average(rng, function, &mut calls);
     pairs_of_faults(rng, function, &mut calls);
@@ -320,6 +321,23 @@ fn zeros_first(rng: &mut Rng, function: &Function, calls: &mut Vec<Call>) {
             let mut series = for_each(function, || walk(rng, zeros + more));
             series.iter_mut().for_each(|series| series[..zeros].fill(0.0));
             calls.push(function.call(series, with_windows(function, n)));
+        }
+    }
+}
+
+/// Functions whose cells are made of gains and losses.
+const OF_CHANGES: &[&str] = &["wilder_rsi", "rsx_ss2", "rsi_reverse_positions"];
+
+/// A market without a change: from the first bar to the last, after a move, before one, and on both sides of one; in so
+/// many bars that an average of n 2 has faded to 0. A move is a rise or a fall, of ticks or of the smallest number.
+fn flat_stretches(function: &Function, calls: &mut Vec<Call>) {
+    const BARS: usize = 1_100;
+    let moves =
+        [(5.0, 5.0), (0.0, 0.0), (0.0, 1.0), (1.0, 0.0), (7.25, 7.5), (-3.0, -3.01), (0.0, 5e-324), (5e-324, 0.0)];
+    for (n, (from, to)) in [1, 2, 3, 14].into_iter().flat_map(|n| moves.map(|prices| (n, prices))) {
+        for turn in [1, n, n + 1, 20, BARS - 1].into_iter().filter(|_| OF_CHANGES.contains(&function.name)) {
+            let series = [vec![from; turn], vec![to; BARS - turn]].concat();
+            calls.push(function.call(vec![series], with_windows(function, n)));
         }
     }
 }

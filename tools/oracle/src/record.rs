@@ -84,8 +84,19 @@ fn starred(function: &Function) -> Vec<Call> {
     cases.iter().map(call).collect()
 }
 
+/// Flat markets of `wilder_rsi`: whole, after a rise and a fall, and before one; with n 2 so long that the average gain
+/// fades to 0.
+fn flat_markets(function: &Function) -> Vec<Call> {
+    let after = |first: f64, bars: usize| [vec![first], vec![1.0; bars - 1]].concat();
+    let before = [vec![1.0; LEN], vec![2.0, 2.0]].concat();
+    let series = [vec![5.0; 3], vec![1.0, 2.0, 2.0, 1.0, 4.0], after(0.0, LEN), after(2.0, LEN), before];
+    let short = series.into_iter().flat_map(|series| [1, 2, 3].map(|n| (series.clone(), n)));
+    let cases = short.chain([(after(0.0, 1_080), 2)]).filter(|_| function.name == "wilder_rsi");
+    cases.map(|(series, n)| function.call(vec![series], with_windows(function, n))).collect()
+}
+
 /// The edges that a short series has: each parameter, each odd value in one place, each room, one series of another
-/// length.
+/// length, a flat market.
 fn short_edges(rng: &mut Rng, function: &Function) -> Vec<Call> {
     let mut calls = vec![plain(rng, function, 0, modest(function))];
     for place in 0..function.roles.len() {
@@ -116,6 +127,7 @@ fn short_edges(rng: &mut Rng, function: &Function) -> Vec<Call> {
         call.series[place].pop();
         calls.push(call);
     }
+    calls.extend(flat_markets(function));
     calls
 }
 

@@ -1,4 +1,5 @@
-//! Document 01's Wilder RSI, which pure.rs does not have: a plain loop, each operation rounded once.
+//! Document 01's Wilder RSI with document 02's flat market, which pure.rs does not have: a plain loop, each operation
+//! rounded once.
 
 /// The cell of every bar, NaN before bar n; no cell for a window of 0.
 pub fn line(series: &[f64], n: usize) -> Vec<f64> {
@@ -35,5 +36,9 @@ fn mean(values: &[f64]) -> f64 {
 
 /// The cell of two averages.
 fn strength(gain: f64, loss: f64) -> f64 {
-    if loss == 0.0 { 100.0 } else { 100.0 - 100.0 / (1.0 + gain / loss) }
+    match (gain == 0.0, loss == 0.0) {
+        (true, true) => 50.0,
+        (false, true) => 100.0,
+        (_, false) => 100.0 - 100.0 / (1.0 + gain / loss),
+    }
 }

@@ -1,4 +1,4 @@
--- `cell` meets its contract: its test is that of `wilderCell`. Assumes nothing.
+-- `cell` meets its contract: its tests are those of `wilderCell`. Assumes nothing.
 use borrow.Author.Needs.{needs}
 use lib.Ieee.{ofBits}
 use Rattle.averages_wilder.proofs.cell.Statement.{statement}
@@ -9,6 +9,7 @@ cell-spec =
     tie.close
     (tie.spec
     (λ c κs. search needs)  -- strength-requires
-    (λ c. unfold ofBits in rw (c .if1 .taken))  -- returns
-    (λ c. unfold ofBits in rw (c .before .if1 .left, c .strength .ensures))  -- returns-2
+    (λ c. unfold ofBits in rw (c .before .before .if1 .taken, c .if2 .taken))  -- returns
+    (λ c. unfold ofBits in rw (c .before .before .if1 .taken, c .if2 .left))  -- returns-2
+    (λ c. unfold ofBits in rw (c .before .if1 .left, c .strength .ensures))  -- returns-3
     )
