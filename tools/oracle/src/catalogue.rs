@@ -9,7 +9,7 @@ use std::hint::black_box;
 
 use crate::call::{Answer, Call, Cell, Kind, Lines, Value};
 use crate::library::Lent;
-use crate::{close_before, restated, tick_mean, wilder_rsi};
+use crate::{close_before, restated, tanh, tick_mean, wilder_rsi};
 
 /// What a series is: how its values stand to those of the others.
 #[derive(Clone, Copy, Debug, PartialEq, Eq)]
@@ -394,5 +394,9 @@ functions! {
             restated::ultimate_channel(high, low, close, period, multiplier, before)
         };
         timed: pure::ultimate_channel(high, low, close, period, multiplier),
+    }
+    tanh_positions "tanh_positions" {
+        series: [series: Price], parameters: [n: Window], outputs: [out], cells: f64, work: [work],
+        source: tanh::tanh_positions(series, n); timed: pure::tanh_positions(series, n),
     }
 }
