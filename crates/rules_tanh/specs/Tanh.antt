@@ -43,7 +43,7 @@ tanhCell score =
 abbrev pub scoreOf : Float → Float → Float → Float
 scoreOf average middle width = cond (lt plusZero width) (div binary64 (sub binary64 average middle) width) plusZero
 
--- the score of a line's cell against its last n cells: the middle is their mean, and the width their deviation over n - 1
+-- the score of a line's cell against its last n cells: the middle is their mean, the width their deviation over n - 1
 abbrev pub score : ℕ → Line → Line
 score n g i = scoreOf (g i) (mean n g i) (deviation minusZero (n - 1) n g i)
 

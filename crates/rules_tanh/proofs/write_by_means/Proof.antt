@@ -61,5 +61,6 @@ write-by-means-spec =
     (λ c. search needs)  -- loop-less
     loop-again
     (λ c. search needs)  -- same-length
-    (λ c. lead-then (c .before .before .before .before .fill-lead .ensures) (c .before .loop .inv .2) (omega arith))  -- returns
+    -- returns
+    (λ c. lead-then (c .before .before .before .before .fill-lead .ensures) (c .before .loop .inv .2) (omega arith))
     )
