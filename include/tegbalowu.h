@@ -259,6 +259,15 @@ tegbalowu_answer tegbalowu_mms_positions(const double *series, size_t series_len
                                          double *out, size_t out_len, double *work, size_t work_len);
 
 /*
+ * Tanh: how many deviations the mean of the last n values lies above the mean of the last n such
+ * means, from bar 2n-2 on, and tanh of that rounded to hundredths, half away from zero, so that -0.0
+ * is possible. The deviation is over n-1; where it is not above 0, and with n of 1, the cell is 0.
+ * tanh is a recorded table. Refusals 1, 3, 4, 5, 7.
+ */
+tegbalowu_answer tegbalowu_tanh_positions(const double *series, size_t series_len, size_t n, double *out,
+                                          size_t out_len, double *work, size_t work_len);
+
+/*
  * Rank: the share of the n-1 means before the present one that lie below it, moved from 0..1 to
  * -1..1 and rounded to hundredths, half away from zero, so that -0.0 is possible; from bar 2n-2
  * on. n = 1 gives NaN at every bar. Refusals 1, 3, 4, 5, 7.

@@ -15,6 +15,7 @@ static uint64_t magnitude(double x) { return one_nan(bits_of(tegbalowu_magnitude
 static uint64_t sign(double x) { return one_nan(bits_of(tegbalowu_sign(x))); }
 static uint64_t round_to_whole(double x) { return one_nan(bits_of(tegbalowu_round_to_whole(x))); }
 static uint64_t square_root(double x) { return one_nan(bits_of(tegbalowu_square_root(x))); }
+static uint64_t tanh_cell(double x) { return one_nan(bits_of(tegbalowu_tanh_cell(x))); }
 
 /* The columns of the list after the first, which is x. */
 static const struct {
@@ -26,6 +27,7 @@ static const struct {
     {"sign", sign},
     {"round_to_whole", round_to_whole},
     {"square_root", square_root},
+    {"tanh_cell", tanh_cell},
 };
 enum { COUNT = sizeof LEAVES / sizeof *LEAVES };
 

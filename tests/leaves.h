@@ -1,6 +1,6 @@
 /*
- * The leaves as C functions, proved in crates/capi_leaves: for tests/leaves.c and tools/root. They are no part of the
- * library that is installed. Each takes every f64; of a NaN they promise no bits.
+ * The leaves, and the cell of a score, as C functions, proved in crates/capi_leaves: for tests/leaves.c and tools/root.
+ * They are no part of the library that is installed. Each takes every f64; of a NaN they promise no bits.
  */
 #ifndef LEAVES_H
 #define LEAVES_H
@@ -21,5 +21,8 @@ double tegbalowu_round_to_whole(double x);
 
 /* The f64 nearest the root of x, ties to even; NaN below zero. */
 double tegbalowu_square_root(double x);
+
+/* The cell of `tanh_positions` for a score: its tanh in hundredths, by the recorded thresholds; NaN for NaN. */
+double tegbalowu_tanh_cell(double score);
 
 #endif

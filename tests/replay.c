@@ -99,7 +99,8 @@ static uint64_t *u64(const slice *s) { return cells(s, U64); }
     CALL(tick_mean, IN(0), WHOLE(0), OUT(i64, 0)) \
     CALL(ultimate_bands, IN(0), WHOLE(0), REAL(1), WHOLE(2), OUT(f64, 0), OUT(f64, 1), OUT(f64, 2), WORK) \
     CALL(ultimate_channel, IN(0), IN(1), IN(2), WHOLE(0), REAL(1), WHOLE(2), REAL(3), OUT(f64, 0), OUT(f64, 1), \
-         OUT(f64, 2), WORK)
+         OUT(f64, 2), WORK) \
+    CALL(tanh_positions, IN(0), WHOLE(0), OUT(f64, 0), WORK)
 
 #define DEFINED(name, ...) \
     static tegbalowu_answer call_##name(const call *c) { return tegbalowu_##name(__VA_ARGS__); }

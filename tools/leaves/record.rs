@@ -1,7 +1,11 @@
 // Prints tests/leaves.txt (tests/README.md): for each of some thousand patterns x one line with x, is_nan, abs, signum,
-// round and sqrt of x as Rust's f64 gives them, each as a word of 16 hexadecimal digits: is_nan as 0 or 1, and one word
-// for every NaN that is given. The first line has the number of these lines, and the names of the leaves.
+// round and sqrt of x and its tanh in hundredths as Rust's f64 gives them, each as a word of 16 hexadecimal digits:
+// is_nan as 0 or 1, and one word for every NaN that is given. The first line has the number of these lines, and the
+// names of the leaves.
 use std::hint::black_box;
+
+// A line that says what it was recorded on, then the bits of each threshold of tanh.
+const THRESHOLDS: &str = include_str!("../oracle/tanh.hex");
 
 struct Random(u64);
 
@@ -80,6 +84,10 @@ fn patterns() -> Vec<u64> {
         list.0.push(random.next());
         list.0.push(random.next());
     }
+    // the thresholds of tanh
+    for bits in THRESHOLDS.lines().skip(1) {
+        list.around(f64::from_bits(u64::from_str_radix(bits, 16).unwrap()));
+    }
     list.0.sort();
     list.0.dedup();
     list.0
@@ -92,11 +100,12 @@ fn one_nan(x: f64) -> u64 {
 
 fn main() {
     let patterns = patterns();
-    println!("{} x is_nan magnitude sign round_to_whole square_root", patterns.len());
+    println!("{} x is_nan magnitude sign round_to_whole square_root tanh_cell", patterns.len());
     for b in patterns {
         let x = black_box(f64::from_bits(b));
-        let [abs, signum, round, sqrt] = [x.abs(), x.signum(), x.round(), x.sqrt()].map(one_nan);
-        let words = [b, x.is_nan() as u64, abs, signum, round, sqrt];
+        let cell = (x.tanh() * 100.0).round() / 100.0;
+        let [abs, signum, round, sqrt, cell] = [x.abs(), x.signum(), x.round(), x.sqrt(), cell].map(one_nan);
+        let words = [b, x.is_nan() as u64, abs, signum, round, sqrt, cell];
         println!("{}", words.map(|w| format!("{w:016x}")).join(" "));
     }
 }

@@ -325,6 +325,19 @@ functions! {
         series: &[f64], timeperiod: usize, window: usize, out: &mut [f64], work: &mut [f64]
     );
 
+    /// Tanh: how many deviations the mean of the last n values lies above the mean of the last n such means, from bar
+    /// 2n-2 on, and tanh of that rounded to hundredths, half away from zero, so that -0.0 is possible; 0 before. The
+    /// deviation is over n-1; where it is not above 0, and with n of 1, the cell is 0. tanh is a recorded table.
+    /// Refusals 1, 3, 4, 5, 7.
+    ///
+    /// ```
+    /// let mut out = [9.0; 3];
+    /// let mut work = tegbalowu::work_for(3);
+    /// assert_eq!(tegbalowu::tanh_positions(&[1.0, 2.0, 4.0], 2, &mut out, &mut work), Ok(3));
+    /// assert_eq!(out, [0.0, 0.0, 0.61]);
+    /// ```
+    tegbalowu_tanh_positions tanh_positions(series: &[f64], n: usize, out: &mut [f64], work: &mut [f64]);
+
     /// Rank: the share of the n-1 means before the present one that lie below it, moved from 0..1 to -1..1 and rounded
     /// to hundredths, half away from zero, so that -0.0 is possible; from bar 2n-2 on, 0 before. n = 1 gives NaN at
     /// every bar. Refusals 1, 3, 4, 5, 7.

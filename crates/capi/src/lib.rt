@@ -24,6 +24,7 @@ ghost use Rattle.rules_bands.specs.BollReverse.{BollReverseCall};
 ghost use Rattle.rules_rsi.specs.RsiReverse.{RsiReverseCall};
 ghost use Rattle.rules_ema.specs.SingleEma.{SingleEmaCall};
 ghost use Rattle.rules_mms.specs.Mms.{MmsCall};
+ghost use Rattle.rules_tanh.specs.Tanh.{TanhCall};
 ghost use Rattle.rules_rank.specs.Rank.{RankCall};
 ghost use Rattle.rules_rank.specs.RollingRank.{RollingRankCall};
 ghost use Rattle.rules_rank_table.specs.RankTable.{RankTableCall};
@@ -341,6 +342,19 @@ pub extern "C" fn tegbalowu_ultimate_bands(
         lower,
         work,
     ))
+}
+
+#[no_mangle]
+pub extern "C" fn tegbalowu_tanh_positions(
+    series: &[f64],
+    n: usize,
+    out: &mut [f64],
+    work: &mut [f64],
+) -> CAnswer
+    ensures { λ r. ⌜ InNumbers (λ a. TanhCall (now (series .entry)) n (now (out .entry)) (now (work .entry)) a
+        (now (out .exit)) (now (work .exit))) r ⌝ }
+{
+    calls::numbers::numbers(rules::tanh_positions(series, n, out, work))
 }
 
 #[no_mangle]

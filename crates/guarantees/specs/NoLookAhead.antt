@@ -73,6 +73,8 @@ use Rattle.rules_rank_table.specs.Table.{rowsRead}
 use Rattle.rules_rsi.proofs.Index.{causal-rsi-reverse}
 use Rattle.rules_rsi.specs.RsiReverse.{RsiReverseCall}
 use Rattle.rules_triple.proofs.Crossover.{causal-triple}
+use Rattle.rules_tanh.proofs.Cells.{causal-tanh}
+use Rattle.rules_tanh.specs.Tanh.{TanhCall}
 use Rattle.rules_triple.specs.Triple.{TripleCall, tripleAnswer}
 
 -- both series have more than b bars, and the same values at bars 0 to b
@@ -167,6 +169,11 @@ module _ {s t out₀ out₁ out₀′ out₁′ work₀ work₁ work₀′ work�
       → MmsCall t n w out₀′ work₀′ (Cells (length t)) out₁′ work₁′ → EqualCells nan out₁ out₁′ b
   mms-no-look-ahead n w c c′ =
       windows-agree nan accepted equal (n ∷ w ∷ []) _ _ (λ o. causal-mms n w (o .1 .0 .some)) (c .call) (c′ .call)
+
+  pub tanh-no-look-ahead : (n : ℕ) → TanhCall s n out₀ work₀ (Cells (length s)) out₁ work₁
+      → TanhCall t n out₀′ work₀′ (Cells (length t)) out₁′ work₁′ → EqualCells nan out₁ out₁′ b
+  tanh-no-look-ahead n c c′ =
+      windows-agree nan accepted equal (n ∷ []) _ _ (λ o. causal-tanh n) (c .call) (c′ .call)
 
   pub rank-no-look-ahead : (n : ℕ) → RankCall s n out₀ work₀ (Cells (length s)) out₁ work₁
       → RankCall t n out₀′ work₀′ (Cells (length t)) out₁′ work₁′ → EqualCells nan out₁ out₁′ b

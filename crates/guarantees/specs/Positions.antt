@@ -1,5 +1,5 @@
 -- Positions: every cell of an answered call of the sheet's rules and of the exponential rule is +1.0, -1.0 or +0.0, and
--- so none is a NaN; the min-max rule's cells and ranks lie from -1 to 1. Assumes nothing.
+-- so none is a NaN; the cells of the min-max and the tanh rule and ranks lie from -1 to 1. Assumes nothing.
 use mathlib.Core.Path.{_≡_, refl, sym}
 use mathlib.Core.Logic.{_⊎_, inl, inr}
 use mathlib.Core.Bool.{Bool, true, false, cond, _||_}
@@ -35,6 +35,8 @@ use Rattle.rules_ema.specs.SingleEma.{firstUsable, singleEmaFrom, singleEmaLine
 use Rattle.rules_ema.proofs.Bounds.{gap-bounded}
 use Rattle.rules_mms.specs.Mms.{MmsCall}
 use Rattle.rules_mms.proofs.Within.{mms-within}
+use Rattle.rules_tanh.specs.Tanh.{TanhCall}
+use Rattle.rules_tanh.proofs.Cells.{tanh-within}
 use Rattle.rules_rank.specs.Rank.{RankCall}
 use Rattle.rules_rank.proofs.Bounds.{rank-within}
 
@@ -164,6 +166,16 @@ module _ (n : ℕ) (s : List Float) {out₀ out₁ : List Float} {k : ℕ} where
         let W = b .each .1 .0 .narrow in
         let within = mms-within n w (line s) i (prices-bounded s i (b .values) (b .inside))
         (b .each .0 .some, omega arith) (b .each .1 .0 .some, omega arith) in
+        rw (b .cell) (within .least, within .most)
+
+    -- Tanh: likewise.
+    pub tanh-writes-shares : TanhCall s n out₀ work₀ (Cells k) out₁ work₁ → (i : ℕ) → i < k
+        → FromMinusOneToOne (getD out₁ i nan)
+    tanh-writes-shares c i h =
+        let b = bar nan accepted s (n ∷ []) (length work₀ ∷ []) (c .call) i h in
+        let M = b .each .0 .narrow in
+        let within = tanh-within n (line s) i (prices-bounded s i (b .values) (b .inside))
+        (b .each .0 .some, omega arith) in
         rw (b .cell) (within .least, within .most)
 
     -- Rank: likewise, for a window of 2 bars or more.

@@ -15,6 +15,7 @@ ghost use Rattle.rules_rank.specs.Rank.{RankCall};
 ghost use Rattle.rules_rank.specs.RollingRank.{RollingRankCall};
 ghost use Rattle.rules_rank_table.specs.RankTable.{RankTableCall};
 ghost use Rattle.rules_triple.specs.Triple.{TripleCall};
+ghost use Rattle.rules_tanh.specs.Tanh.{TanhCall};
 
 // One average: the sign of price less the doubly averaged price, from bar 2n - 2 on.
 pub fn single_sma_positions(series: &[f64], n: usize, out: &mut [f64], work: &mut [f64]) -> Answer
@@ -119,6 +120,20 @@ pub fn single_ema_positions(series: &[f64], n: usize, out: &mut [f64], work: &mu
     let due = checks::answer_window_with_work(series, n, out.len(), work.len());
     if checks::cells_due(due, series.len(), work) {
         rules_ema::write_ema(series, n, out, work);
+    }
+    due
+}
+
+// Tanh: how many deviations the mean lies above the mean of the last n means, through tanh, rounded to hundredths, from
+// bar 2n - 2 on.
+pub fn tanh_positions(series: &[f64], n: usize, out: &mut [f64], work: &mut [f64]) -> Answer
+    ensures { λ r. ⌜ TanhCall (now (series .entry)) n (now (out .entry)) (now (work .entry)) r (now (out .exit))
+        (now (work .exit)) ⌝ }
+{
+    let due = checks::answer_window_with_work(series, n, out.len(), work.len());
+    if checks::cells_due(due, series.len(), work) {
+        rules_tanh::write_tanh(series, n, out, work);
+        cells::clear(work, 8 * series.len());
     }
     due
 }

@@ -9,7 +9,7 @@ use std::hint::black_box;
 
 use crate::call::{Answer, Call, Cell, Kind, Lines, Value};
 use crate::library::Lent;
-use crate::{close_before, ranges, restated, tick_mean, wilder_rsi};
+use crate::{close_before, ranges, restated, tanh, tick_mean, wilder_rsi};
 
 /// What a series is: how its values stand to those of the others.
 #[derive(Clone, Copy, Debug, PartialEq, Eq)]
@@ -404,5 +404,9 @@ functions! {
         domain: Domain::WholeTicks,
         ranged: true,
         rising: true,
+    }
+    tanh_positions "tanh_positions" {
+        series: [series: Price], parameters: [n: Window], outputs: [out], cells: f64, work: [work],
+        source: tanh::tanh_positions(series, n); timed: pure::tanh_positions(series, n),
     }
 }

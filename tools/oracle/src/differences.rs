@@ -9,6 +9,7 @@ use crate::call::{Call, Kind};
 use crate::catalogue::{self, Function};
 use crate::documents;
 use crate::smoother::{LONGEST, agrees, recorded_a1};
+use crate::tanh;
 
 /// A section of the page: its title, its points and paragraphs, each in one line, and what the list has of them.
 struct Section<'a> {
@@ -62,8 +63,8 @@ impl Outcome {
     }
 
     fn of_source(function: &Function, call: &Call) -> Outcome {
-        // Where exp and cos are not those of the recording the steps are restated around the recorded coefficients.
-        let own = (1..=LONGEST).all(agrees);
+        // Where exp, cos and tanh are not those of the recording the steps are restated around what is recorded.
+        let own = (1..=LONGEST).all(agrees) && tanh::agrees();
         let source = if own { function.given } else { function.source };
         let hook = take_hook();
         set_hook(Box::new(|_| {}));
@@ -150,6 +151,13 @@ impl<'a> Case<'a> {
             let recorded = format!("{:016x}", recorded_a1(period.parse().expect("a period")));
             if recorded != bits {
                 wrong.push(format!("a1 of period {period} is {recorded}"));
+            }
+        }
+        for threshold in self.all(&["threshold"]) {
+            let (k, bits) = threshold.split_once(' ').expect("hundredths and bits");
+            let recorded = format!("{:016x}", tanh::recorded_threshold(k.parse().expect("hundredths")));
+            if recorded != bits {
+                wrong.push(format!("the threshold of {k} hundredths is {recorded}"));
             }
         }
         let Some((function, call)) = self.call() else { return wrong };

@@ -28,6 +28,7 @@ mod sheet_inputs;
 mod smoother;
 mod source;
 mod table;
+mod tanh;
 mod tick_mean;
 mod ties;
 mod wilder_rsi;
@@ -45,6 +46,8 @@ const USAGE: &str = "usage: oracle compare CALLS SEED..   compare the library's 
        oracle sheet-compare PROGRAM SEED DAMAGED
        oracle sheet-bench PROGRAM FILE
        oracle smoother list|tables|check
+       oracle tanh list|tables|check
+       oracle tanh scores SCORES SEED..   compare the recorded thresholds with Rust's tanh
        oracle platform              what this was built with";
 
 /// Runs the command that the program's arguments are.
@@ -71,6 +74,13 @@ pub fn run() -> ExitCode {
         ["smoother", "list"] => told(|| smoother::print_list()),
         ["smoother", "tables"] => told(|| smoother::print_tables()),
         ["smoother", "check"] => smoother::check() && told(restated::check),
+        ["tanh", "list"] => told(|| tanh::print_list()),
+        ["tanh", "tables"] => told(|| tanh::print_tables()),
+        ["tanh", "check"] => tanh::check(),
+        ["tanh", "scores", scores, seeds @ ..] if !seeds.is_empty() => {
+            let seeds: Vec<u64> = seeds.iter().map(|s| number(s)).collect();
+            tanh::compare_scores(&seeds, number(scores) as usize)
+        }
         ["platform"] => told(|| println!("{}", smoother::platform())),
         _ => {
             eprintln!("{USAGE}");

@@ -1,0 +1,2 @@
+-- What the crate's own functions ask of each other.
+pub mod Bars
