@@ -314,6 +314,23 @@ tegbalowu_answer tegbalowu_rsi_reverse_positions(const double *series, size_t se
                                                  double rsi_lower, double rsi_exit, int32_t *out, size_t out_len,
                                                  double *work, size_t work_len);
 
+/* Baskets: contracts with weights. */
+
+/*
+ * The net position of 1 to 32 contracts with L bars each: for each bar the sum of weight times
+ * position. series has the contracts' prices one after another, contracts five numbers for each (its
+ * length L, rule, n, m and group), and weights its weight. Rule 1 is single_sma_positions, 2
+ * double_sma_positions and 3 mid_positions; 1 and 3 ignore m. A contract is in one group of 32. The
+ * count is 33 * L: bar j of group g is cell (g - 1) * L + j, and that of all contracts 32 * L + j. A
+ * group without contracts is 0, and a contract whose own call has count 0 is flat. The output has
+ * 33 * L cells and the work slice 8 * L; no cell depends on a later bar. It takes some 40 KB of stack.
+ * Refusals 10, 2, 3, 4, 16, in this order, and then that of the first contract whose own call is
+ * refused: 1, 5, 7, 9.
+ */
+tegbalowu_answer tegbalowu_basket(const double *series, size_t series_len, const uint64_t *contracts,
+                                  size_t contracts_len, const int64_t *weights, size_t weights_len, int64_t *out,
+                                  size_t out_len, double *work, size_t work_len);
+
 /* The sheet of sheet(1), for those who have the whole input in memory. */
 
 /* The bytes of output that an input may need beyond one for each of its own: enough for every input. */
