@@ -384,9 +384,10 @@ functions! {
     /// group), and `weights` its weight. Rule 1 is [`single_sma_positions`], 2 [`double_sma_positions`] and 3
     /// [`mid_positions`]; 1 and 3 ignore m. A contract is in one group of 32. The count is 33 * L: bar j of group g is
     /// cell (g - 1) * L + j, and that of all contracts 32 * L + j. A group without contracts is 0, and a contract whose
-    /// own call has count 0 is flat. The output has 33 * L cells, and the work slice, 8 * L, is `work_for(L)`.
-    /// Refusals 10, 2, 3, 4, 16, in this order, and then that of the first contract whose own call is refused: 1, 5, 7,
-    /// 9.
+    /// own call has count 0 is flat. The work slice is `work_for(L)`: its first 8 * L cells hold 0.0 afterwards.
+    /// Refusals, in this order: 10; 2 where the lengths are unequal or do not add up to the series'; 3 for an output
+    /// under 33 * L; 4 for a work slice under 8 * L; 16; and then that of the first contract whose own call is refused,
+    /// 1, 5, 7 or 9.
     ///
     /// ```
     /// // One average with n 2, weight 3, in group 1; double with n 1 and m 2, weight -2, in group 2.

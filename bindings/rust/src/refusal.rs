@@ -73,7 +73,7 @@ refusals! {
     WindowsOutOfOrder = 9:
         "`double_sma_positions` and `double_sma_ranges`: n not below m; `triple_sma_positions`: not m1 < m2 < m3",
     BrokenLine = 10:
-        "`basket`: a count of contracts, a group or a rule that there is not, or not five numbers for each contract",
+        "`basket`: a count other than 1 to 32, not five numbers a contract, a group other than 1 to 32, another rule",
     CoveredTwice = 12: "`rank_table_positions`: a number from -100 to 100 that two rows cover",
     NotCovered = 13: "`rank_table_positions`: a number from -100 to 100 that no row covers",
     PositionUnknown = 14: "`rank_table_positions`: a position other than -1, 0 and 1",
