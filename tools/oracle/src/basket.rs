@@ -406,8 +406,8 @@ fn with_lengths_beyond(rng: &mut Rng) -> Vec<Basket> {
         let odd = count as u64 / power;
         let inverse = (0..6).fold(odd, |x, _| x.wrapping_mul(2u64.wrapping_sub(odd.wrapping_mul(x))));
         let high = if power > 1 { (1 << 63) / (power / 2) } else { 0 };
-        for (bars, sum) in [(inverse, power), (inverse.wrapping_add(high), power), (3u64.wrapping_add(high), 0)] {
-            let sum = if sum == 0 { 3 * count } else { sum as usize };
+        let one = power as usize;
+        for (bars, sum) in [(inverse, one), (inverse.wrapping_add(high), one), (3 + high, 3 * count), (high, 0)] {
             basket.contracts.chunks_exact_mut(5).for_each(|row| row[0] = bars);
             basket.series = vec![1.0; sum];
             (basket.out, basket.work) = (ROWS * sum, 8 * sum);
