@@ -12,7 +12,7 @@
  * call. The proofs know one NaN only, so this is proved up to the bits inside a NaN; that those
  * bits stay is compared, not proved.
  *
- * Any arguments are allowed. The first refusal that applies is given:
+ * Any arguments are allowed. The first refusal that applies is given, and basket says its own order:
  *
  *   1  a series longer than 65,536
  *   2  series of unequal length
@@ -26,9 +26,12 @@
  *      length + 1
  *   9  double_sma_positions and double_sma_ranges: n not below m; triple_sma_positions: not
  *      m1 < m2 < m3
+ *  10  basket: a count other than 1 to 32, not five numbers a contract, a group other than 1 to 32,
+ *      another rule
  *  12  rank_table_positions: a number from -100 to 100 that two rows cover
  *  13  rank_table_positions: a number from -100 to 100 that no row covers
  *  14  rank_table_positions: a position other than -1, 0 and 1
+ *  16  basket: a weight beyond 1,000 either way
  *
  * Accepted are finite values of magnitude at most 1,073,741,824, other than -0.0. A whole tick is an
  * accepted value without a fraction, of magnitude at most 16,777,216.
@@ -313,6 +316,24 @@ tegbalowu_answer tegbalowu_boll_reverse_positions(const double *series, size_t s
 tegbalowu_answer tegbalowu_rsi_reverse_positions(const double *series, size_t series_len, size_t n, double rsi_upper,
                                                  double rsi_lower, double rsi_exit, int32_t *out, size_t out_len,
                                                  double *work, size_t work_len);
+
+/* Baskets: contracts with weights. */
+
+/*
+ * The net position of 1 to 32 contracts with L bars each: for each bar the sum of weight times
+ * position. series has the contracts' prices one after another, contracts five numbers for each (its
+ * length L, rule, n, m and group), and weights its weight. Rule 1 is single_sma_positions, 2
+ * double_sma_positions and 3 mid_positions; 1 and 3 ignore m. A contract is in one group of 32. The
+ * count is 33 * L: bar j of group g is cell (g - 1) * L + j, and that of all contracts 32 * L + j. A
+ * group without contracts is 0, and a contract whose own call has count 0 is flat. Of the work slice
+ * the first 8 * L cells hold +0.0 afterwards. Positions are made on the stack, 32 KB at a time.
+ * Refusals, in this order: 10; 2 where the lengths are unequal or do not add up to series_len; 3 for
+ * an output under 33 * L; 4 for a work slice under 8 * L; 16; and then that of the first contract
+ * whose own call is refused, 1, 5, 7 or 9.
+ */
+tegbalowu_answer tegbalowu_basket(const double *series, size_t series_len, const uint64_t *contracts,
+                                  size_t contracts_len, const int64_t *weights, size_t weights_len, int64_t *out,
+                                  size_t out_len, double *work, size_t work_len);
 
 /* The sheet of sheet(1), for those who have the whole input in memory. */
 

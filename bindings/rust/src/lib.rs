@@ -379,6 +379,30 @@ functions! {
     /// ```
     tegbalowu_rolling_rank rolling_rank(series: &[f64], window: usize, out: &mut [u64], work: &mut [f64]);
 
+    /// The net position of 1 to 32 contracts with L bars each: for each bar the sum of weight times position. `series`
+    /// has the contracts' prices one after another, `contracts` five numbers for each (its length L, rule, n, m and
+    /// group), and `weights` its weight. Rule 1 is [`single_sma_positions`], 2 [`double_sma_positions`] and 3
+    /// [`mid_positions`]; 1 and 3 ignore m. A contract is in one group of 32. The count is 33 * L: bar j of group g is
+    /// cell (g - 1) * L + j, and that of all contracts 32 * L + j. A group without contracts is 0, and a contract whose
+    /// own call has count 0 is flat. The work slice is `work_for(L)`: its first 8 * L cells hold 0.0 afterwards.
+    /// Refusals, in this order: 10; 2 where the lengths are unequal or do not add up to the series'; 3 for an output
+    /// under 33 * L; 4 for a work slice under 8 * L; 16; and then that of the first contract whose own call is refused,
+    /// 1, 5, 7 or 9.
+    ///
+    /// ```
+    /// // One average with n 2, weight 3, in group 1; double with n 1 and m 2, weight -2, in group 2.
+    /// let series = [1.0, 3.0, 5.0, 12.0, 14.0, 13.0];
+    /// let contracts = [3, 1, 2, 0, 1, 3, 2, 1, 2, 2];
+    /// let mut out = [9; 33 * 3];
+    /// let mut work = tegbalowu::work_for(3);
+    /// assert_eq!(tegbalowu::basket(&series, &contracts, &[3, -2], &mut out, &mut work), Ok(99));
+    /// assert_eq!(out[..9], [0, 0, 3, 0, -2, 2, 0, 0, 0]);
+    /// assert_eq!(out[96..], [0, -2, 5]);
+    /// ```
+    tegbalowu_basket basket(
+        series: &[f64], contracts: &[u64], weights: &[i64], out: &mut [i64], work: &mut [f64]
+    );
+
     /// The sheet of the input: what the program `sheet` writes for these bytes, any bytes. The output's first bytes,
     /// as many as the count, are the whole sheet, refused requests and broken lines included. Refusal 3 where the
     /// output is shorter than `input.len() + SHEET_ROOM`.

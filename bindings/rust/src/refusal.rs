@@ -72,9 +72,12 @@ refusals! {
         "`triple_sma_positions`: m3 above the series' length; `ultimate_channel`: a period above that length + 1",
     WindowsOutOfOrder = 9:
         "`double_sma_positions` and `double_sma_ranges`: n not below m; `triple_sma_positions`: not m1 < m2 < m3",
+    BrokenLine = 10:
+        "`basket`: a count other than 1 to 32, not five numbers a contract, a group other than 1 to 32, another rule",
     CoveredTwice = 12: "`rank_table_positions`: a number from -100 to 100 that two rows cover",
     NotCovered = 13: "`rank_table_positions`: a number from -100 to 100 that no row covers",
     PositionUnknown = 14: "`rank_table_positions`: a position other than -1, 0 and 1",
+    WeightTooLarge = 16: "`basket`: a weight beyond 1,000 either way",
 }
 
 impl Error for Refusal {}

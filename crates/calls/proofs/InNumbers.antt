@@ -13,10 +13,12 @@ use Rattle.calls.specs.declared.Refusal.the-variants.{
   WindowTooLong,
   SeriesTooShort,
   WindowsOutOfOrder,
+  BrokenLine,
   LowAboveHigh,
   CoveredTwice,
   NotCovered,
   PositionUnknown,
+  WeightTooLarge,
 }
 use Rattle.calls.specs.declared.Answer.{Answer}
 use Rattle.calls.specs.declared.Answer.the-variants.{Cells, Refused}
@@ -38,10 +40,12 @@ numbered ParameterNotFinite e = omega arith
 numbered WindowTooLong e = omega arith
 numbered SeriesTooShort e = omega arith
 numbered WindowsOutOfOrder e = omega arith
+numbered BrokenLine e = omega arith
 numbered LowAboveHigh e = omega arith
 numbered CoveredTwice e = omega arith
 numbered NotCovered e = omega arith
 numbered PositionUnknown e = omega arith
+numbered WeightTooLarge e = omega arith
 
 answered-with : (a : Answer) → refusalOf a ≡ 0 → a ≡ Cells (countOf a)
 answered-with (Cells k) e = refl

@@ -17,10 +17,12 @@ use Rattle.calls.specs.declared.Refusal.the-variants.{
   WindowTooLong,
   SeriesTooShort,
   WindowsOutOfOrder,
+  BrokenLine,
   LowAboveHigh,
   CoveredTwice,
   NotCovered,
   PositionUnknown,
+  WeightTooLarge,
 }
 use Rattle.calls.specs.declared.Answer.{Answer}
 use Rattle.calls.specs.declared.Answer.the-variants.{Cells, Refused}
@@ -40,10 +42,12 @@ number ParameterNotFinite = 6
 number WindowTooLong = 7
 number SeriesTooShort = 8
 number WindowsOutOfOrder = 9
+number BrokenLine = 10
 number LowAboveHigh = 11
 number CoveredTwice = 12
 number NotCovered = 13
 number PositionUnknown = 14
+number WeightTooLarge = 16
 
 -- the number of the refusal, 0 where there is none
 abbrev pub refusalOf : Answer → ℕ

@@ -15,10 +15,12 @@ pub enum Refusal {
     WindowTooLong,
     SeriesTooShort,
     WindowsOutOfOrder,
+    BrokenLine,
     LowAboveHigh,
     CoveredTwice,
     NotCovered,
     PositionUnknown,
+    WeightTooLarge,
 }
 
 pub enum Answer {
@@ -40,10 +42,12 @@ pub fn number_of(reason: Refusal) -> u64
         Refusal::WindowTooLong => 7,
         Refusal::SeriesTooShort => 8,
         Refusal::WindowsOutOfOrder => 9,
+        Refusal::BrokenLine => 10,
         Refusal::LowAboveHigh => 11,
         Refusal::CoveredTwice => 12,
         Refusal::NotCovered => 13,
         Refusal::PositionUnknown => 14,
+        Refusal::WeightTooLarge => 16,
     }
 }
 

@@ -29,6 +29,7 @@ ghost use Rattle.rules_rank.specs.Rank.{RankCall};
 ghost use Rattle.rules_rank.specs.RollingRank.{RollingRankCall};
 ghost use Rattle.rules_rank_table.specs.RankTable.{RankTableCall};
 ghost use Rattle.rules_triple.specs.Triple.{TripleCall};
+ghost use Rattle.basket.specs.Basket.{BasketCall};
 ghost use Rattle.sheet_text.specs.SheetText.{SheetCall};
 
 #[no_mangle]
@@ -448,6 +449,20 @@ pub extern "C" fn tegbalowu_rsi_reverse_positions(
         out,
         work,
     ))
+}
+
+#[no_mangle]
+pub extern "C" fn tegbalowu_basket(
+    series: &[f64],
+    contracts: &[u64],
+    weights: &[i64],
+    out: &mut [i64],
+    work: &mut [f64],
+) -> CAnswer
+    ensures { λ r. ⌜ InNumbers (λ a. BasketCall (now (series .entry)) (now (contracts .entry)) (now (weights .entry))
+        (now (out .entry)) (now (work .entry)) a (now (out .exit)) (now (work .exit))) r ⌝ }
+{
+    calls::numbers::numbers(basket::basket(series, contracts, weights, out, work))
 }
 
 #[no_mangle]

@@ -1,4 +1,5 @@
 -- What a user gets, as theorems about the definitions that the contracts cite.
+pub mod Basket
 pub mod BollOfOne
 pub mod Exceptions
 pub mod FlatMarket

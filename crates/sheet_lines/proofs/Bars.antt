@@ -6,6 +6,7 @@ use Prim.Native.Nat.{ℕ, _≤_}
 use native.Mathlib.Omega.{arith}
 use borrow.Author.Tests.{leb-true}
 use lib.Dec.{leb}
+use Rattle.rules.specs.ByNumber.{isRule}
 use Rattle.sheet_lines.specs.declared.columns.Field.{Field}
 use Rattle.sheet_lines.specs.declared.columns.Field.the-variants.{Value, Broken}
 use Rattle.sheet_lines.specs.declared.Fields.{Fields}
@@ -16,7 +17,6 @@ use Rattle.sheet_lines.specs.Header.{
   mostBars,
   columned,
   given,
-  isRule,
   accepted,
   requestOf,
   readFields,

@@ -5,6 +5,7 @@ use Prim.Native.Nat.{ℕ, _+_}
 use lib.Dec.{leb, eqb}
 use lib.ListN.{length, getD}
 use lib.Seq.{slice}
+use Rattle.rules.specs.ByNumber.{isRule}
 use Rattle.sheet_lines.specs.declared.columns.Field.{Field}
 use Rattle.sheet_lines.specs.declared.columns.Field.the-variants.{Value, Broken}
 use Rattle.sheet_lines.specs.declared.columns.Price.{Price}
@@ -34,10 +35,6 @@ columned columns line = eqb (length line) (columns + 1) && eqb (getD line column
 abbrev pub given : Field → (ℕ → Header) → Header
 given (Value v) next = next v
 given Broken next = Malformed
-
--- rules 1, 2 and 3
-abbrev pub isRule : ℕ → Bool
-isRule rule = leb 1 rule && leb rule 3
 
 -- a rule, and no more bars than the program keeps
 abbrev pub accepted : ℕ → ℕ → Bool

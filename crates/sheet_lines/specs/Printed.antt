@@ -1,11 +1,12 @@
 -- What an answer prints, and the line of a desk's count. Assumes nothing.
-use mathlib.Core.Bool.{cond}
 use mathlib.Core.List.{List, [], _∷_, _++_}
 use Prim.Native.Nat.{ℕ, zero, suc}
-use lib.Ieee.{Float, lt}
+use lib.Ieee.{Float}
+use Rattle.calls.specs.declared.Refusal.the-variants.{BrokenLine}
 use Rattle.calls.specs.declared.Answer.{Answer}
-use Rattle.calls.specs.Answer.{refusalOf, countOf}
-use Rattle.cells.specs.Line.{Line, plusZero}
+use Rattle.calls.specs.Answer.{number, refusalOf, countOf}
+use Rattle.cells.specs.Line.{Line}
+use Rattle.rules.specs.Position.{bySide}
 use Rattle.sheet_lines.specs.Print.{printField}
 use Rattle.sheet_lines.specs.declared.Request.{Request}
 
@@ -23,7 +24,7 @@ countBytes = 17
 -- The program's own refusals: of a line that breaks its columns, and of a desk below 1
 -- or above 16. src/text.rt has constants of the same numbers.
 abbrev pub brokenLine : ℕ
-brokenLine = 10
+brokenLine = number BrokenLine
 
 abbrev pub noSuchDesk : ℕ
 noSuchDesk = 15
@@ -36,8 +37,7 @@ headLine desk rule refusal count =
 -- a position in 4 columns: '   1' above 0, '  -1' below 0, else '   0'
 abbrev pub positionLine : Float → List ℕ
 positionLine x =
-    cond (lt plusZero x) (32 ∷ 32 ∷ 32 ∷ 49 ∷ 10 ∷ [])
-    (cond (lt x plusZero) (32 ∷ 32 ∷ 45 ∷ 49 ∷ 10 ∷ []) (32 ∷ 32 ∷ 32 ∷ 48 ∷ 10 ∷ []))
+    bySide x (32 ∷ 32 ∷ 32 ∷ 49 ∷ 10 ∷ []) (32 ∷ 32 ∷ 45 ∷ 49 ∷ 10 ∷ []) (32 ∷ 32 ∷ 32 ∷ 48 ∷ 10 ∷ [])
 
 -- the positions at bars 0 to k - 1
 unfoldable pub positionLines : ℕ → Line → List ℕ

@@ -20,7 +20,8 @@ use Rattle.sheet_lines.specs.declared.reasons.Reason.the-variants.{
   PriceField,
   InputEnds,
 }
-use Rattle.sheet_lines.specs.Header.{columned, isRule, readFields}
+use Rattle.rules.specs.ByNumber.{isRule}
+use Rattle.sheet_lines.specs.Header.{columned, readFields}
 
 -- no line feed
 abbrev pub noFeed : List ℕ → Bool

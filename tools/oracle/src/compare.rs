@@ -1,5 +1,6 @@
 //! Runs calls through the library and through document 01's reading with pure.rs, and compares all they leave.
 
+use crate::basket;
 use crate::call::{Answer, Call, Expected, Kind};
 use crate::catalogue::{self, Function};
 use crate::edges::{edges, extreme};
@@ -153,6 +154,7 @@ pub fn run(seeds: &[u64], calls: usize) -> bool {
     trials.sort_by_key(|trial| catalogue::number(trial.function));
     let mut tallies: Vec<(&str, Tally)> = trials.into_iter().map(|trial| (trial.function.name, trial.tally)).collect();
     tallies.extend(rank_table::compared(seeds, calls));
+    tallies.extend(basket::compared(seeds, calls));
     tallies.iter().for_each(|(name, tally)| tally.print(name));
     let total: usize = tallies.iter().map(|(_, tally)| tally.calls).sum();
     let differ: usize = tallies.iter().map(|(_, tally)| tally.differ).sum();

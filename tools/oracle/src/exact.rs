@@ -2,6 +2,7 @@
 
 use std::fmt::Debug;
 
+use crate::basket;
 use crate::call::{Call, Value};
 use crate::catalogue::{self, Function, Role};
 use crate::generate;
@@ -63,7 +64,8 @@ pub fn run(seeds: &[u64], series: usize) -> bool {
         }
         good &= fact.wrong == 0;
     }
-    good & no_look_ahead(seeds, series) & rank_table::no_look_ahead(seeds, series)
+    good &= no_look_ahead(seeds, series) & rank_table::no_look_ahead(seeds, series);
+    good & basket::promises(seeds, series)
 }
 
 /// The cells of each output that the library gives for a call, or none where it does not answer with all its bars.

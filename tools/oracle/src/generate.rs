@@ -33,7 +33,7 @@ pub const FLAGS: &[usize] = &[1, 2, 256, 1 << 32, 1 << 63, usize::MAX];
 const LEVELS: &[f64] = &[0.0, 20.0, 25.0, 30.0, 50.0, 70.0, 75.0, 80.0, 100.0];
 
 /// A length: mostly short.
-fn length(rng: &mut Rng) -> usize {
+pub fn length(rng: &mut Rng) -> usize {
     match rng.below(1000) {
         0..30 => rng.below(3),
         30..680 => 3 + rng.below(30),
@@ -104,7 +104,7 @@ fn parameter(rng: &mut Rng, role: Role, len: usize) -> Value {
 }
 
 /// Windows in rising order where the function wants that, and levels around 50, most of the time.
-fn parameters(rng: &mut Rng, function: &Function, len: usize) -> Vec<Value> {
+pub fn parameters(rng: &mut Rng, function: &Function, len: usize) -> Vec<Value> {
     let mut values: Vec<Value> = function.roles.iter().map(|role| parameter(rng, *role, len)).collect();
     if function.rising && !rng.one_in(8) {
         rise(function, &mut values);
@@ -197,7 +197,7 @@ pub fn supply(function: &Function, call: &mut Call, known: usize, close: f64) {
 }
 
 /// The length of a slice where `need` cells are asked: as many, more, or too few.
-fn room(rng: &mut Rng, need: usize) -> usize {
+pub fn room(rng: &mut Rng, need: usize) -> usize {
     match rng.below(100) {
         0..70 => need,
         70..92 => need + rng.below(20),

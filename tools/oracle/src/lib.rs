@@ -1,5 +1,6 @@
 //! The library against pure.rs: see docs/COMPARING.md. Each command is run by a script in tools/.
 
+mod basket;
 mod bench;
 mod call;
 mod catalogue;

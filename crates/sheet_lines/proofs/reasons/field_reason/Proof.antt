@@ -5,7 +5,7 @@ use mathlib.Core.Bool.{cond}
 use borrow.Author.Tests.{le-leb, lt-leb}
 use borrow.Author.Needs.{needs}
 use Rattle.sheet_lines.specs.declared.reasons.Reason.the-variants.{OtherRule, TooManyBars}
-use Rattle.sheet_lines.specs.Header.{isRule}
+use Rattle.rules.specs.ByNumber.{isRule}
 use Rattle.sheet_lines.specs.Reason.{fieldReason}
 use Rattle.sheet_lines.proofs.reasons.field_reason.Statement.{statement}
 use Rattle.sheet_lines.proofs.reasons.field_reason.Tie as tie

@@ -1,0 +1,42 @@
+-- `all_listed` meets its contract: each turn tests one contract. Assumes nothing.
+use mathlib.Core.Path.{_≡_, refl}
+use Prim.Native.Nat.{_-_, _≤_}
+use native.Mathlib.Omega.{arith}
+use borrow.Author.Needs.{needs}
+use Rattle.cells.specs.Search.{everyBar}
+use Rattle.basket.specs.inner.Listed.{listed}
+use Rattle.basket.proofs.Checks.{every-more, every-ends}
+use Rattle.basket.proofs.table.all_listed.Statement.{statement}
+use Rattle.basket.proofs.table.all_listed.Tie as tie
+
+abbrev Inv-loop : tie.InvT-loop
+Inv-loop contracts count all₀ k₀ all k = (k ≤ count) × (all ≡ everyBar (listed contracts) k)
+
+abbrev μ-loop : tie.MeasureT-loop
+μ-loop contracts count all₀ k₀ all k = count - k
+
+loop-again : tie.Need-loop-again Inv-loop μ-loop
+loop-again c =
+    let at = c .before .before .before .loop in
+    (omega arith, rw (every-more, at .inv .1))
+
+pub all-listed-spec : {M : Type 1} → statement M
+all-listed-spec =
+    tie.close
+    (tie.spec
+    Inv-loop
+    μ-loop
+    (λ c. unfold everyBar in (omega arith, refl))  -- loop-holds
+    (λ c. search needs)  -- mul-group
+    (λ c. search needs)  -- add-group
+    (λ c. search needs)  -- mul-group-2
+    (λ c. search needs)  -- shared-slice-read-group
+    (λ c. search needs)  -- mul-rule
+    (λ c. search needs)  -- add-rule
+    (λ c. search needs)  -- mul-rule-2
+    (λ c. search needs)  -- shared-slice-read-rule
+    (λ c. search needs)  -- add-k
+    (λ c. search needs)  -- loop-less
+    loop-again
+    (λ c. every-ends _ (c .before .loop .inv .1) (omega arith))  -- returns
+    )
