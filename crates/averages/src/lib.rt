@@ -1,5 +1,7 @@
 // The averages: `sma`, whose window slides, with what the others share with it; and the exponential averages
 // (`exponential`).
+#![tactic(auto)]
+
 pub mod blend;
 pub mod exponential;
 mod halves;

@@ -1,4 +1,6 @@
 // The mean of whole ticks, on integers.
+#![tactic(auto)]
+
 ghost use Rattle.std.specs.Prelude.{◌≡◌, ◌+◌, ◌*◌, ◌/◌, ◌<◌, ◌≤◌, nat_abs, length};
 ghost use Rattle.std.specs.Float.Ieee.Nearest.{closest};
 ghost use Rattle.averages_ticks.specs.TickMean.{to_tick, tick_mean_line, TickMeanCall};

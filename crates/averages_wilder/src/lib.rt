@@ -1,4 +1,6 @@
 // Wilder's average, and the relative strength index that is made of those of gains and losses.
+#![tactic(auto)]
+
 ghost use Rattle.std.specs.Prelude.{◌≡◌, ◌-◌, ◌<◌, ◌≤◌, length};
 ghost use Rattle.limits.specs.Limits.{Window};
 ghost use Rattle.averages_wilder.specs.Wilder.{wilder_step, wilder};

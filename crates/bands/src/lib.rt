@@ -1,4 +1,6 @@
 // Bands about the ultimate smoother: the smoothed close, and beside it the smoothed deviation of the close.
+#![tactic(auto)]
+
 ghost use Rattle.bands.specs.inner.Deviations.{DeviationsBefore, MoreDeviations, Spreading};
 ghost use Rattle.std.specs.Prelude.{◌≡◌, ◌-◌, ◌<◌, ◌≤◌, length};
 ghost use Rattle.limits.specs.Limits.{longest_period};

@@ -1,4 +1,6 @@
 // Baskets: contracts with weights, and their net position at every bar, by group and in all.
+#![tactic(auto)]
+
 mod nets;
 mod parts;
 mod table;

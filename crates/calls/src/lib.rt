@@ -1,4 +1,6 @@
 // What a call answers: a count of cells, or a refusal; and the same in numbers for C (`numbers`).
+#![tactic(auto)]
+
 pub mod numbers;
 
 ghost use Rattle.std.specs.Prelude.{◌≡◌, ltb};

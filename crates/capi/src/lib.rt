@@ -1,5 +1,7 @@
 // The library as C functions: each calls the library's own and turns its answer into numbers. include/tegbalowu.h
 // declares them.
+#![tactic(auto)]
+
 ghost use Rattle.averages.specs.Sma.{SmaCall};
 ghost use Rattle.averages.specs.Ema.{EmaCall};
 ghost use Rattle.averages.specs.ExponentialSmoothing.{ExponentialSmoothingCall};

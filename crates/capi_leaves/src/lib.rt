@@ -1,5 +1,7 @@
 // The leaves, and the cell of a score of the tanh rule, as C functions, for the stored run and for tools/root.
 // tests/leaves.h declares them.
+#![tactic(auto)]
+
 ghost use Rattle.std.specs.Prelude.{◌≡◌};
 ghost use Rattle.std.specs.Float.{binary64};
 ghost use Rattle.std.specs.Float.Ieee.{is_nan};

@@ -1,5 +1,7 @@
 // Writing cells: filling and clearing slices, and work slices in rows (`rows`); and the bytes of a block that are not
 // used yet, moved to its front.
+#![tactic(auto)]
+
 pub mod rows;
 
 ghost use Rattle.std.specs.Prelude.{◌≡◌, ◌≤◌, min, length};

@@ -1,4 +1,6 @@
 // Changes from bar to bar: their gains and losses, and the relative strength index of two averages of them.
+#![tactic(auto)]
+
 ghost use Rattle.std.specs.Prelude.{◌≡◌, ◌<◌, length};
 ghost use Rattle.cells.specs.Line.{line, plus_zero};
 ghost use Rattle.changes.specs.Changes.{change, gain, loss, rsi_formula, rsi};

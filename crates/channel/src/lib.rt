@@ -1,4 +1,6 @@
 // The ultimate channel: a smoothed close, and lines a multiple of the smoothed average true range beside it.
+#![tactic(auto)]
+
 ghost use Rattle.std.specs.Prelude.{◌≡◌, [], ◌∷◌, min, length};
 ghost use Rattle.cells.specs.Line.{line};
 ghost use Rattle.cells.specs.Written.{Writing};

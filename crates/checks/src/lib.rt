@@ -1,5 +1,7 @@
 // The checks of a call: the refusals in their order, for one series, two or three, one output or three, with a work
 // slice or without.
+#![tactic(auto)]
+
 ghost use Rattle.std.specs.Prelude.{◌≡◌, [], ◌∷◌, ◌*◌, min, ◌≤◌, leb, length};
 ghost use Rattle.cells.specs.Line.{line};
 ghost use Rattle.values.specs.Accepted.{accepted, tick, all};

@@ -1,5 +1,7 @@
 // Squares about the mean of a window, each window summed afresh from left to right: of one bar, and of eight bars
 // side by side.
+#![tactic(auto)]
+
 ghost use Rattle.std.specs.Prelude.{◌≡◌, ◌+◌, ◌≤◌, length};
 ghost use Rattle.cells.specs.Line.{line, minus_zero};
 ghost use Rattle.windows.specs.inner.Eight.{Windows};

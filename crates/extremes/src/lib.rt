@@ -1,5 +1,7 @@
 // The highest and the lowest of the last cells: the larger and the smaller of two, blocks of neighbouring cells
 // (`blocks`), and every window (`ranges`).
+#![tactic(auto)]
+
 mod blocks;
 pub mod ranges;
 

@@ -1,4 +1,6 @@
 // Holt-Winters smoothing: a level, a trend and a seasonal part for each bar.
+#![tactic(auto)]
+
 ghost use Rattle.std.specs.Prelude.{◌≡◌, ◌+◌, ◌-◌, ◌*◌, ◌<◌, ◌≤◌, length};
 ghost use Rattle.cells.specs.Line.{line};
 ghost use Rattle.holt_winters.specs.HoltWinters.{next_fit, total, holt_winters_answer, HoltWintersCall};

@@ -1,4 +1,6 @@
 // The volatility of a series: the sizes of its changes, smoothed three times.
+#![tactic(auto)]
+
 mod bar;
 mod passes;
 

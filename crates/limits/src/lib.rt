@@ -1,4 +1,5 @@
 // The limits of a call, each said once: see specs/Limits.antt, which has the same numbers.
+#![tactic(auto)]
 
 // Bars of a series.
 pub const LONGEST_SERIES: usize = 65536;

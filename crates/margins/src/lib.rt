@@ -1,4 +1,6 @@
 // The margin beyond which an average by running sums decides: see proofs/.
+#![tactic(auto)]
+
 ghost use Rattle.std.specs.Prelude.{◌≡◌, ◌≤◌, length};
 ghost use Rattle.cells.specs.Line.{line};
 ghost use Rattle.margins.specs.inner.Margin.{largest_of, margin_of, far, AllFar};

@@ -1,4 +1,6 @@
 // The ultimate oscillator: buying pressure over true range in three windows.
+#![tactic(auto)]
+
 mod bar;
 mod ticks;
 

@@ -1,4 +1,6 @@
 // The two outer lines beside a middle line, as the bands and the channel have them.
+#![tactic(auto)]
+
 ghost use Rattle.std.specs.Prelude.{◌≤◌, length};
 ghost use Rattle.std.specs.Float.{nan};
 ghost use Rattle.cells.specs.Line.{line};

@@ -1,4 +1,6 @@
 // How many of neighbouring cells lie below a value, or below it by a distance.
+#![tactic(auto)]
+
 ghost use Rattle.std.specs.Prelude.{◌≡◌, cond, ◌+◌, ◌≤◌, length};
 ghost use Rattle.cells.specs.Line.{line};
 ghost use Rattle.ranks.specs.Counted.{below, below_by};

@@ -1,4 +1,6 @@
 // The leaves: numbers taken apart and rounded, each equal to one definition for every f64.
+#![tactic(auto)]
+
 ghost use Rattle.std.specs.Prelude.{◌≡◌, false, is_nan};
 ghost use Rattle.rounding.specs.Leaves.{magnitude_of, sign_of, round_to_whole};
 

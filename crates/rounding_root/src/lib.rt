@@ -1,4 +1,6 @@
 // The square root, correctly rounded: a guess with floats at its digits, and the whole number closest to the root.
+#![tactic(auto)]
+
 mod whole;
 
 ghost use Rattle.std.specs.Prelude.{◌≡◌, true, false, ◌+◌, ◌*◌, ◌^◌, ◌≤◌, ◌<◌, pos, length};

@@ -1,4 +1,6 @@
 // Both Bollinger rules: how their cells are written.
+#![tactic(auto)]
+
 mod bar;
 
 ghost use Rattle.std.specs.Prelude.{length};

@@ -1,4 +1,6 @@
 // The exponential rule: how its cells are written.
+#![tactic(auto)]
+
 mod bar;
 mod by_margins;
 mod far;

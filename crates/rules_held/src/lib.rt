@@ -1,4 +1,6 @@
 // Positions that are held until they close: one move, and the flat ones before the first.
+#![tactic(auto)]
+
 ghost use Rattle.std.specs.Prelude.{◌≡◌, ◌≤◌, length};
 ghost use Rattle.cells.specs.inner.Leads.{Led};
 ghost use Rattle.rules_held.specs.Held.{flat, moved};

@@ -1,4 +1,6 @@
 // The ranks: how the cells of `rank_positions` are written, and `rolling_rank` (`rolling`).
+#![tactic(auto)]
+
 pub mod rolling;
 
 ghost use Rattle.std.specs.Prelude.{◌≡◌, ◌+◌, ◌-◌, ◌<◌, ◌≤◌, ◌*◌, length};

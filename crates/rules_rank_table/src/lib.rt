@@ -1,5 +1,7 @@
 // Positions by a desk's rank table: the table (`table`), ranks looked up in it (`lookup`), the answer, and how the
 // cells are written.
+#![tactic(auto)]
+
 mod lookup;
 mod table;
 

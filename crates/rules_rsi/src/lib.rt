@@ -1,4 +1,6 @@
 // The rule against the relative strength index: how its cells are written.
+#![tactic(auto)]
+
 mod bar;
 mod held;
 

@@ -1,4 +1,6 @@
 // The tanh rule: how its cells are written, and the cell of one score.
+#![tactic(auto)]
+
 mod bar;
 mod table;
 

@@ -1,4 +1,6 @@
 // The triple rule: one bar of it, its answer, and how its cells are written.
+#![tactic(auto)]
+
 ghost use Rattle.std.specs.Prelude.{◌≡◌, ◌+◌, ◌-◌, ◌≤◌, ◌*◌, length};
 ghost use Rattle.limits.specs.Limits.{Window};
 ghost use Rattle.cells.specs.inner.Leads.{Led};

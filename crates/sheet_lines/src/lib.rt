@@ -1,4 +1,6 @@
 // A request's lines read, on byte slices.
+#![tactic(auto)]
+
 pub mod columns;
 pub mod reasons;
 pub mod text;

@@ -1,5 +1,7 @@
 // A request answered: refused requests and lines counted here; lines read (`blocks`), answers printed (`answers`), the
 // end of a sheet (`closing`), and how a run stands (`status`).
+#![tactic(auto)]
+
 pub mod answers;
 pub mod blocks;
 pub mod closing;

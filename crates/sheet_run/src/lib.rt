@@ -1,5 +1,7 @@
 // A run of the sheet: its buffers, a turn that reads a block and writes its answers, the end, the loop over the turns,
 // and the run as a C function that answers the numbers with which it ends; tools/sheet/main.c calls that.
+#![tactic(auto)]
+
 pub mod carried;
 pub mod input;
 

@@ -1,4 +1,6 @@
 // A block of bytes read and answered, and the sheet of a whole input over lent slices: no input or output of C's.
+#![tactic(auto)]
+
 ghost use Rattle.std.specs.Prelude.{◌≡◌, ◌≤◌, ◌+◌, length};
 ghost use Rattle.cells.specs.Written.{Writing};
 ghost use Rattle.sheet_requests.specs.inner.Place.{Incomplete};

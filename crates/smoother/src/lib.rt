@@ -1,4 +1,6 @@
 // The ultimate smoother: its cells and the entry point.
+#![tactic(auto)]
+
 ghost use Rattle.std.specs.Prelude.{◌≡◌, ◌≤◌, length};
 ghost use Rattle.smoother.specs.Smoother.{formula, UltimateSmootherCall};
 ghost use Rattle.cells.specs.Line.{line};

@@ -1,4 +1,6 @@
 // The coefficients of the ultimate smoother, by its period.
+#![tactic(auto)]
+
 mod table;
 
 ghost use Rattle.std.specs.Prelude.{◌≡◌, ◌+◌, ◌*◌, ◌<◌, ◌≤◌};

@@ -1,4 +1,6 @@
 // True range: how its cells are made and written, and the entry point.
+#![tactic(auto)]
+
 ghost use Rattle.std.specs.Prelude.{◌≡◌, true, [], ◌<◌, ◌≤◌, length};
 ghost use Rattle.cells.specs.Line.{line};
 ghost use Rattle.checks.specs.inner.Three.{Three};

@@ -1,4 +1,6 @@
 // The tests of values: of one, and of a whole series (`series`).
+#![tactic(auto)]
+
 pub mod series;
 
 ghost use Rattle.std.specs.Prelude.{◌≡◌, ◌^◌, not, ◌==◌, to_bits};

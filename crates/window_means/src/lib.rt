@@ -1,5 +1,7 @@
 // Writing the mean of each bar's window: by running sums where the prices are whole ticks, and else each window summed
 // afresh, sixteen bars at a time.
+#![tactic(auto)]
+
 pub mod ranges;
 
 ghost use Rattle.std.specs.Prelude.{◌≡◌, true, ◌+◌, ◌≤◌, length};

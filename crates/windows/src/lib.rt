@@ -1,5 +1,7 @@
 // Sums and means of windows, each summed afresh from left to right: of one bar, and of eight or sixteen bars side by
 // side. `sliding` has the means by running sums.
+#![tactic(auto)]
+
 pub mod sliding;
 
 ghost use Rattle.std.specs.Prelude.{◌≡◌, ◌+◌, ◌≤◌, length};
