@@ -5,7 +5,7 @@ ghost use Rattle.averages.specs.inner.Blending.{Middle};
 ghost use Rattle.averages.specs.inner.Smoothing.{BlendedRest, BlendedBoth, Smoothing, Smooth};
 
 // The last cells of two parts that are written side by side.
-#[derive(Drop)]
+#[derive(Clone, Copy)]
 struct Ends {
     lower: f64,
     upper: f64,

@@ -6,7 +6,7 @@ pub mod numbers;
 ghost use Rattle.std.specs.Prelude.{◌≡◌, ltb};
 ghost use Rattle.calls.specs.Answer.{number, refusal_of, count_of};
 
-#[derive(Drop)]
+#[derive(Clone, Copy)]
 pub enum Refusal {
     SeriesTooLong,
     LengthsDiffer,
@@ -25,7 +25,7 @@ pub enum Refusal {
     WeightTooLarge,
 }
 
-#[derive(Drop)]
+#[derive(Clone, Copy)]
 pub enum Answer {
     Cells(usize),
     Refused(Refusal),

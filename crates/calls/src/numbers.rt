@@ -5,7 +5,7 @@ use crate::Answer;
 
 // An answer in numbers: the refusal, or 0, and how many cells were written.
 #[repr(C)]
-#[derive(Drop)]
+#[derive(Clone, Copy)]
 pub struct CAnswer {
     pub refusal: u64,
     pub count: u64,

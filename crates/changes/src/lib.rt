@@ -6,7 +6,7 @@ ghost use Rattle.cells.specs.Line.{line, plus_zero};
 ghost use Rattle.changes.specs.Changes.{change, gain, loss, rsi_formula, rsi};
 
 // An average gain and an average loss.
-#[derive(Drop)]
+#[derive(Clone, Copy)]
 pub struct Averages {
     pub gain: f64,
     pub loss: f64,

@@ -34,14 +34,15 @@ module _ (before : Float → Float → Bool)
 module _ (high : Bool) where
   number : (x y : Float) → is_nan x ≡ false → is_nan y ≡ false → is_nan (pick_of high x y) ≡ false
   number x y p q =
-      elim high [ true ↦ cond_number (lt x y) y x q p | false ↦ cond_number (lt y x) y x q p ]
+      elim high as (λ h. is_nan (pick_of h x y) ≡ false)
+      [ true ↦ cond_number (lt x y) y x q p | false ↦ cond_number (lt y x) y x q p ]
 
   same : (x : Float) → pick_of high x x ≡ x
-  same x = elim high [ true ↦ cond_either (lt x x) x | false ↦ cond_either (lt x x) x ]
+  same x = elim high as (λ h. pick_of h x x ≡ x) [ true ↦ cond_either (lt x x) x | false ↦ cond_either (lt x x) x ]
 
   grouped : (x y z : Float) → is_nan y ≡ false → pick_of high (pick_of high x y) z ≡ pick_of high x (pick_of high y z)
   grouped x y z n =
-      elim high [
+      elim high as (λ h. pick_of h (pick_of h x y) z ≡ pick_of h x (pick_of h y z)) [
         | true ↦ by_cases lt lt_between _ _ x y z n refl refl
         | false ↦ by_cases (λ u v. lt v u) (λ r u v w m p q. lt_between r w v u m q p) _ _ x y z n refl refl
       ]

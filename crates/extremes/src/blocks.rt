@@ -6,7 +6,7 @@ ghost use Rattle.extremes.specs.inner.Part.{Replacing};
 ghost use Rattle.extremes.specs.inner.Windows.{UpTo, Whole, WindowsOver};
 
 // The highest and the lowest of neighbouring cells.
-#[derive(Drop)]
+#[derive(Clone, Copy)]
 pub struct HighLow {
     pub high: f64,
     pub low: f64,

@@ -10,7 +10,7 @@ ghost use Rattle.holt_winters.specs.inner.Stages.{SeasonRoom, First, Smoothed};
 use calls::{Answer, Refusal};
 
 // How much a new price weighs in the level, in the trend and in the seasonal part.
-#[derive(Drop)]
+#[derive(Clone, Copy)]
 pub struct Weights {
     pub alpha: f64,
     pub beta: f64,
@@ -18,7 +18,7 @@ pub struct Weights {
 }
 
 // What is known at a bar.
-#[derive(Drop)]
+#[derive(Clone, Copy)]
 pub struct Fit {
     pub level: f64,
     pub trend: f64,

@@ -43,7 +43,7 @@ pub fn weigh(short: f64, medium: f64, long: f64) -> f64
 }
 
 // The sums of one window over both rows.
-#[derive(Drop)]
+#[derive(Clone, Copy)]
 pub struct Sums {
     pub over: f64,
     pub under: f64,

@@ -23,7 +23,7 @@ pub fn answer_ranges(low: &[f64], high: &[f64], n: usize, m: usize, out: usize) 
 }
 
 // The sums of a bar: of its last n prices, and of the m - n prices before them.
-#[derive(Drop)]
+#[derive(Clone, Copy)]
 struct Sums {
     short: f64,
     old: f64,

@@ -10,7 +10,7 @@ ghost use Rattle.rules_rank_table.specs.inner.Stages.{row_at, Counted};
 use calls::{Answer, Refusal};
 
 // Whether each number from -100 to 100 is covered at most once, and whether each is covered at least once.
-#[derive(Drop)]
+#[derive(Clone, Copy)]
 pub struct Coverage {
     pub once: bool,
     pub some: bool,

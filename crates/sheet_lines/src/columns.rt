@@ -6,14 +6,14 @@ ghost use Rattle.sheet_lines.specs.inner.Adds.{Few, Adds};
 ghost use Rattle.sheet_lines.specs.Print.{column, leading, print_field};
 
 // What a field says.
-#[derive(Drop)]
+#[derive(Clone, Copy)]
 pub enum Field {
     Value(u64),
     Broken,
 }
 
 // What a price's columns say.
-#[derive(Drop)]
+#[derive(Clone, Copy)]
 pub enum Price {
     Ticks(f64),
     Unpriced,

@@ -27,7 +27,7 @@ pub const HEADER_BYTES: usize = 27;
 pub const PRICE_BYTES: usize = 13;
 
 // What a request's first line asks.
-#[derive(Drop)]
+#[derive(Clone, Copy)]
 pub struct Request {
     pub desk: u64,
     pub rule: u64,
@@ -37,14 +37,14 @@ pub struct Request {
 }
 
 // A request's first line as it was read.
-#[derive(Drop)]
+#[derive(Clone, Copy)]
 pub enum Header {
     Asked(Request),
     Malformed,
 }
 
 // The five fields of a request's first line.
-#[derive(Drop)]
+#[derive(Clone, Copy)]
 pub struct Fields {
     pub desk: Field,
     pub rule: Field,

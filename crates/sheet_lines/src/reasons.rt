@@ -9,7 +9,7 @@ use crate::columns::Field;
 
 // The first that applies of: another line length; a field that is no decimal number, from the left; another rule;
 // more bars than the program keeps; a price that is no decimal number; and an input that ends inside a request.
-#[derive(Drop)]
+#[derive(Clone, Copy)]
 pub enum Reason {
     LineLength,
     DeskField,

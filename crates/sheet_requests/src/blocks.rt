@@ -20,7 +20,7 @@ pub const TEXT_ROOM: usize = sheet_lines::text::HEAD_BYTES
 
 // Where a request stands: before its first line; with so many of its prices; or where a line broke its columns,
 // for a reason.
-#[derive(Drop)]
+#[derive(Clone, Copy)]
 pub enum Stage {
     Waiting,
     Collecting(Request, usize),
@@ -28,14 +28,14 @@ pub enum Stage {
 }
 
 // What is carried from block to block.
-#[derive(Drop)]
+#[derive(Clone, Copy)]
 pub struct Sheet {
     pub stage: Stage,
     pub counts: Counts,
 }
 
 // A sheet, the next byte of the block, and the bytes printed so far.
-#[derive(Drop)]
+#[derive(Clone, Copy)]
 pub struct Place {
     pub sheet: Sheet,
     pub at: usize,
@@ -43,7 +43,7 @@ pub struct Place {
 }
 
 // Prices that were read: the byte after them, how many there are, and whether no line was broken.
-#[derive(Drop)]
+#[derive(Clone, Copy)]
 pub struct Run {
     pub at: usize,
     pub got: usize,

@@ -36,7 +36,7 @@ pub const CLOSING_BYTES: usize = sheet_lines::text::COUNT_BYTES * DESKS;
 const MOST_COUNT: u64 = 999999999999;
 
 // The refused requests of each desk and the lines so far.
-#[derive(Drop)]
+#[derive(Clone, Copy)]
 pub struct Counts {
     pub refused: [u64; DESKS],
     pub lines: u64,

@@ -6,7 +6,7 @@ use sheet_lines::reasons::Reason;
 
 // How the program stands: it reads on; all is read, to the end of the
 // input or to a line that broke its columns; or a read or a write failed.
-#[derive(Drop)]
+#[derive(Clone, Copy)]
 pub enum Status {
     Reading,
     Done,
@@ -15,7 +15,7 @@ pub enum Status {
 }
 
 // Where an input breaks its columns: nowhere, or in a line, counted from 1, for a reason.
-#[derive(Drop)]
+#[derive(Clone, Copy)]
 pub enum Fault {
     Nowhere,
     At(u64, Reason),
@@ -23,7 +23,7 @@ pub enum Fault {
 
 // The numbers with which a run ends: the exit status, and of a line that broke its columns the reason and the line.
 #[repr(C)]
-#[derive(Drop)]
+#[derive(Clone, Copy)]
 pub struct End {
     pub status: u32,
     pub reason: u32,

@@ -15,7 +15,7 @@ use limits::LONGEST_PERIOD_F64;
 const ROW: usize = 32;
 
 // a1 and b1 of one period.
-#[derive(Drop)]
+#[derive(Clone, Copy)]
 struct Pair {
     a1: f64,
     b1: f64,
@@ -77,7 +77,7 @@ fn pair_of(period: usize) -> Pair
 }
 
 // What the smoother's step needs of its period.
-#[derive(Drop)]
+#[derive(Clone, Copy)]
 pub struct Coefficients {
     pub c1: f64,
     pub c2: f64,

@@ -11,7 +11,7 @@ ghost use Rattle.true_range.specs.inner.Ranging.{Numbers, back_by, Ranged};
 use calls::{Answer, Refusal};
 
 // The close before a bar.
-#[derive(Drop)]
+#[derive(Clone, Copy)]
 pub enum CloseBefore {
     Unknown,
     Known(f64),

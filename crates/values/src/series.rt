@@ -9,7 +9,7 @@ ghost use Rattle.cells.specs.Line.{line};
 use limits::{LARGEST_TICK_BITS, LARGEST_VALUE_BITS};
 
 // A sum or a cell, and whether a series may hold every price up to it.
-#[derive(Drop)]
+#[derive(Clone, Copy)]
 pub struct Tested {
     pub accept: bool,
     pub value: f64,
@@ -70,7 +70,7 @@ pub fn all_accepted(s: &[f64]) -> bool
 }
 
 // What one pass over a series finds: the bits of its numbers together, and whether each comes back from beside 2^52.
-#[derive(Drop)]
+#[derive(Clone, Copy)]
 struct Gathered {
     bits: u64,
     whole: bool,

@@ -13,7 +13,7 @@ ghost use Rattle.cells.specs.Written.{Writing};
 ghost use Rattle.windows.specs.inner.RunningSums.{Opening, running_sums};
 
 // A number for each of eight bars side by side.
-#[derive(Drop)]
+#[derive(Clone, Copy)]
 pub struct Eight {
     pub lane0: f64,
     pub lane1: f64,
@@ -128,7 +128,7 @@ pub fn means_of_eight(series: &[f64], n: usize, i: usize) -> Eight
 }
 
 // A number for each of sixteen bars side by side.
-#[derive(Drop)]
+#[derive(Clone, Copy)]
 pub struct Sixteen {
     pub low: Eight,
     pub high: Eight,

@@ -1,0 +1,65 @@
+-- `slide_ticks` meets its contract: each turn takes a tick in, writes the mean, and lets the oldest tick go. Assumes
+-- nothing.
+use Prim.Native.Nat.{◌+◌, ◌-◌, ◌≤◌}
+use native.Mathlib.Omega.{arith}
+use borrow.Author.Rules.{rules, sfits_of}
+use lib.IntN.{◌+ℤ◌, ◌-ℤ◌}
+use lib.ListN.{length}
+use lib.Ieee.{to_signed}
+use mir.Syntax.{w64}
+use mir.Val.{to_z}
+use mir.ValLaws.{to_z-of_z}
+use Rattle.cells.specs.Line.{line}
+use Rattle.cells.specs.Written.{Writing}
+use Rattle.cells.proofs.Written.{one_more, ends}
+use Rattle.averages_ticks.specs.TickMean.{tick_mean_line}
+use Rattle.averages_ticks.proofs.Whole.{held}
+use Rattle.averages_ticks.specs.inner.Ticks.{TickSum}
+use Rattle.averages_ticks.proofs.Ticks.{
+  HeldSum,
+  castable_at,
+  sum_small,
+  hold,
+  hold_in,
+  hold_out,
+  ticks_same,
+  tick_cell,
+}
+use Rattle.averages_ticks.proofs.slide_ticks.Invariants.{rest, window}
+use Rattle.averages_ticks.proofs.slide_ticks.Goals as goal
+use Rattle.averages_ticks.proofs.slide_ticks.Goals.{After-row_known-1, After-row_known-in-loop-i-1}
+
+pub loop-i-init : goal.loop-i-init
+loop-i-init c =
+    let pre = c.requires in
+    (omega arith, omega arith, pre.cells, ticks_same (hold pre.ticks pre.sum (omega arith)).sum (omega arith))
+
+pub float_to_int-sum : goal.float_to_int-sum
+float_to_int-sum c = castable_at _ c.requires.ticks (omega arith)
+
+pub overflow_add-sum : goal.overflow_add-sum
+overflow_add-sum c = (window c).ranges
+
+pub to_tick-requires : goal.to_tick-requires
+to_tick-requires c =
+    let pre = c.requires in
+    record { window = pre.window; small = sum_small pre.ticks (window c).sum; is = c.share_of-share.ensures }
+
+pub float_to_int-rest : goal.float_to_int-rest
+float_to_int-rest c =
+    castable_at _ c.requires.ticks
+    (omega arith)
+
+pub overflow_sub-rest-in-loop-i : goal.overflow_sub-rest-in-loop-i
+overflow_sub-rest-in-loop-i c = (rest c).ranges
+
+pub loop-i-preserved : goal.loop-i-preserved
+loop-i-preserved c =
+    let call = c.to_tick in
+    let cell = to_z-of_z w64 call.result (sfits_of call.type-inv) in
+    let mean = tick_cell c.args.n c.loop-i.i (window (goal.at.loop-i-preserved c).After-row_known-1).sum
+    (omega arith) in
+    (omega arith, omega arith, one_more c.loop-i.invariant.2 (rw (cell, call.ensures) mean) (omega arith), (rest c).sum)
+
+pub returns : goal.returns
+returns c = ends c.loop-i.invariant.2 (omega arith)

@@ -1,0 +1,6 @@
+-- `has_cells` meets its contract. Assumes nothing.
+use borrow.Author.Rules.{rules}
+use Rattle.calls.proofs.has_cells.Goals as goal
+
+pub returns : goal.returns
+returns c = rw c.count_of.ensures

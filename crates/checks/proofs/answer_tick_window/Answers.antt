@@ -1,0 +1,12 @@
+-- `answer_tick_window` meets its contract: the slices and values, then the window. Assumes nothing.
+use borrow.Author.Rules.{rules}
+use Rattle.calls.specs.Answer.{answered}
+use Rattle.checks.proofs.answer_tick_window.Goals as goal
+
+pub returns : goal.returns
+returns c =
+    unfold answered in rw (
+      c.and_then.ensures,
+      c.check_window-next.ensures,
+      c.check_ticks-due.ensures,
+    )

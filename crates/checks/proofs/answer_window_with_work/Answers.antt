@@ -1,0 +1,12 @@
+-- `answer_window_with_work` meets its contract: the slices and values, then the window. Assumes nothing.
+use borrow.Author.Rules.{rules}
+use Rattle.calls.specs.Answer.{answered}
+use Rattle.checks.proofs.answer_window_with_work.Goals as goal
+
+pub returns : goal.returns
+returns c =
+    unfold answered in rw (
+      c.and_then.ensures,
+      c.check_window-next.ensures,
+      c.check_with_work-due.ensures,
+    )

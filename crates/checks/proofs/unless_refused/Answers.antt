@@ -1,0 +1,9 @@
+-- `unless_refused` meets its contract: the test decides. Assumes nothing.
+
+use Rattle.checks.proofs.unless_refused.Goals as goal
+
+pub returns-then-test : goal.returns-then-test
+returns-then-test c = rw c.if-test.true
+
+pub returns-else-test : goal.returns-else-test
+returns-else-test c = rw c.if-test.false

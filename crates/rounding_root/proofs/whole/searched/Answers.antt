@@ -1,0 +1,8 @@
+-- `searched` meets its contract: each turn halves the range, which keeps the closest root. Assumes nothing.
+use Prim.Native.Nat.{◌-◌}
+use borrow.Author.Rules.{rules}
+use Rattle.rounding_root.proofs.Search.{Span, found}
+use Rattle.rounding_root.proofs.whole.searched.Goals as goal
+
+pub returns : goal.returns
+returns c = found c.loop-lo.invariant c.loop-lo-test.false

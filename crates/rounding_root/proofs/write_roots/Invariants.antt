@@ -1,0 +1,17 @@
+-- `write_roots` meets its contract: each turn takes a root by the guess that stands in its cell. Assumes nothing.
+use Prim.Native.Nat.{◌-◌, ◌≤◌}
+use native.Mathlib.Omega.{arith}
+use borrow.Author.Rules.{rules}
+use lib.Ieee.{binary64}
+use Rattle.cells.specs.Line.{line}
+use Rattle.cells.specs.Written.{Writing}
+use Rattle.cells.proofs.Written.{none_written, one_more, ends}
+use Rattle.cells.proofs.Touched.{written_over_all}
+use Rattle.rounding_root.specs.Root.{sqrt_of}
+use Rattle.rounding_root.proofs.write_roots.Given as goal
+
+abbrev pub invariant-loop-i : goal.invariant-loop-i
+invariant-loop-i l = (l.i ≤ l.count) × Writing l.i (λ k. sqrt_of binary64 (line l.xs k)) l.initial.roots l.roots
+
+abbrev pub decreases-loop-i : goal.decreases-loop-i
+decreases-loop-i l = l.count - l.i

@@ -1,0 +1,13 @@
+-- `or_of_bits` meets its contract: each turn adds one number's bits. Assumes nothing.
+use Rattle.std.proofs.Common.{◌≡◌, ◌-◌, ◌≤◌, arith, rules}
+use Rattle.values.specs.inner.Quick.{BitsOf}
+use Rattle.values.proofs.Quick.{capped_number, more_bits, no_bits}
+use Rattle.cells.specs.Line.{line}
+use Rattle.values.proofs.series.or_of_bits.Given as goal
+
+abbrev pub invariant-loop-i : goal.invariant-loop-i
+invariant-loop-i l = (l.first ≤ l.i) × (l.i - l.first ≤ l.end - l.first)
+    × BitsOf (line l.s) l.first (l.i - l.first) l.together
+
+abbrev pub decreases-loop-i : goal.decreases-loop-i
+decreases-loop-i l = l.end - l.i
