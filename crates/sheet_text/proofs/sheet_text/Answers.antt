@@ -14,8 +14,8 @@ use Rattle.cells.specs.Written.{Writing}
 use Rattle.sheet_requests.specs.Answer.{work_cells, clear_work}
 use Rattle.sheet_requests.specs.Sheet.{sheet}
 use Rattle.sheet_text.specs.SheetText.{sheet_room, bytes_of, SheetCall}
-use Rattle.sheet_text.proofs.sheet_text.Statement.{statement}
-use Rattle.sheet_text.proofs.sheet_text.Tie as tie
+use Rattle.sheet_text.proofs.sheet_text.Goals as goal
+use Rattle.sheet_text.proofs.sheet_text.Goals.{Else-out-input}
 
 zero : of_bits binary64 0 ≡ plus_zero
 unfolding of_bits
@@ -35,47 +35,25 @@ long-enough input out h (e, w) =
     record { answer = rw (le-leb (length input + sheet_room) (length out) h, e); cells = w.is }
 
 -- neither test failed
-room : (c : tie.Else2) →
-    let start = c.before.before.before.before in
-    length start.args.input.now + sheet_room ≤ length start.args.out.now
-room c = omega (arith, c.if2.false, c.before.if1.false)
+room : (c : Else-out-input) →
+    length c.args.input.now + sheet_room ≤ length c.args.out.now
+room c = omega (arith, c.if-out-input.false, c.if-out-lt-SHEET_ROOM.false)
 
-returns : tie.Need-returns
-returns c =
-    let start = c.before.before.before in
-    too_short start.args.input.now start.args.out.now (omega (arith, c.if1.true))
+pub returns-then-out-lt-SHEET_ROOM : goal.returns-then-out-lt-SHEET_ROOM
+returns-then-out-lt-SHEET_ROOM c = too_short c.args.input.now c.args.out.now (omega (arith, c.if-out-lt-SHEET_ROOM.true))
 
-returns-2 : tie.Need-returns-2
-returns-2 c =
-    let start = c.before.before.before.before in
-    too_short start.args.input.now start.args.out.now (omega (arith, c.if2.true, c.before.if1.false))
+pub returns-then-out-input : goal.returns-then-out-input
+returns-then-out-input c =
+    too_short c.args.input.now c.args.out.now (omega (arith, c.if-out-input.true, c.if-out-lt-SHEET_ROOM.false))
 
-fill-requires : tie.Need-fill-requires
-fill-requires c κs = (
+pub fill-requires : goal.fill-requires
+fill-requires c =
+    (
   record { series_long = search rules; out_long = search rules; work_clear = clear },
   search rules,
-  room c.before.before.before.before.before,
+  room (goal.at.fill-requires c).Else-out-input,
 )
 
-returns-3 : tie.Need-returns-3
-returns-3 c =
-    let fill = c.before.before.before.before.before.before in
-    let test = fill.before.before.before.before.before.before in
-    let start = test.before.before.before.before in
-    long-enough start.args.input.now start.args.out.now (room test) fill.fill.ensures
-
-pub sheet-text-spec : {M : Type 1} → statement M
-sheet-text-spec =
-    tie.close
-    (tie.spec
-    returns
-    (λ c. search rules)  -- sub-if2
-    returns-2
-    (λ c. search rules)  -- slice-aggregate-fill
-    (λ c. search rules)  -- slice-aggregate-fill-2
-    (λ c. search rules)  -- slice-aggregate-fill-3
-    (λ c. search rules)  -- slice-aggregate-fill-4
-    fill-requires
-    (λ c. search rules)  -- same-length
-    returns-3
-    )
+pub returns : goal.returns
+returns c =
+    long-enough c.args.input.now c.args.out.now (room (goal.at.returns c).Else-out-input) c.fill.ensures
