@@ -9,7 +9,7 @@ use Rattle.holt_winters.proofs.Stages.{holt_winters_clearable, holt_winters_bars
 use Rattle.holt_winters.proofs.holt_winters.Goals as goal
 use Rattle.holt_winters.proofs.holt_winters.Goals.{Then-cells_due}
 
--- where cells are c.before.before.before
+-- where cells are due
 opened : (c : Then-cells_due) →
     let a = c.args in
     SeasonRoom a.season_length a.series.now (length a.out.now) (length a.work.now)

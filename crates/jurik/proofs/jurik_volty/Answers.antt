@@ -11,7 +11,7 @@ use Rattle.checks.proofs.Table.{with_clearable, with_priced}
 use Rattle.jurik.proofs.jurik_volty.Goals as goal
 use Rattle.jurik.proofs.jurik_volty.Goals.{Then-cells_due}
 
--- where cells are c.before.before.before
+-- where cells are due
 opened : (c : Then-cells_due) →
     let a = c.args in
     Priced 8 a.period a.close.now (length a.out.now)

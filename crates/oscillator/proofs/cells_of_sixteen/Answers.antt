@@ -12,7 +12,7 @@ returns c =
     let y = c.shares_of_sixteen-medium_shares.ensures in
     let z = c.shares_of_sixteen-long_shares.ensures in
     record {
-      c.before = rw c.weigh_lanes.ensures (eight_cells minus_zero _ _ _ _ _ _ x.low y.low z.low full);
+      low = rw c.weigh_lanes.ensures (eight_cells minus_zero _ _ _ _ _ _ x.low y.low z.low full);
       high =
           rw c.weigh_lanes-2.ensures
           (eight_cells minus_zero _ _ _ _ _ _ x.high y.high z.high (omega (arith, full)));

@@ -8,6 +8,6 @@ returns c =
     let p = c.sums_of_sixteen-x.ensures in
     let q = c.sums_of_sixteen-y.ensures in
     record {
-      c.before = rw c.ratios.ensures (eight_shares _ _ _ _ p.low q.low);
+      low = rw c.ratios.ensures (eight_shares _ _ _ _ p.low q.low);
       high = rw c.ratios-2.ensures (eight_shares _ _ _ _ p.high q.high);
     }

@@ -9,7 +9,7 @@ use Rattle.oscillator.proofs.Calls.{oscillator_clearable, oscillator_bars, oscil
 use Rattle.oscillator.proofs.ultimate_oscillator.Goals as goal
 use Rattle.oscillator.proofs.ultimate_oscillator.Goals.{Then-cells_due}
 
--- where cells are c.before.before.before
+-- where cells are due
 opened : (c : Then-cells_due) →
     let a = c.args in
     Ready a.high.now a.low.now a.close.now a.first a.short_period a.med_period a.long_period

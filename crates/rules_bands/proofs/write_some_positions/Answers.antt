@@ -37,3 +37,16 @@ pub returns : goal.returns
 returns c =
     let spread = c.write_spreads-count.ensures in
     record { some = spread.some; inside = spread.inside; cells = ends c.loop-j.invariant.1 (omega arith) }
+
+pub loop-j-preserved : goal.loop-j-preserved
+loop-j-preserved c =
+    let a = c.args in
+    let j = c.loop-j.j in
+    let few = rw c.divisor-d.ensures at c.write_spreads-count.ensures in
+    let middle = read_back j nan few.middles (omega arith) in
+    let variance = read_back j nan few.variances (omega arith) in
+    let call = c.position_after-position in
+    let is = to_z-of_z w32 call.result (sfits_of call.type_inv) ∙ call.ensures
+    ∙ step_at a.reverse a.n a.k _ (a.i + j) _ middle variance (omega arith) in
+    let next = recurring_on _ _ _ _ a.i j c.loop-j.invariant.2 is in
+    (omega arith, step (a.i + j) (a.i + (j + 1)) c.loop-j.invariant.1 next.1 (omega arith), next.0)

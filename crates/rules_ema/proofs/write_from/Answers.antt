@@ -28,6 +28,21 @@ loop-i-init c =
       first_average _ _ _ c.requires.first,
     )
 
+pub loop-i-preserved : goal.loop-i-preserved
+loop-i-preserved c =
+    let pre = c.requires in
+    let more = c.if-i-series.false in
+    let now = position_finished _ _ c.loop-i.invariant.2 c.put_position.ensures
+    (position_at _ _ _ _ c.loop-i.invariant.3 refl (omega arith)) (omega arith) in
+    let mean_is = still (c.loop-i.i + 1) pre.means.means c.clear_lead.ensures.cells now.cells
+    (omega arith) in (
+      omega arith,
+      omega arith,
+      now,
+      next_average _ _ _ _ c.loop-i.invariant.3 mean_is (rw c.weight-alpha.ensures at c.blended-average.ensures)
+          (omega arith),
+    )
+
 pub returns : goal.returns
 returns c =
     let pre = c.requires in

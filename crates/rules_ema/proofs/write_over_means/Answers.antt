@@ -31,7 +31,7 @@ write_from-requires c =
     let a = c.args in
     let stood = c.write_means_by.ensures in
     record {
-      c.before.before.before.before.before.before.before.before.before = record { window = c.requires.priced.window; room = search rules; c.before.before.before.before.before.before.before.before.before = stands stood };
+      means = record { window = c.requires.priced.window; room = search rules; means = stands stood };
       inside = omega arith;
       first = seed_of a.n (mean a.n (line a.series.now)) stood (omega arith) _ c.mean_at-seed.ensures
           (omega arith);

@@ -37,7 +37,7 @@ returns-then-far c =
     pre.window pre.short stood c.if-far.true c.margin.ensures c.all_far-far.ensures in
     let positions = writing_same
     (then_written c.write_running_means.ensures c.write_against_middles.ensures (omega arith)) same in
-    record { used = touched positions; work = touched_more (touched rows) (omega arith); c.before.before = λ e. positions }
+    record { used = touched positions; work = touched_more (touched rows) (omega arith); cells = λ e. positions }
 
 pub returns-else-far : goal.returns-else-far
 returns-else-far c =

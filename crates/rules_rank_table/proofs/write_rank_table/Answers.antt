@@ -32,14 +32,17 @@ write_by_count-requires c =
     let pre = c.requires in
     let (two, due) = ranked (goal.at.write_by_count-requires c).Then-n-bars in
     let rows = lent_on c.write_means_of_prices.ensures c.write_positions.ensures (omega arith) in
-    let long = rows.long in (record { table_rows = record {
+    let long = rows.long in (record {
+      table_rows = record {
         window = two;
         narrow = pre.priced.window.narrow;
         due = due;
         room = omega arith;
         known = pre.known;
         cells = stands rows;
-      }; series_in_bounds = search rules })
+      };
+      series_in_bounds = search rules;
+    })
 
 pub returns-then-n-bars : goal.returns-then-n-bars
 returns-then-n-bars c =

@@ -21,3 +21,17 @@ returns-then-is_tie c =
     let pre = c.requires in
     c.against_mean.ensures ∙ rw c.mean_at.ensures
     (by_average pre.tick_rows c.shared_slice_known-1.given _ (omega arith) (omega arith))
+
+pub returns-then-scaled-total : goal.returns-then-scaled-total
+unfolding of_bits neg
+returns-then-scaled-total c =
+    let pre = c.requires in
+    let none = sym c.is_tie.ensures ∙ c.if-is_tie.false in
+    sym (by_total pre.tick_rows c.shared_slice_known-1.given _ (omega arith) (omega arith) none ∙ rw c.if-scaled-total.true)
+
+pub returns-else-scaled-total : goal.returns-else-scaled-total
+unfolding of_bits
+returns-else-scaled-total c =
+    let pre = c.requires in
+    let none = sym c.is_tie.ensures ∙ c.if-is_tie.false in
+    sym (by_total pre.tick_rows c.shared_slice_known-1.given _ (omega arith) (omega arith) none ∙ rw c.if-scaled-total.false)

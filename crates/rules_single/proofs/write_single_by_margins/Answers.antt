@@ -34,7 +34,7 @@ returns-then-far c =
     record {
       used = touched positions;
       work = touched_more (touched c.write_running_means.ensures) (omega arith);
-      c.before.before = λ e. positions;
+      cells = λ e. positions;
     }
 
 pub returns-else-far : goal.returns-else-far

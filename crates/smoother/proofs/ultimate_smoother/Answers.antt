@@ -27,13 +27,14 @@ parameter : (c : After-is_period) (r : Bool) → c.is_period.result ≡ r
     → let a = c.args in
     smoother_answer a.price.now a.period (length a.out.now)
     ≡ unless r WindowTooLong (Cells (length a.price.now))
+unfolding smoother_answer
 parameter c r e =
     rw (
-      rest c.before.before.before.before,
+      ← c.check-due.ensures,
+      c.in_default.is,
       ← c.is_finite.ensures,
       c.if-is_finite.true,
-      ←
-          c.is_period.ensures,
+      ← c.is_period.ensures,
       e,
     )
 

@@ -30,6 +30,24 @@ loop-out-init c =
       first_running_average _ _ _ c.requires.first,
     )
 
+pub loop-out-preserved : goal.loop-out-preserved
+loop-out-preserved c =
+    let a = c.args in
+    let f = line a.series.now in
+    let more = c.if-i-series.false in
+    let kept = c.loop-out.invariant.2.cleared.rest.long in
+    let inv = c.loop-out.invariant in
+    let position = decided_at a.start a.n f c.requires.decides inv.4
+    (sym c.is_decided.ensures ∙ c.if-is_decided.true) (inv.0, inv.1) in
+    let slid = next_slid a.start a.n f _ inv.3 refl inv.0 in (
+      omega arith,
+      omega arith,
+      position_finished _ _ c.loop-out.invariant.2 c.put_position.ensures position (omega arith),
+      slid,
+      next_running_average a.start a.n f _ c.loop-out.invariant.4 slid
+          (rw c.weight-alpha.ensures at c.blended-average.ensures) inv.0,
+    )
+
 pub returns-else-is_decided : goal.returns-else-is_decided
 returns-else-is_decided c =
     let done = c.loop-out.invariant.2 in
@@ -37,3 +55,14 @@ returns-else-is_decided c =
     finished_if_not _ (touched_then (touched_more (touched cleared.cells) (omega arith))
     (touched_more (touched done.cells) (omega arith)))
     (touched_then cleared.cleared.rest done.cleared.rest)
+
+pub returns-then-i-series : goal.returns-then-i-series
+returns-then-i-series c =
+    let a = c.args in
+    let last = c.if-i-series.true in
+    let kept = c.loop-out.invariant.2.cleared.rest.long in
+    let inv = c.loop-out.invariant in
+    let position = decided_at a.start a.n (line a.series.now) c.requires.decides inv.4
+    (sym c.is_decided.ensures ∙ c.if-is_decided.true) (inv.0, inv.1) in
+    let now = position_finished _ _ c.loop-out.invariant.2 c.put_position.ensures position (omega arith) in
+    finished_if_all _ (rest_finished _ _ _ c.clear_lead.ensures now (omega arith))

@@ -28,3 +28,14 @@ pub int_to_float-count : goal.int_to_float-count
 int_to_float-count c =
     let a = c.args in
     count_is_float _ (omega (arith, changes_before_lem a.n a.i))
+
+pub returns : goal.returns
+returns c =
+    let a = c.args in
+    let rows = c.requires.changed in
+    let count = c.changes_before-count.ensures in
+    let g = mean a.n (line a.series.now) in
+    let up = rw count at c.sum_at-up.ensures ∙ sum_at rows.up (either_gains g) a.n a.i (omega arith) in
+    let down = rw count at c.sum_at-down.ensures
+    ∙ sum_at rows.down (either_losses g) a.n a.i (omega arith) in
+    c.index_by.ensures ∙ rw count (index_is a.n a.i g up down (omega arith))
