@@ -1,6 +1,6 @@
 /*
  * The sheet program's main: how the program is used, its exit status, and the words for a line that breaks its
- * columns. What it reads, answers and writes is `tegbalowu_sheet` of crates/sheet_run, which answers the numbers of
+ * columns. What it reads, answers and writes is `tegbalowu_sheet` of crates/sheet_run_c, which answers the numbers of
  * status, reason and line; crates/sheet_requests/specs/Whole.antt defines them.
  *
  * tools/sheet/build compiles this with the toolchain's compiler, which has no headers, so the functions and the
