@@ -1,5 +1,5 @@
 -- Why the quick test is right: a number whose bits are at most those of 2 ^ k lies from 0.0 to 2 ^ k. Assumes nothing.
-use Rattle.std.proofs.Common.{◌≡◌, ℕ, zero, suc, ◌+◌, ◌-◌, ◌*◌, ◌/◌, ◌%◌, ◌^◌, ◌<◌, ◌≤◌, Bool, true, false, cond, not, T, ltb, List, [], ◌∷◌, length, get_or, pos, sym, refl, ◌∙◌, subst, true≢false, zero-le, le_trans, le_of_eq, lt_of_lt_of_le, le_of_lt, mod-lt, mod-eq_of_lt, mul-pos, one-mul, div-add-mod', mul-one, arith, pow_pos, pow_mono, pow-add, shl_lt, ltb-false, ltb-true, lt-ltb, ne_eqb}
+use Rattle.std.proofs.Common.{◌≡◌, ℕ, zero, suc, ◌+◌, ◌*◌, ◌/◌, ◌%◌, ◌^◌, ◌<◌, ◌≤◌, Bool, true, false, cond, not, T, ltb, List, length, get_or, pos, sym, refl, ◌∙◌, subst, true≢false, le_trans, le_of_eq, le_of_lt, mod-lt, mod-eq_of_lt, mul-pos, one-mul, div-add-mod', mul-one, arith, pow_pos, pow_mono, pow-add, shl_lt, ltb-false, ltb-true, lt-ltb, ne_eqb}
 use borrow.Author.Tests.{lt-leb}
 use lib.Bits.{bit_or, or_add_and, and_le_l, and_le_r}
 use lib.Ieee.{Float, nan, inf, fin, binary64, up, down, lt, eq, le, fits, is_nan, of_fields, of_bits, to_bits}

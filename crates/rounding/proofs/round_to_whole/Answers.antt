@@ -1,6 +1,6 @@
 -- `round_to_whole` meets its contract: below 2 ^ 52 one more than the whole part of twice the magnitude is halved,
 -- and the sign put back by a product with it. Assumes nothing.
-use Rattle.std.proofs.Common.{◌≡◌, ◌+◌, ◌/◌, ◌^◌, T, sym, subst, arith, le→leb, rules}
+use Rattle.std.proofs.Common.{◌≡◌, ◌+◌, ◌/◌, ◌^◌, T, sym, subst, arith, le→leb}
 use lib.Ieee.{of_bits, in_float, of_int, to_unsigned}
 use Rattle.rounding.proofs.ToWhole.{doubled, Halves, halves, whole_already}
 use Rattle.rounding.proofs.round_to_whole.Goals as goal

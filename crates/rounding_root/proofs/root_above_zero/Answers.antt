@@ -2,7 +2,6 @@
 -- apart. Assumes nothing.
 use mathlib.Core.Path.{sym, ◌∙◌, subst}
 use native.Mathlib.Omega.{arith}
-use borrow.Author.Rules.{rules}
 use lib.Dec.{T}
 use lib.Ieee.{binary64, fits}
 use Rattle.rounding_root.proofs.Above.{above_is_number}

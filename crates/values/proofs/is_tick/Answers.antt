@@ -1,5 +1,5 @@
 -- `is_tick` meets its contract: within 2 ^ 24 a magnitude that is its own whole part is a tick's. Assumes nothing.
-use Rattle.std.proofs.Common.{◌≡◌, Bool, pos, sym, rules}
+use Rattle.std.proofs.Common.{◌≡◌, Bool, pos, sym}
 use lib.Ieee.{eq, of_bits, of_int, binary64, to_unsigned}
 use Rattle.rounding.specs.Leaves.{magnitude_of}
 use Rattle.values.proofs.Ticks.{TickTests, tick_tests, too_far}

@@ -1,6 +1,5 @@
 -- `write_means_by` meets its contract: by running sums where the prices are whole ticks, and else afresh. Assumes
 -- nothing.
-use borrow.Author.Rules.{rules}
 use Rattle.window_means.proofs.Ticks.{known_ticks}
 use Rattle.window_means.proofs.write_means_by.Goals as goal
 
