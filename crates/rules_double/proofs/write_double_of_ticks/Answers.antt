@@ -37,12 +37,15 @@ unfolding of_bits
 slide_spreads-requires c =
     let o = over (goal.at.slide_spreads-requires c).After-shared_slice_known-1 in
     let first = c.first_spread-first.ensures in
-    let long = c.fill_lead.ensures.lead.long in (record { over_ticks = o; spread = record {
+    let long = c.fill_lead.ensures.lead.long in (record {
+      over_ticks = o;
+      spread = record {
         is = first;
         room = simp length-set (omega arith);
         before = stands (first_position o c.fill_lead.ensures (omega arith) first
             c.sign_of_number.ensures);
-      } })
+      };
+    })
 
 pub shape_of-out : goal.shape_of-out
 shape_of-out c = c.slide_spreads.ensures.long ∙ simp length-set c.fill_lead.ensures.lead.long

@@ -47,8 +47,7 @@ returns-then-out-input c =
     too_short c.args.input.now c.args.out.now (omega (arith, c.if-out-input.true, c.if-out-lt-SHEET_ROOM.false))
 
 pub fill-requires : goal.fill-requires
-fill-requires c =
-    (
+fill-requires c = (
   record { series_long = search rules; out_long = search rules; work_clear = clear },
   search rules,
   room (goal.at.fill-requires c).Else-out-input,

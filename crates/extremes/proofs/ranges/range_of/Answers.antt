@@ -11,12 +11,11 @@ pub loop-i-init : goal.loop-i-init
 loop-i-init c = (search rules, one_bar_lem _ c.of_one-best.ensures)
 
 pub loop-i-preserved : goal.loop-i-preserved
-loop-i-preserved c =
-    (
-      omega arith,
-      joins c.requires.2 c.loop-i.invariant.1 (one_bar_lem _ c.of_one.ensures) c.join-best.ensures
-          (omega arith),
-    )
+loop-i-preserved c = (
+  omega arith,
+  joins c.requires.2 c.loop-i.invariant.1 (one_bar_lem _ c.of_one.ensures) c.join-best.ensures
+      (omega arith),
+)
 
 pub returns : goal.returns
 returns c = spans c.loop-i.invariant.1 (omega arith)

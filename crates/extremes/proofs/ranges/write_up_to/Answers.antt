@@ -16,14 +16,13 @@ pub bounds-rows-bars : goal.bounds-rows-bars
 bounds-rows-bars c = simp length-set (omega arith)
 
 pub loop-i-preserved : goal.loop-i-preserved
-loop-i-preserved c =
-    (
-      omega arith,
-      omega arith,
-      joins c.requires.numbers (one_bar_lem _ c.of_one.ensures) c.loop-i.invariant.2 c.join-best.ensures
-          (omega arith),
-      one_below _ _ c.loop-i.invariant.3 c.loop-i.invariant.2 (omega arith),
-    )
+loop-i-preserved c = (
+  omega arith,
+  omega arith,
+  joins c.requires.numbers (one_bar_lem _ c.of_one.ensures) c.loop-i.invariant.2 c.join-best.ensures
+      (omega arith),
+  one_below _ _ c.loop-i.invariant.3 c.loop-i.invariant.2 (omega arith),
+)
 
 pub bounds-rows-bars-2 : goal.bounds-rows-bars-2
 bounds-rows-bars-2 c = simp length-set (omega arith)

@@ -21,8 +21,8 @@ returns-then-found-le-LARGEST_TICK_BITS c =
 pub returns : goal.returns
 returns c =
     rw (
-  all_next tick c.args.s.now 0 (omega arith),
-  ←
-      c.is_tick.ensures,
-  c.if-is_tick.false,
-)
+      all_next tick c.args.s.now 0 (omega arith),
+      ←
+          c.is_tick.ensures,
+      c.if-is_tick.false,
+    )

@@ -12,13 +12,12 @@ pub float_to_bits-together : goal.float_to_bits-together
 float_to_bits-together c = rw c.cap.ensures (capped_number _)
 
 pub loop-i-preserved : goal.loop-i-preserved
-loop-i-preserved c =
-    (
-      omega arith,
-      omega arith,
-      more_bits _ _ c.loop-i.invariant.2 c.cap.ensures
-          (omega arith),
-    )
+loop-i-preserved c = (
+  omega arith,
+  omega arith,
+  more_bits _ _ c.loop-i.invariant.2 c.cap.ensures
+      (omega arith),
+)
 
 pub returns : goal.returns
 returns c =
