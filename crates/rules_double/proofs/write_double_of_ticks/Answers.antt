@@ -30,7 +30,8 @@ first_spread-first-requires c = over (goal.at.first_spread-first-requires c).Aft
 pub sign_of_number-requires : goal.sign_of_number-requires
 sign_of_number-requires c =
     let p = c.requires in
-    spread_number (over (goal.at.sign_of_number-requires c).After-shared_slice_known-1) c.args.m (omega arith) p.full c.first_spread-first.ensures
+    spread_number (over (goal.at.sign_of_number-requires c).After-shared_slice_known-1) c.args.m (omega arith) p.full
+    c.first_spread-first.ensures
 
 pub slide_spreads-requires : goal.slide_spreads-requires
 unfolding of_bits
@@ -56,7 +57,8 @@ returns c =
     let p = c.requires in
     let long = c.fill_lead.ensures.lead.long in
     let first =
-    first_position (over (goal.at.returns c).After-shared_slice_known-1) c.fill_lead.ensures (omega (arith, long, p.room))
+    first_position (over (goal.at.returns c).After-shared_slice_known-1) c.fill_lead.ensures
+    (omega (arith, long, p.room))
     c.first_spread-first.ensures
     c.sign_of_number.ensures in
     lead_then c.fill_lead.ensures (then_written first c.slide_spreads.ensures p.full) (omega arith)

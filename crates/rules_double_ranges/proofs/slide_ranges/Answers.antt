@@ -95,7 +95,10 @@ loop-i-preserved c =
       omega arith,
       simp length-set room,
       one_more c.loop-i.invariant.3
-          (rw (to_z-of_z w32 c.cell_at-in-loop-i.result (sfits_of c.cell_at-in-loop-i.type_inv), c.cell_at-in-loop-i.ensures) cell)
+          (rw (
+            to_z-of_z w32 c.cell_at-in-loop-i.result (sfits_of c.cell_at-in-loop-i.type_inv),
+            c.cell_at-in-loop-i.ensures,
+          ) cell)
           (omega arith),
       rw bar c.next_sums-lows.ensures,
       rw bar c.next_sums-highs.ensures,
