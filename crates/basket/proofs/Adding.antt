@@ -146,9 +146,11 @@ pub two_rows : {l q b e : ℕ} {x y : ℕ → ℤ} {old mid now : List ℤ} → 
 two_rows {l} {q} {b} {e} {x} {y} {old} {mid} {now} v w (row, o, u) same =
     record {
       cells = λ r j h k.
-          join (eqb r q) (eqb r groups) (between b e j) (cell_at l old r j) (cell_at l mid r j) (cell_at l now r j) (y j)
+          join (eqb r q) (eqb r groups) (between b e j) (cell_at l old r j) (cell_at l mid r j) (cell_at l now r j)
+          (y j)
           (apart r)
-          (row_cell_lem l q b e v o u r j k ∙ ap (λ (z : ℤ). cell_at l old r j +ℤ z) (cond_at (eqb r q) (between b e j) _ _
+          (row_cell_lem l q b e v o u r j k ∙ ap (λ (z : ℤ). cell_at l old r j +ℤ z)
+          (cond_at (eqb r q) (between b e j) _ _
           (reach j)))
           (row_cell_lem l groups b e w o u r j k
           ∙ ap (λ (z : ℤ). cell_at l mid r j +ℤ z) (cond_at (eqb r groups) (between b e j) _ _ (reach j)));

@@ -83,7 +83,8 @@ module _ (high low close : List Float) (n : ℕ) (k : Float) (first : CloseBefor
   pub channel_bars : AllBars due (length high)
   unfolding channel_answer
   channel_bars j e h =
-      let next = (and_then_cells (checked accepted (high ∷ low ∷ close ∷ []) (a ∷ b ∷ c ∷ []) (work ∷ [])) rest j e).1 in
+      let next =
+      (and_then_cells (checked accepted (high ∷ low ∷ close ∷ []) (a ∷ b ∷ c ∷ []) (work ∷ [])) rest j e).1 in
       let parameters = (unless_cells (accepted_close first) _ asks j next).1 in
       let all = (asked (length high) (k ∷ []) [] (n ∷ []) long j parameters h).rest in
       sym (same_count _ _ (unless_cells (leb n (length high + 1)) _ _ j all).1)

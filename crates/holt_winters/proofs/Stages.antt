@@ -93,7 +93,8 @@ module _ (s : List Float) (m : ℕ) (w : Weights) (out work : ℕ) where
   abbrev rest : Answer
   rest = limited numbers (m ∷ []) [] (unless_empty (length s) (m ∷ []) [] whole)
 
-  pub holt_winters_clearable : {r : Answer} → r ≡ holt_winters_answer s m w out work → cleared_of r (8 * length s) ≤ work
+  pub holt_winters_clearable : {r : Answer} → r ≡ holt_winters_answer s m w out work
+      → cleared_of r (8 * length s) ≤ work
   unfolding holt_winters_answer
   holt_winters_clearable e = one_clearable s out work rest e
 
@@ -106,7 +107,8 @@ module _ (s : List Float) (m : ℕ) (w : Weights) (out work : ℕ) where
       sym (same_count _ _ (empty_if_cells (ltb (length s) m) _ k a.rest h).1)
 
   -- and where they are due, all is in order
-  pub holt_winters_ready : {r : Answer} → r ≡ holt_winters_answer s m w out work → 0 < count_of r → SeasonRoom m s out work
+  pub holt_winters_ready : {r : Answer} → r ≡ holt_winters_answer s m w out work → 0 < count_of r
+      → SeasonRoom m s out work
   unfolding holt_winters_answer
   holt_winters_ready {r} e h =
       let p = one_passed s out work rest e h in

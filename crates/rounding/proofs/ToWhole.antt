@@ -137,7 +137,8 @@ pub record Halves (x : Float) : Type 0 where
   pub above : T (lt (fin true 1 (pos 0)) (doubled x))
   pub below : T (lt (doubled x) (fin false 1 (pos 64)))
   pub small : to_unsigned 64 (doubled x) < 2 ^ 53
-  pub whole : mul binary64 (round binary64 false ((to_unsigned 64 (doubled x) + 1) / 2) 1) (sign_of x) ≡ round_to_whole x
+  pub whole : mul binary64 (round binary64 false ((to_unsigned 64 (doubled x) + 1) / 2) 1) (sign_of x)
+      ≡ round_to_whole x
 
 pub halves : (x : Float) → T (fits binary64 x) → lt (magnitude_of x) (fin false 1 (pos 52)) ≡ true → Halves x
 unfolding lt magnitude_of sign_of round_to_whole

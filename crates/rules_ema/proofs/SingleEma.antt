@@ -49,7 +49,8 @@ module _ (start n : ℕ) (f : Line) where
       e ∙ rw (p, q) (sym (rw last at next))
 
   -- the position of bar i
-  pub position_at : (i : ℕ) {x p : Float} → x ≡ ema_of_means start n f i → p ≡ sign_of (sub binary64 (f i) x) → start ≤ i
+  pub position_at : (i : ℕ) {x p : Float} → x ≡ ema_of_means start n f i → p ≡ sign_of (sub binary64 (f i) x)
+      → start ≤ i
       → p ≡ single_ema_from start n f i
   unfolding single_ema_from
   position_at i e g h = rw (g, e, from_bar_lem start plus_zero _ i h)

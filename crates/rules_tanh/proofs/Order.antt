@@ -75,7 +75,8 @@ opposites {x} {y} o = record {
 }
 
 -- a number with a minus is at most one without it
-signs_ordered : (x y : Float) → is_nan x ≡ false → is_nan y ≡ false → negative x ≡ true → negative y ≡ false → Ordered x y
+signs_ordered : (x y : Float) → is_nan x ≡ false → is_nan y ≡ false → negative x ≡ true → negative y ≡ false
+    → Ordered x y
 unfolding negative lt is_nan
 signs_ordered nan y p q s t = absurd (true≢false p)
 signs_ordered (inf u) nan p q s t = absurd (true≢false q)

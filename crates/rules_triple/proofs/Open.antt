@@ -47,7 +47,8 @@ module _ (s : List Float) (m1 m2 m3 output work k : ℕ) (e : triple_answer s m1
       (rising, d.1)
 
 -- it has a cell for each bar
-pub triple_bars : (s : List Float) (m1 m2 m3 output work : ℕ) → AllBars (triple_answer s m1 m2 m3 output work) (length s)
+pub triple_bars : (s : List Float) (m1 m2 m3 output work : ℕ)
+    → AllBars (triple_answer s m1 m2 m3 output work) (length s)
 triple_bars s m1 m2 m3 output work k e h = sym (same_count _ _ (parts s m1 m2 m3 output work k e h).1)
 
 -- its work slice has room to be cleared

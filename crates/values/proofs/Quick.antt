@@ -86,7 +86,8 @@ small k t l = rw (mul-one t) (le_trans (le_of_lt l) (pow_mono (more k)))
     more : (k : ℕ) → 52 ≤ k + 1074
     more k = omega arith
 
-of_fields_lem : (k x t : ℕ) → k ≤ 30 → t < 2 ^ 52 → x * 2 ^ 52 + t ≤ power_bits k → UpTo k (of_fields binary64 false x t)
+of_fields_lem : (k x t : ℕ) → k ≤ 30 → t < 2 ^ 52 → x * 2 ^ 52 + t ≤ power_bits k
+    → UpTo k (of_fields binary64 false x t)
 unfolding of_fields
 of_fields_lem k zero t n l h = record { count = t * 2 ^ 0; value = odd_sign 53 false t 0 1074; at_most = small k t l }
 of_fields_lem k (suc x) t n l h =
@@ -139,7 +140,8 @@ own_bits : (k : ℕ) (x : Float) → k ≤ 30 → to_bits binary64 (capped x) �
 unfolding capped
 own_bits k x n h = go (lt x (fin false 1 (pos 31))) h
   where
-    go : (t : Bool) → to_bits binary64 (cond t x (fin false 1 (pos 31))) ≤ power_bits k → to_bits binary64 x ≤ power_bits k
+    go : (t : Bool) → to_bits binary64 (cond t x (fin false 1 (pos 31))) ≤ power_bits k
+        → to_bits binary64 x ≤ power_bits k
     go true h = h
     go false h = absurd (omega (arith, limit))
 

@@ -33,7 +33,8 @@ returns-then-has_cells c f =
     let w = (answered_windows _ _ (a.n ∷ []) _ _ answer (due (goal.at.returns-then-has_cells c).Then-has_cells)).0 in
     let none : length a.series.now < a.n = none_fits (length a.series.now) a.n _ c.requires w
     r.short r.out_long in
-    all_called (all_bars _ _ _ _ _) answer (due (goal.at.returns-then-has_cells c).Then-has_cells) (lead_only c.fill_nan.ensures f (omega arith))
+    all_called (all_bars _ _ _ _ _) answer (due (goal.at.returns-then-has_cells c).Then-has_cells)
+    (lead_only c.fill_nan.ensures f (omega arith))
 
 pub returns-else-has_cells : goal.returns-else-has_cells
 returns-else-has_cells c f =

@@ -47,8 +47,8 @@ rest c =
     let a = c.args in
     let s = a.series.now in
     let window_held : HeldSum s (c.loop-i.i + 1 - a.n) a.n
-        (to_z w64 c.loop-i.rest-bits +ℤ held (to_signed 63 (line s c.loop-i.i))) =
-        hold_in c.requires.ticks c.loop-i.i c.loop-i.invariant.3 (omega arith) in
+    (to_z w64 c.loop-i.rest-bits +ℤ held (to_signed 63 (line s c.loop-i.i))) =
+    hold_in c.requires.ticks c.loop-i.i c.loop-i.invariant.3 (omega arith) in
     hold_out c.requires.ticks window_held.sum (omega arith)
 
 pub loop-i-init : goal.loop-i-init

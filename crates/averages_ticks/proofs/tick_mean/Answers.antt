@@ -18,7 +18,8 @@ write_tick_means-requires c =
 
 pub returns-then-has_cells : goal.returns-then-has_cells
 returns-then-has_cells c =
-    all_called (all_bars _ _ _ _ _) c.answer_tick_window-due.ensures (due (goal.at.returns-then-has_cells c).Then-has_cells)
+    all_called (all_bars _ _ _ _ _) c.answer_tick_window-due.ensures
+    (due (goal.at.returns-then-has_cells c).Then-has_cells)
     c.write_tick_means.ensures
 
 pub returns-else-has_cells : goal.returns-else-has_cells

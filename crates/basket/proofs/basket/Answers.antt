@@ -50,7 +50,8 @@ clear-requires c =
 
 pub returns-then-has_cells : goal.returns-then-has_cells
 returns-then-has_cells c =
-    basket_written _ _ _ _ _ c.answer_basket-due.ensures (some (goal.at.returns-then-has_cells c).Then-has_cells) c.write_nets.ensures.0
+    basket_written _ _ _ _ _ c.answer_basket-due.ensures (some (goal.at.returns-then-has_cells c).Then-has_cells)
+    c.write_nets.ensures.0
     c.write_nets.ensures.1 c.clear.ensures
 
 pub returns-else-has_cells : goal.returns-else-has_cells

@@ -17,7 +17,8 @@ use Rattle.jurik.proofs.write_jv.Given as goal
 
 abbrev pub invariant-loop-i : goal.invariant-loop-i
 invariant-loop-i l =
-    (l.i ≤ l.bars) × Writing l.i (jv l.power (line l.initial.cells)) l.initial.cells l.cells × (l.last ≡ earlier plus_zero (line l.initial.cells) l.i)
+    (l.i ≤ l.bars) × Writing l.i (jv l.power (line l.initial.cells)) l.initial.cells l.cells
+    × (l.last ≡ earlier plus_zero (line l.initial.cells) l.i)
 
 abbrev pub decreases-loop-i : goal.decreases-loop-i
 decreases-loop-i l = l.bars - l.i

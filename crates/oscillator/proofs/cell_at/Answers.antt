@@ -9,5 +9,6 @@ use Rattle.oscillator.proofs.cell_at.Goals as goal
 pub returns : goal.returns
 returns c =
     c.weigh.ensures
-    ∙ cell_is minus_zero _ _ _ _ _ _ c.share_at-short_share.ensures c.share_at-medium_share.ensures c.share_at-long_share.ensures
+    ∙ cell_is minus_zero _ _ _ _ _ _ c.share_at-short_share.ensures c.share_at-medium_share.ensures
+    c.share_at-long_share.ensures
     (omega arith)

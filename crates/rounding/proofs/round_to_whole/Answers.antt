@@ -21,7 +21,8 @@ part c = rw (c.truncating_f64_to_u64-halves.ensures, c.magnitude-size.ensures)
 
 pub truncating_f64_to_u64-halves-requires : goal.truncating_f64_to_u64-halves-requires
 unfolding of_bits
-truncating_f64_to_u64-halves-requires c = rw c.magnitude-size.ensures (record { lower_bound = (below c).above; upper_bound = (below c).below })
+truncating_f64_to_u64-halves-requires c =
+    rw c.magnitude-size.ensures (record { lower_bound = (below c).above; upper_bound = (below c).below })
 
 pub overflow_add-whole : goal.overflow_add-whole
 overflow_add-whole c = omega (arith, part c, (below c.before).small)

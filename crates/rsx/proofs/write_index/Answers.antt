@@ -32,8 +32,13 @@ pub loop-i-preserved : goal.loop-i-preserved
 unfolding of_bits
 loop-i-preserved c =
     let at = c.loop-i in
-    let cell = c.strength_index.ensures ∙ index_at _ _ _ _ c.next-averages.ensures (omega arith) in
-    (omega arith, omega arith, same_bar c.next-averages.ensures (omega arith), one_more at.invariant.3 cell (omega arith))
+    let cell = c.strength_index.ensures ∙ index_at _ _ _ _ c.next-averages.ensures (omega arith) in (
+      omega arith,
+      omega arith,
+      same_bar c.next-averages.ensures (omega arith),
+      one_more at.invariant.3 cell
+          (omega arith),
+    )
 
 pub returns : goal.returns
 returns c = lead_then c.fill_nan-i.ensures c.loop-i.invariant.3 (omega arith)

@@ -17,7 +17,8 @@ write_ranges-requires c =
 
 pub returns-then-has_cells : goal.returns-then-has_cells
 returns-then-has_cells c =
-    all_called (ranges_bars _ _ _ _ _) c.answer_ranges-due.ensures (due (goal.at.returns-then-has_cells c).Then-has_cells)
+    all_called (ranges_bars _ _ _ _ _) c.answer_ranges-due.ensures
+    (due (goal.at.returns-then-has_cells c).Then-has_cells)
     c.write_ranges.ensures
 
 pub returns-else-has_cells : goal.returns-else-has_cells

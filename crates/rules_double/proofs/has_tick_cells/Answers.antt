@@ -35,7 +35,8 @@ returns-then-all_ticks c =
       ← c.all_ticks.ensures,
       c.if-all_ticks.true,
     )
-    (c.all_ticks-then-all_ticks.ensures ∙ ap (all tick) (take_all (length s - k) (drop k s) (le_of_eq (length-drop k s))))
+    (c.all_ticks-then-all_ticks.ensures ∙ ap (all tick)
+    (take_all (length s - k) (drop k s) (le_of_eq (length-drop k s))))
 
 pub returns-else-all_ticks : goal.returns-else-all_ticks
 unfolding tick_cells

@@ -78,7 +78,8 @@ returns-then-i-series c =
     let o = c.requires.over_ticks in
     let i = c.loop-i.i in
     let next = after_one o i (omega arith) (omega arith) c.loop-i.invariant.3 c.change_at.ensures in
-    ends (one_more c.loop-i.invariant.4 (c.sign_of_number-then-i-series.ensures ∙ decided o i (i + 1) (omega arith) next)
+    ends (one_more c.loop-i.invariant.4 (c.sign_of_number-then-i-series.ensures
+    ∙ decided o i (i + 1) (omega arith) next)
     (omega arith))
     (omega arith)
 

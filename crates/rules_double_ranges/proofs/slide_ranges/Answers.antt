@@ -44,8 +44,11 @@ pub cell_at-requires : goal.cell_at-requires
 cell_at-requires c =
     let r = c.requires in
     let some = r.lows.long.some in
-    let full = r.lows.full in (record { window = (r.lows.long, r.lows.order); implies = cell_asks r.lows r.highs r.same r.ranged (c.args.m - 1) (omega arith) (omega arith)
-          c.first_sums-lows.ensures c.first_sums-highs.ensures })
+    let full = r.lows.full in (record {
+      window = (r.lows.long, r.lows.order);
+      implies = cell_asks r.lows r.highs r.same r.ranged (c.args.m - 1) (omega arith) (omega arith)
+          c.first_sums-lows.ensures c.first_sums-highs.ensures;
+    })
 
 pub loop-i-init : goal.loop-i-init
 loop-i-init c =
@@ -71,8 +74,11 @@ next_sums-highs-requires c =
 
 pub cell_at-requires-in-loop-i : goal.cell_at-requires-in-loop-i
 cell_at-requires-in-loop-i c =
-    let r = c.requires in (record { window = (r.lows.long, r.lows.order); implies = cell_asks r.lows r.highs r.same r.ranged c.loop-i.i (omega arith) (omega arith)
-          c.next_sums-lows.ensures c.next_sums-highs.ensures })
+    let r = c.requires in (record {
+      window = (r.lows.long, r.lows.order);
+      implies = cell_asks r.lows r.highs r.same r.ranged c.loop-i.i (omega arith) (omega arith)
+          c.next_sums-lows.ensures c.next_sums-highs.ensures;
+    })
 
 pub loop-i-preserved : goal.loop-i-preserved
 loop-i-preserved c =
@@ -89,7 +95,10 @@ loop-i-preserved c =
       omega arith,
       simp length-set room,
       one_more c.loop-i.invariant.3
-          (rw (to_z-of_z w32 c.cell_at-in-loop-i.result (sfits_of c.cell_at-in-loop-i.type_inv), c.cell_at-in-loop-i.ensures) cell)
+          (rw (
+            to_z-of_z w32 c.cell_at-in-loop-i.result (sfits_of c.cell_at-in-loop-i.type_inv),
+            c.cell_at-in-loop-i.ensures,
+          ) cell)
           (omega arith),
       rw bar c.next_sums-lows.ensures,
       rw bar c.next_sums-highs.ensures,

@@ -19,7 +19,8 @@ use Rattle.rules_double_ranges.proofs.slide_ranges.Given as goal
 
 abbrev pub invariant-loop-i : goal.invariant-loop-i
 invariant-loop-i l =
-    (l.m ≤ l.i) × (l.i ≤ length l.low) × (length l.low ≤ length l.out) × Writing l.i (ranges_line l.n l.m (line l.low) (line l.high)) l.initial.out l.out
+    (l.m ≤ l.i) × (l.i ≤ length l.low) × (length l.low ≤ length l.out)
+    × Writing l.i (ranges_line l.n l.m (line l.low) (line l.high)) l.initial.out l.out
     × SumsAt l.n l.m (ticks_of l.low) (l.i - 1) l.lows.short l.lows.old
     × SumsAt l.n l.m (ticks_of l.high) (l.i - 1) l.highs.short l.highs.old
 

@@ -20,13 +20,12 @@ use Rattle.rules_ema.proofs.SingleEma.{
 use Rattle.rules_ema.proofs.write_from.Goals as goal
 
 pub loop-i-init : goal.loop-i-init
-loop-i-init c =
-    (
-      omega arith,
-      omega arith,
-      starts_finished _ _ _ c.clear_lead.ensures,
-      first_average _ _ _ c.requires.first,
-    )
+loop-i-init c = (
+  omega arith,
+  omega arith,
+  starts_finished _ _ _ c.clear_lead.ensures,
+  first_average _ _ _ c.requires.first,
+)
 
 pub loop-i-preserved : goal.loop-i-preserved
 loop-i-preserved c =

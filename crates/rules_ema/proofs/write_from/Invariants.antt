@@ -22,7 +22,8 @@ use Rattle.rules_ema.proofs.write_from.Given as goal
 abbrev pub invariant-loop-i : goal.invariant-loop-i
 invariant-loop-i l =
     (l.start ≤ l.i) × (l.i < length l.series)
-    × Finished (single_ema_from l.start l.n (line l.series)) (length l.series) l.i l.initial.out l.out l.initial.work l.work
+    × Finished (single_ema_from l.start l.n (line l.series)) (length l.series) l.i l.initial.out l.out l.initial.work
+    l.work
     × (l.average ≡ ema_of_means l.start l.n (line l.series) l.i)
 
 abbrev pub decreases-loop-i : goal.decreases-loop-i

@@ -16,7 +16,8 @@ use Rattle.rules_middle.proofs.write_against_middles.Given as goal
 
 abbrev pub invariant-loop-i : goal.invariant-loop-i
 invariant-loop-i l =
-    (min (2 * l.n - 2) l.bars ≤ l.i) × (l.i ≤ l.bars) × Writing l.i (positions l.n l.bars (line l.initial.out) (line l.work)) l.initial.out l.out
+    (min (2 * l.n - 2) l.bars ≤ l.i) × (l.i ≤ l.bars)
+    × Writing l.i (positions l.n l.bars (line l.initial.out) (line l.work)) l.initial.out l.out
 
 abbrev pub decreases-loop-i : goal.decreases-loop-i
 decreases-loop-i l = l.bars - l.i

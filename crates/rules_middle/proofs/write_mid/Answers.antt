@@ -14,13 +14,16 @@ pub write_mid_of_means-requires-2 : goal.write_mid_of_means-requires-2
 write_mid_of_means-requires-2 c =
     let pre = c.requires in
     let out = c.write_mid_by_margins.ensures.used.long in
-    let work = c.write_mid_by_margins.ensures.work.long in (record { priced = record {
+    let work = c.write_mid_by_margins.ensures.work.long in (record {
+      priced = record {
         window = pre.window;
         short = pre.short;
         out_long = omega (arith, pre.out_long);
         work_long = omega (arith, pre.work_long);
         values = pre.values;
-      }; ticks_value = c.are_long_ticks-ticks.ensures })
+      };
+      ticks_value = c.are_long_ticks-ticks.ensures;
+    })
 
 pub returns : goal.returns
 returns c =

@@ -10,7 +10,8 @@ use Rattle.rules_rsi.proofs.Rows.{none_of_parts, next_part}
 use Rattle.rules_rsi.proofs.write_parts.Given as goal
 
 abbrev pub invariant-loop-i : goal.invariant-loop-i
-invariant-loop-i l = (0 < l.i) × (l.i ≤ l.bars) × Writing (l.to + l.i) (with_parts l.losing l.to l.initial.work) l.initial.work l.work
+invariant-loop-i l =
+    (0 < l.i) × (l.i ≤ l.bars) × Writing (l.to + l.i) (with_parts l.losing l.to l.initial.work) l.initial.work l.work
 
 abbrev pub decreases-loop-i : goal.decreases-loop-i
 decreases-loop-i l = l.bars - l.i

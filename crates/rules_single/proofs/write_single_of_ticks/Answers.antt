@@ -27,12 +27,15 @@ write_tick_positions-requires c =
     let second = through c.write_sums.ensures (omega arith) (running_sums _)
     (causal_running_sums _ pre.priced.window.some)
     c.write_sums-2.ensures in
-    let rows = lent_on c.write_means_of_ticks.ensures second (omega arith) in (record { tick_rows = record {
+    let rows = lent_on c.write_means_of_ticks.ensures second (omega arith) in (record {
+      tick_rows = record {
         window = pre.priced.window;
         ticks = pre.series_value;
         room = omega (arith, rows.long);
         rows = stands rows;
-      }; series_in_bounds = omega arith })
+      };
+      series_in_bounds = omega arith;
+    })
 
 pub returns : goal.returns
 returns c =

@@ -15,13 +15,12 @@ pub loop-i-init : goal.loop-i-init
 loop-i-init c = unfold single_line of_bits in search (rules, lead_stands)
 
 pub loop-i-preserved : goal.loop-i-preserved
-loop-i-preserved c =
-    (
-      omega arith,
-      omega arith,
-      one_more c.loop-i.invariant.2 c.tick_position.ensures
-          (omega arith),
-    )
+loop-i-preserved c = (
+  omega arith,
+  omega arith,
+  one_more c.loop-i.invariant.2 c.tick_position.ensures
+      (omega arith),
+)
 
 pub returns : goal.returns
 returns c = lead_then c.fill_lead-i.ensures c.loop-i.invariant.2 (omega arith)

@@ -11,7 +11,8 @@ use Rattle.sheet_text.specs.inner.Standing.{Copied}
 use Rattle.sheet_text.proofs.copy.Given as goal
 
 abbrev pub invariant-loop-i : goal.invariant-loop-i
-invariant-loop-i l = (l.i ≤ l.count) × (length l.out ≡ length l.initial.out) × Copied l.text l.i l.at l.initial.out l.out
+invariant-loop-i l =
+    (l.i ≤ l.count) × (length l.out ≡ length l.initial.out) × Copied l.text l.i l.at l.initial.out l.out
 
 abbrev pub decreases-loop-i : goal.decreases-loop-i
 decreases-loop-i l = l.count - l.i

@@ -14,7 +14,8 @@ use Rattle.true_range.proofs.write_ranges.Given as goal
 abbrev pub invariant-loop-i : goal.invariant-loop-i
 invariant-loop-i l =
     (l.i ≤ length l.high)
-    × Writing l.i (true_ranges (line l.high) (line l.low) (given_before l.first (back_by l.back (line l.close)))) l.initial.out l.out
+    × Writing l.i (true_ranges (line l.high) (line l.low) (given_before l.first (back_by l.back (line l.close))))
+    l.initial.out l.out
 
 abbrev pub decreases-loop-i : goal.decreases-loop-i
 decreases-loop-i l = length l.high - l.i

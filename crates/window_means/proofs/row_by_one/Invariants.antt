@@ -6,7 +6,8 @@ use Rattle.window_means.proofs.row_by_one.Given as goal
 
 abbrev pub invariant-loop-i : goal.invariant-loop-i
 invariant-loop-i l =
-    (l.first ≤ l.i) × (l.i ≤ l.bars) × Writing (l.to + l.i) (means_of_row l.from l.to l.n l.first l.initial.cells) l.initial.cells l.cells
+    (l.first ≤ l.i) × (l.i ≤ l.bars) × Writing (l.to + l.i) (means_of_row l.from l.to l.n l.first l.initial.cells)
+    l.initial.cells l.cells
 
 abbrev pub decreases-loop-i : goal.decreases-loop-i
 decreases-loop-i l = l.bars - l.i

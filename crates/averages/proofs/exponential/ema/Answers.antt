@@ -25,7 +25,8 @@ answer_lead-requires c = sym c.window_fits.ensures ∙ c.if-window_fits.false
 pub returns-then-window_fits : goal.returns-then-window_fits
 returns-then-window_fits c =
     let a = c.args in
-    rw (fits_answered accepted a.series.now a.n (length a.out.now) (told (goal.at.returns-then-window_fits c).Then-window_fits))
+    rw (fits_answered accepted a.series.now a.n (length a.out.now)
+    (told (goal.at.returns-then-window_fits c).Then-window_fits))
     c.answer_from_mean.ensures
 
 pub returns-else-window_fits : goal.returns-else-window_fits

@@ -12,7 +12,8 @@ use Rattle.averages.proofs.halves.blend_halves.Given as goal
 abbrev pub invariant-loop-k : goal.invariant-loop-k
 invariant-loop-k l =
     (l.k ≤ l.eights)
-    × Sides l.alpha l.first l.seed (line l.series) (l.low + 8 * l.k) l.high (l.high + 8 * l.k) l.initial.out l.out l.last.lower l.last.upper
+    × Sides l.alpha l.first l.seed (line l.series) (l.low + 8 * l.k) l.high (l.high + 8 * l.k) l.initial.out l.out
+    l.last.lower l.last.upper
 
 abbrev pub decreases-loop-k : goal.decreases-loop-k
 decreases-loop-k l = l.eights - l.k

@@ -8,15 +8,14 @@ use Rattle.averages.proofs.Smoothed.{seed_written}
 use Rattle.averages.proofs.halves.write_smooth.Goals as goal
 
 pub blend_halves-requires : goal.blend_halves-requires
-blend_halves-requires c =
-    (
-      record {
-        inside = omega arith;
-        room = simp length-set (omega arith);
-        cells = stands (seed_written c.args.series.now _ _ _ c.fill_nan.ensures (omega arith));
-      },
-      c.requires.1,
-    )
+blend_halves-requires c = (
+  record {
+    inside = omega arith;
+    room = simp length-set (omega arith);
+    cells = stands (seed_written c.args.series.now _ _ _ c.fill_nan.ensures (omega arith));
+  },
+  c.requires.1,
+)
 
 pub shape_of-out : goal.shape_of-out
 shape_of-out c = c.blend_halves.ensures.long ∙ simp length-set (omega arith)

@@ -32,14 +32,13 @@ overflow_add-out-in-loop-j c =
     (get_or c.loop-j.out (c.args.first + c.loop-j.j) (pos 0)) (small c) c.weighted-more.ensures
 
 pub loop-j-preserved : goal.loop-j-preserved
-loop-j-preserved c =
-    (
-      omega arith,
-      one_added c.loop-j.invariant.1
-          (sum_is c.args.weight c.requires.light _
-          (get_or c.loop-j.out (c.args.first + c.loop-j.j) (pos 0)) (small c) c.weighted-more.ensures)
-          (omega arith),
-    )
+loop-j-preserved c = (
+  omega arith,
+  one_added c.loop-j.invariant.1
+      (sum_is c.args.weight c.requires.light _
+      (get_or c.loop-j.out (c.args.first + c.loop-j.j) (pos 0)) (small c) c.weighted-more.ensures)
+      (omega arith),
+)
 
 pub returns : goal.returns
 returns c =

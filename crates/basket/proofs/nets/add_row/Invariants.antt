@@ -15,7 +15,8 @@ use Rattle.basket.proofs.nets.add_row.Given as goal
 
 abbrev pub invariant-loop-j : goal.invariant-loop-j
 invariant-loop-j l =
-    (l.j ≤ l.count) × Added l.first l.j (λ i. l.weight *ℤ whole_position (line l.positions (l.from + i))) l.initial.out l.out
+    (l.j ≤ l.count) × Added l.first l.j (λ i. l.weight *ℤ whole_position (line l.positions (l.from + i))) l.initial.out
+    l.out
 
 abbrev pub decreases-loop-j : goal.decreases-loop-j
 decreases-loop-j l = l.count - l.j

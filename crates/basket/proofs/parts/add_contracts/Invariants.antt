@@ -13,7 +13,8 @@ use Rattle.basket.proofs.parts.add_contracts.Given as goal
 
 abbrev pub invariant-loop-k : goal.invariant-loop-k
 invariant-loop-k l =
-    (l.k ≤ length l.weights) × Netted l.bars (first_cells l.k (contract_at l.bars l.series l.contracts l.weights)) l.initial.out l.out
+    (l.k ≤ length l.weights) × Netted l.bars (first_cells l.k (contract_at l.bars l.series l.contracts l.weights))
+    l.initial.out l.out
     × Touched (8 * l.bars) l.initial.work l.work × (length l.block ≡ length l.initial.block)
 
 abbrev pub decreases-loop-k : goal.decreases-loop-k

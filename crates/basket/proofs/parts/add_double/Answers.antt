@@ -10,9 +10,8 @@ add_bars-requires c =
     (double_room c.requires c.double_sma_positions-given.ensures c.count_of-count.ensures)
 
 pub returns : goal.returns
-returns c =
-    (
-      double_added c.requires c.double_sma_positions-given.ensures c.count_of-count.ensures
-          (rw (weight_held c.args.weight c.requires.light) at c.add_bars.ensures),
-      double_touched c.requires c.double_sma_positions-given.ensures c.count_of-count.ensures,
-    )
+returns c = (
+  double_added c.requires c.double_sma_positions-given.ensures c.count_of-count.ensures
+      (rw (weight_held c.args.weight c.requires.light) at c.add_bars.ensures),
+  double_touched c.requires c.double_sma_positions-given.ensures c.count_of-count.ensures,
+)

@@ -21,12 +21,11 @@ returns-in-Refused c =
     c.loop-k-test.true
 
 pub loop-k-preserved : goal.loop-k-preserved
-loop-k-preserved c =
-    (
-      omega arith,
-      one_answered c.loop-k.invariant.1 (c.answer_contract-given.ensures _)
-          c.in_default.is c.loop-k-test.true,
-    )
+loop-k-preserved c = (
+  omega arith,
+  one_answered c.loop-k.invariant.1 (c.answer_contract-given.ensures _)
+      c.in_default.is c.loop-k-test.true,
+)
 
 pub overflow_mul-result : goal.overflow_mul-result
 overflow_mul-result c = let room = c.requires.out_long in search rules

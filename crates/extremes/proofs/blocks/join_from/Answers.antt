@@ -9,8 +9,13 @@ use Rattle.extremes.proofs.blocks.join_from.Goals as goal
 
 pub loop-i-init : goal.loop-i-init
 loop-i-init c =
-    let first = c.requires.replacing.inside c.args.e (omega arith) in
-    (omega arith, omega arith, one_bar_lem _ c.of_one-best.ensures, one_stands _ (whole _ first (omega arith)) (omega arith))
+    let first = c.requires.replacing.inside c.args.e (omega arith) in (
+      omega arith,
+      omega arith,
+      one_bar_lem _ c.of_one-best.ensures,
+      one_stands _ (whole _ first (omega arith))
+          (omega arith),
+    )
 
 pub bounds-rows-bars-in-loop-i : goal.bounds-rows-bars-in-loop-i
 bounds-rows-bars-in-loop-i c = simp length-set (omega arith)

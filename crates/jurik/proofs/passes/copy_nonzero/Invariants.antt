@@ -11,7 +11,8 @@ use Rattle.jurik.specs.Jurik.{copied}
 use Rattle.jurik.proofs.passes.copy_nonzero.Given as goal
 
 abbrev pub invariant-loop-i : goal.invariant-loop-i
-invariant-loop-i l = (l.i ≤ l.bars) × Writing l.i (copied non_zero plus_zero (line l.initial.cells)) l.initial.cells l.cells
+invariant-loop-i l =
+    (l.i ≤ l.bars) × Writing l.i (copied non_zero plus_zero (line l.initial.cells)) l.initial.cells l.cells
 
 abbrev pub decreases-loop-i : goal.decreases-loop-i
 decreases-loop-i l = l.bars - l.i

@@ -15,7 +15,8 @@ abbrev pub invariant-loop-i : goal.invariant-loop-i
 invariant-loop-i l =
     let f = line l.pressures in
     let g = line l.ranges in
-    (l.from ≤ l.i) × (l.i < length l.pressures) × Writing l.i (afresh l.short l.medium l.long l.pressures l.ranges) l.initial.out l.out
+    (l.from ≤ l.i) × (l.i < length l.pressures)
+    × Writing l.i (afresh l.short l.medium l.long l.pressures l.ranges) l.initial.out l.out
     × SumsOf l.short f g l.i l.short_sums × SumsOf l.medium f g l.i l.medium_sums × SumsOf l.long f g l.i l.long_sums
 
 abbrev pub decreases-loop-i : goal.decreases-loop-i

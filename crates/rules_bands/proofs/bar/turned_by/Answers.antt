@@ -59,7 +59,8 @@ returns-else-position-eq0 c =
     let call = c.move_position in
     let a = c.args in
     let same = to_z-of_z w32 a.position c.ranges.position in
-    let held : to_z w32 (of_z w32 a.position) ≡ flat → ⊥ = λ e. c.if-position-eq0.false (ap (of_z w32) (sym same ∙ e)) in
+    let held : to_z w32 (of_z w32 a.position) ≡ flat → ⊥ =
+    λ e. c.if-position-eq0.false (ap (of_z w32) (sym same ∙ e)) in
     let signal = turns_at a.average a.middle a.k (sqrt_of binary64 a.variance) in
     to_z-of_z w32 call.result (sfits_of call.type_inv)
     ∙ call.ensures

@@ -21,14 +21,13 @@ pub int_to_float-count : goal.int_to_float-count
 int_to_float-count c = let w = c.requires.prices.window in count_is_float _ (omega arith)
 
 pub loop-out-init : goal.loop-out-init
-loop-out-init c =
-    (
-      omega arith,
-      omega arith,
-      starts_finished _ _ _ c.clear_lead.ensures,
-      first_slid _ _ _ c.sum_at-sum.ensures,
-      first_running_average _ _ _ c.requires.first,
-    )
+loop-out-init c = (
+  omega arith,
+  omega arith,
+  starts_finished _ _ _ c.clear_lead.ensures,
+  first_slid _ _ _ c.sum_at-sum.ensures,
+  first_running_average _ _ _ c.requires.first,
+)
 
 pub loop-out-preserved : goal.loop-out-preserved
 loop-out-preserved c =

@@ -20,7 +20,8 @@ use Rattle.rules_ema.proofs.by_margins.write_from_by_margins.Given as goal
 abbrev pub invariant-loop-out : goal.invariant-loop-out
 invariant-loop-out l =
     (l.start ≤ l.i) × (l.i < length l.series)
-    × Finished (single_ema_from l.start l.n (line l.series)) (length l.series) l.i l.initial.out l.out l.initial.work l.work
+    × Finished (single_ema_from l.start l.n (line l.series)) (length l.series) l.i l.initial.out l.out l.initial.work
+    l.work
     × (l.sum ≡ slid_from l.start l.n (line l.series) l.i) × (l.average ≡ running_ema l.start l.n (line l.series) l.i)
 
 abbrev pub decreases-loop-out : goal.decreases-loop-out

@@ -9,7 +9,8 @@ use Rattle.sheet_lines.proofs.Reading.{all_blank, blank_column, first_column}
 use Rattle.sheet_lines.proofs.columns.after_blanks.Given as goal
 
 abbrev pub invariant-loop-i : goal.invariant-loop-i
-invariant-loop-i l = (l.from ≤ l.i) × (l.i ≤ l.to) × (unpadded (slice l.from l.to l.line) ≡ unpadded (slice l.i l.to l.line))
+invariant-loop-i l =
+    (l.from ≤ l.i) × (l.i ≤ l.to) × (unpadded (slice l.from l.to l.line) ≡ unpadded (slice l.i l.to l.line))
 
 abbrev pub decreases-loop-i : goal.decreases-loop-i
 decreases-loop-i l = l.to - l.i

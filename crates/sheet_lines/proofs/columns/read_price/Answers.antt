@@ -19,7 +19,8 @@ negative-requires c =
 pub positive-requires : goal.positive-requires
 positive-requires c =
     let a = c.args in
-    rw c.digits-else-line-first-eq45.ensures (number_few a.line.now c.after_blanks-first.result a.to (omega arith) (omega arith))
+    rw c.digits-else-line-first-eq45.ensures
+    (number_few a.line.now c.after_blanks-first.result a.to (omega arith) (omega arith))
 
 pub returns-then-line-first-eq45 : goal.returns-then-line-first-eq45
 unfolding read_price

@@ -9,10 +9,9 @@ use Rattle.sheet_lines.proofs.text.print_answer.Goals as goal
 
 pub returns : goal.returns
 unfolding answer_text
-returns c =
-    (
-      rw (← c.count_of-count.ensures, ← c.refusal_of.ensures)
-          (add_more c.print_head.ensures c.print_positions.ensures refl),
-      ap (λ (k : ℕ). c.args.at + head_bytes + position_bytes * k)
-          c.count_of-count.ensures,
-    )
+returns c = (
+  rw (← c.count_of-count.ensures, ← c.refusal_of.ensures)
+      (add_more c.print_head.ensures c.print_positions.ensures refl),
+  ap (λ (k : ℕ). c.args.at + head_bytes + position_bytes * k)
+      c.count_of-count.ensures,
+)

@@ -4,9 +4,8 @@ use borrow.Author.Rules.{rules}
 use Rattle.sheet_requests.proofs.answers.refuse_desk.Goals as goal
 
 pub returns : goal.returns
-returns c =
-    (
-      λ series prices. rw c.requires.0 (record { state = refl; text = c.print_head.ensures; place = refl }),
-      refl,
-      refl,
-    )
+returns c = (
+  λ series prices. rw c.requires.0 (record { state = refl; text = c.print_head.ensures; place = refl }),
+  refl,
+  refl,
+)

@@ -6,7 +6,8 @@ use Rattle.smoother_table.specs.Coefficients.{a1_of, b1_of, of_pair, coefficient
 use Rattle.smoother_table.proofs.Coefficients.of_period.Goals as goal
 
 pub returns-then-period-eq0 : goal.returns-then-period-eq0
-returns-then-period-eq0 c = unfold coefficients of_pair a1_of b1_of of_bits add sub mul div neg in rw c.if-period-eq0.true
+returns-then-period-eq0 c =
+    unfold coefficients of_pair a1_of b1_of of_bits add sub mul div neg in rw c.if-period-eq0.true
 
 pub returns : goal.returns
 returns c =

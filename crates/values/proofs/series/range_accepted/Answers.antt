@@ -20,7 +20,8 @@ loop-i-preserved c =
     let at = c.loop-i in (
       omega arith,
       one_tested c.within_limit-within.result c.minus_zero_bits-minus_zeros.result _ at.invariant.1
-          (parts _ _ c.minus_zero_bits-minus_zeros.result c.within_limit-within.ensures c.minus_zero_bits-minus_zeros.ensures)
+          (parts _ _ c.minus_zero_bits-minus_zeros.result c.within_limit-within.ensures
+          c.minus_zero_bits-minus_zeros.ensures)
           (omega arith),
     )
 

@@ -11,7 +11,8 @@ use Rattle.windows.proofs.sliding.slide_means.Given as goal
 
 abbrev pub invariant-loop-i : goal.invariant-loop-i
 invariant-loop-i l =
-    (l.n ≤ l.i) × (l.i ≤ length l.series) × Writing l.i (on_from l.n (running_mean l.n (line l.series)) l.initial.means) l.initial.means l.means
+    (l.n ≤ l.i) × (l.i ≤ length l.series) × Writing l.i (on_from l.n (running_mean l.n (line l.series)) l.initial.means)
+    l.initial.means l.means
     × Running add_difference l.n (line l.series) l.i l.sum
 
 abbrev pub decreases-loop-i : goal.decreases-loop-i
