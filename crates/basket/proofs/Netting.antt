@@ -1,7 +1,7 @@
 -- The nets of contracts that are added one after another. Assumes nothing.
 use mathlib.Core.Path.{◌≡◌, refl, sym, ap, ◌∙◌, subst⁻¹}
 use mathlib.Core.Bool.{Bool, true, false, cond, ◌&&◌, ◌||◌}
-use mathlib.Core.List.{List, [], ◌∷◌, ◌++◌}
+use mathlib.Core.List.{List, ◌∷◌, ◌++◌}
 use Prim.Native.Nat.{ℕ, zero, suc, ◌+◌, ◌-◌, ◌*◌, ◌/◌, ◌%◌, ◌<◌, ◌≤◌}
 use native.Mathlib.Nat.{div-lt_iff_lt-mul, div-add-mod', mod-lt, mul-le-mul_right}
 use native.Mathlib.Numerals.{add-one}
@@ -19,7 +19,7 @@ use Rattle.cells.specs.inner.Touched.{Touched}
 use Rattle.cells.proofs.Touched.{touched, touched_then, written_over_all}
 use Rattle.cells.proofs.Written.{read_back, stood}
 use Rattle.calls.specs.Answer.{count_of}
-use Rattle.rules.specs.Position.{by_side, whole_position}
+use Rattle.rules.specs.Position.{whole_position}
 use Rattle.basket.specs.Basket.{
   Contract,
   groups,

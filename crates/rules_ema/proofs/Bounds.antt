@@ -6,8 +6,8 @@ use native.Mathlib.Nat.{le_refl}
 use native.Mathlib.Omega.{arith}
 use lib.Dec.{lit≤, lit<}
 use lib.IntN.{pos}
-use lib.Ieee.{Float, binary64, sub, div, of_int}
-use Rattle.rounding.specs.Leaves.{plus_one, two}
+use lib.Ieee.{Float, binary64, sub, of_int}
+use Rattle.rounding.specs.Leaves.{two}
 use Rattle.rounding_laws.proofs.Bounds.{AtMost, add_at_most, sub_at_most}
 use Rattle.rounding_laws.proofs.Value.{div_at}
 use Rattle.rounding_laws.proofs.Whole.{whole_value}

@@ -16,7 +16,6 @@ use Rattle.cells.proofs.Touched.{untouched, touched, touched_more}
 use Rattle.cells.proofs.Parts.{part_long, part_is}
 use Rattle.cells.specs.Search.{first_bar, non_zero}
 use Rattle.cells.proofs.Search.{first_bar_same, first_bar_met, first_bar_most}
-use Rattle.cells.specs.Recur.{carried}
 use Rattle.cells.proofs.Carried.{carried_same, carried_seed, carried_next}
 use Rattle.cells.specs.inner.Finished.{Finished}
 use Rattle.cells.proofs.Scratch.{goes_on}

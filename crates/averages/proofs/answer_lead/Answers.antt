@@ -1,9 +1,8 @@
 -- `answer_lead` meets its contract: the answer is that of the table, and all its cells stand before bar n - 1.
 -- Assumes nothing.
-use mathlib.Core.List.{[], ◌∷◌}
+use mathlib.Core.List.{◌∷◌}
 use Prim.Native.Nat.{◌<◌}
 use native.Mathlib.Omega.{arith}
-use borrow.Author.Rules.{rules}
 use lib.ListN.{length}
 use Rattle.calls.specs.Answer.{count_of}
 use Rattle.calls.proofs.Call.{some_cells, no_cells, all_called, none_called}

@@ -1,7 +1,6 @@
 -- `basket` meets its contract: the answer is the table's, and where it has cells they are written and the work slice is
 -- cleared. Assumes nothing.
 use Prim.Native.Nat.{◌<◌}
-use native.Mathlib.Omega.{arith}
 use borrow.Author.Rules.{rules}
 use lib.ListN.{length, get_or}
 use Rattle.calls.specs.Answer.{count_of}

@@ -1,7 +1,6 @@
 -- `cell_at` meets its contract: three shares, weighed. Assumes nothing.
 use mathlib.Core.Path.{◌∙◌}
 use native.Mathlib.Omega.{arith}
-use borrow.Author.Rules.{rules}
 use Rattle.cells.specs.Line.{minus_zero}
 use Rattle.oscillator.proofs.Cells.{cell_is}
 use Rattle.oscillator.proofs.cell_at.Goals as goal

@@ -1,7 +1,6 @@
 -- `write_double_of_ticks` meets its contract: the lead, the first position, and those after it. Assumes nothing.
 use mathlib.Core.Path.{◌∙◌}
 use native.Mathlib.Omega.{arith}
-use borrow.Author.Rules.{rules}
 use lib.ListN.{length-set}
 use lib.Ieee.{of_bits}
 use Rattle.cells.proofs.Leads.{lead_then}

@@ -1,7 +1,6 @@
 -- `write_mid` meets its contract: by means where the prices are whole ticks and the window is long, else by running
 -- sums where they decide every bar, and else by means. Assumes nothing.
 use native.Mathlib.Omega.{arith}
-use borrow.Author.Rules.{rules}
 use Rattle.cells.proofs.Touched.{touched_then, written_over_all}
 use Rattle.rules_middle.proofs.write_mid.Goals as goal
 

@@ -3,7 +3,6 @@
 use mathlib.Core.Path.{sym, ◌∙◌}
 use mathlib.Core.Bool.{true≢false}
 use native.Mathlib.Omega.{arith}
-use borrow.Author.Rules.{rules}
 use Rattle.cells.proofs.Parts.{part_long}
 use Rattle.cells.proofs.Touched.{untouched, touched, touched_more}
 use Rattle.cells.proofs.Written.{then_written, writing_same}

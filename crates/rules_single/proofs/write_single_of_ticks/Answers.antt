@@ -2,7 +2,6 @@
 -- rows, and the positions. Assumes nothing.
 use mathlib.Core.Path.{sym}
 use native.Mathlib.Omega.{arith}
-use borrow.Author.Rules.{rules}
 use lib.ListN.{length-take, length-drop}
 use Rattle.cells.proofs.RowWrites.{lent_on}
 use Rattle.cells.proofs.Touched.{touched, touched_more}

@@ -1,13 +1,8 @@
 -- `write_tick_positions` meets its contract: each turn writes the bar's cell. Assumes nothing.
 use Prim.Native.Nat.{◌-◌, ◌*◌, ◌≤◌, min}
-use native.Mathlib.Omega.{arith}
-use borrow.Author.Rules.{rules}
-use lib.Ieee.{of_bits}
 use lib.ListN.{length}
 use Rattle.cells.specs.Line.{line}
-use Rattle.cells.proofs.Leads.{lead_stands, lead_then}
 use Rattle.cells.specs.Written.{Writing}
-use Rattle.cells.proofs.Written.{one_more}
 use Rattle.rules_single.specs.Single.{single_line}
 use Rattle.rules_single.proofs.write_tick_positions.Given as goal
 

@@ -3,7 +3,6 @@
 use mathlib.Core.Path.{◌≡◌}
 use mathlib.Core.Bool.{cond}
 use borrow.Author.Tests.{le-leb, lt-leb}
-use borrow.Author.Rules.{rules}
 use Rattle.sheet_lines.specs.declared.Header.TheVariants.{Asked, Malformed}
 use Rattle.sheet_lines.specs.Header.{accepted, request_of}
 use Rattle.sheet_lines.proofs.request_of.Goals as goal

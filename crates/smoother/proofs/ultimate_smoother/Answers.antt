@@ -1,6 +1,6 @@
 -- `ultimate_smoother` meets its contract: each answer is a line of the table, and the cells are those of the period's
 -- line. Assumes nothing.
-use Rattle.std.proofs.Common.{◌≡◌, Bool, true, false, length, sym, refl, ◌∙◌, arith, rules}
+use Rattle.std.proofs.Common.{◌≡◌, Bool, true, false, length, sym, refl, ◌∙◌, arith}
 use Rattle.calls.specs.declared.Refusal.TheVariants.{ParameterNotFinite, WindowTooLong}
 use Rattle.calls.specs.declared.Answer.TheVariants.{Cells}
 use Rattle.values.specs.Accepted.{finite}

@@ -2,7 +2,6 @@
 -- cells are NaN. Assumes nothing.
 use mathlib.Core.Path.{◌≡◌, sym, ◌∙◌}
 use mathlib.Core.Bool.{true}
-use borrow.Author.Rules.{rules}
 use lib.ListN.{length}
 use Rattle.values.specs.Accepted.{accepted}
 use Rattle.calls.specs.inner.Fits.{window_fits}

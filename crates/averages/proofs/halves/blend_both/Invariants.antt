@@ -1,13 +1,10 @@
 -- `blend_both` meets its contract: each turn writes a cell of either part, from the one before it there. Assumes
 -- nothing.
-use mathlib.Core.Path.{◌≡◌, refl}
+use mathlib.Core.Path.{◌≡◌}
 use Prim.Native.Nat.{◌+◌, ◌-◌, ◌≤◌}
-use native.Mathlib.Omega.{arith}
-use borrow.Author.Rules.{rules}
-use lib.ListN.{length, length-set}
+use lib.ListN.{length}
 use Rattle.cells.specs.Line.{line}
 use Rattle.cells.specs.inner.Recurring.{Recurring}
-use Rattle.cells.proofs.Recur.{no_step, one_step}
 use Rattle.averages.specs.Blend.{blend}
 use Rattle.averages.specs.inner.Smoothing.{both_stored}
 use Rattle.averages.proofs.halves.blend_both.Given as goal

@@ -1,7 +1,6 @@
 -- `write_smooth` meets its contract: the lead, the seed, and then the blended cells. Assumes nothing.
 use mathlib.Core.Path.{◌∙◌}
 use native.Mathlib.Omega.{arith}
-use borrow.Author.Rules.{rules}
 use lib.ListN.{length-set}
 use Rattle.cells.proofs.Written.{stands, then_written}
 use Rattle.averages.proofs.Smoothed.{seed_written}

@@ -1,5 +1,4 @@
 -- `weighted` meets its contract: its tests are those of the position's whole number. Assumes nothing.
-use borrow.Author.Rules.{rules}
 use lib.Ieee.{of_bits}
 use Rattle.basket.proofs.Weights.{minus_fits, weighted_long, weighted_short, weighted_flat}
 use Rattle.basket.proofs.nets.weighted.Goals as goal

@@ -1,5 +1,4 @@
 -- `add_double` meets its contract: the work slice has the positions that the answer counts. Assumes nothing.
-use borrow.Author.Rules.{rules}
 use Rattle.basket.proofs.Own.{double_room, double_added, double_touched}
 use Rattle.basket.proofs.Weights.{weight_held}
 use Rattle.basket.proofs.parts.add_double.Goals as goal

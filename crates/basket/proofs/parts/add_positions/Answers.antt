@@ -1,6 +1,6 @@
 -- `add_positions` meets its contract: the rule's number picks the stage, and a window of none adds nothing. Assumes
 -- nothing.
-use mathlib.Core.Path.{◌≡◌, refl}
+use mathlib.Core.Path.{refl}
 use native.Mathlib.Omega.{arith}
 use borrow.Author.Rules.{rules}
 use Rattle.cells.proofs.Touched.{untouched, touched_more}

@@ -1,14 +1,10 @@
 -- `cells_of_ticks` meets its contract: each turn writes a cell and slides three windows. Assumes nothing.
 use Prim.Native.Nat.{◌-◌, ◌<◌, ◌≤◌}
-use native.Mathlib.Omega.{arith}
-use borrow.Author.Rules.{rules}
 use lib.ListN.{length}
 use Rattle.cells.specs.Line.{line}
 use Rattle.cells.specs.Written.{Writing}
-use Rattle.cells.proofs.Written.{one_more, ends}
 use Rattle.oscillator.specs.inner.Begun.{afresh}
 use Rattle.oscillator.specs.inner.Sliding.{SumsOf}
-use Rattle.oscillator.proofs.TickCells.{may_slide, cell_of_sums}
 use Rattle.oscillator.proofs.ticks.cells_of_ticks.Given as goal
 
 abbrev pub invariant-loop-i : goal.invariant-loop-i

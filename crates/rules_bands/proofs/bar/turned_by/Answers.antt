@@ -1,7 +1,7 @@
 -- `turned_by` meets its contract: a flat position opens to the other side of the bands, and to a held one that does not
 -- matter. Assumes nothing.
 use mathlib.Core.Path.{◌≡◌, refl, sym, ap, ◌∙◌, subst}
-use borrow.Author.Rules.{rules, sfits_of}
+use borrow.Author.Rules.{sfits_of}
 use native.Mathlib.Omega.{arith}
 use lib.IntN.{ℤ, pos, neg_ℤ, ◌-ℤ◌}
 use lib.Ieee.{binary64, lt, of_bits}

@@ -2,7 +2,6 @@
 -- says on which side of zero the price lies. Assumes nothing.
 use Prim.Native.Nat.{◌+◌, ◌<◌}
 use native.Mathlib.Omega.{arith}
-use borrow.Author.Rules.{rules}
 use Rattle.sheet_lines.specs.Read.{read_price}
 use Rattle.sheet_lines.proofs.Reading.{minus_column, plain_column, no_price, number_few}
 use Rattle.sheet_lines.proofs.columns.read_price.Goals as goal

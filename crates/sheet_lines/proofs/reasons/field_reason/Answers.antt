@@ -3,7 +3,6 @@
 use mathlib.Core.Path.{◌≡◌}
 use mathlib.Core.Bool.{cond}
 use borrow.Author.Tests.{le-leb, lt-leb}
-use borrow.Author.Rules.{rules}
 use Rattle.sheet_lines.specs.declared.reasons.Reason.TheVariants.{OtherRule, TooManyBars}
 use Rattle.rules.specs.ByNumber.{is_rule}
 use Rattle.sheet_lines.specs.Reason.{field_reason}

@@ -2,7 +2,6 @@
 -- line, and the place after them is counted. Assumes nothing.
 use mathlib.Core.Path.{refl, ap}
 use Prim.Native.Nat.{ℕ, ◌+◌, ◌*◌}
-use borrow.Author.Rules.{rules}
 use Rattle.sheet_lines.proofs.Printing.{add_more}
 use Rattle.sheet_lines.specs.Printed.{head_bytes, position_bytes, answer_text}
 use Rattle.sheet_lines.proofs.text.print_answer.Goals as goal

@@ -1,6 +1,6 @@
 -- `Coefficients::of_period` meets its contract: period 0 computes, and any other has its recorded pair.
 -- Assumes nothing.
-use Rattle.std.proofs.Common.{◌∙◌, rules}
+use Rattle.std.proofs.Common.{◌∙◌}
 use lib.Ieee.{of_bits, neg, add, sub, mul, div}
 use Rattle.smoother_table.specs.Coefficients.{a1_of, b1_of, of_pair, coefficients}
 use Rattle.smoother_table.proofs.Coefficients.of_period.Goals as goal
