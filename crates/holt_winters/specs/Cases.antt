@@ -1,5 +1,5 @@
 -- holt_winters at small series, with the cells that pure.rs gave, and its answers. Assumes nothing.
-use Rattle.std.specs.Prelude.{◌≡◌, refl, true, false, [], ◌∷◌, ℕ, suc, pos, negsuc, Float}
+use Rattle.std.specs.Prelude.{◌≡◌, refl, true, false, ◌∷◌, ℕ, suc, pos, negsuc, Float}
 use Rattle.std.specs.Float.{nan, inf, fin, binary64}
 use Rattle.std.specs.Float.Ieee.{round, add, sub, mul, div, lt, eq, le, of_int, of_bits, to_bits}
 use Rattle.limits.specs.Limits.{longest_window}
@@ -47,7 +47,8 @@ holt_winters_edges : (cells_of (holt_winters_line 3 halves) (prices (pos 1 ∷ p
     × (cells_of (holt_winters_line 1 halves) (prices (pos 7 ∷ [])) ≡ prices (pos 7 ∷ []))
     × (cells_of (holt_winters_line 2 halves) (prices (pos 5 ∷ pos 5 ∷ pos 5 ∷ pos 5 ∷ []))
     ≡ prices (pos 5 ∷ pos 5 ∷ pos 5 ∷ pos 5 ∷ []))
-    × (cells_of (holt_winters_line 1 halves) (prices (pos 0 ∷ pos 0 ∷ pos 0 ∷ [])) ≡ plus_zero ∷ plus_zero ∷ plus_zero ∷ [])
+    × (cells_of (holt_winters_line 1 halves) (prices (pos 0 ∷ pos 0 ∷ pos 0 ∷ []))
+    ≡ plus_zero ∷ plus_zero ∷ plus_zero ∷ [])
     × (cells_of (holt_winters_line 1 (weights (num 2) minus_one (num 3)))
     (prices (pos 1 ∷ pos 3 ∷ pos 2 ∷ pos 5 ∷ pos 4 ∷ []))
     ≡ prices (pos 1 ∷ negsuc 4 ∷ negsuc 29 ∷ negsuc 152 ∷ negsuc 711 ∷ []))

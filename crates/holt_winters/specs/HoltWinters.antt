@@ -1,6 +1,6 @@
 -- Additive Holt-Winters smoothing: what `holt_winters` answers and writes. C. C. Holt, 1957; P. R. Winters, Forecasting
 -- Sales by Exponentially Weighted Moving Averages, 1960. Every operation is rounded once. Assumes nothing.
-use Rattle.std.specs.Prelude.{cond, List, [], ◌∷◌, ℕ, zero, suc, ◌-◌, Float, ltb, length}
+use Rattle.std.specs.Prelude.{cond, List, ◌∷◌, ℕ, zero, suc, ◌-◌, Float, ltb, length}
 use Rattle.std.specs.Float.{binary64}
 use Rattle.std.specs.Float.Ieee.{add, sub}
 use Rattle.averages.specs.Blend.{blend}
@@ -65,4 +65,5 @@ abbrev pub HoltWintersCall : List Float → ℕ → Float → Float → Float �
     → List Float → Type 0
 HoltWintersCall s m alpha beta gamma out₀ work₀ =
     let w = weights alpha beta gamma in
-    WorkCall (holt_winters_answer s m w (length out₀) (length work₀)) (holt_winters_line m w (line s)) out₀ (length s) work₀
+    WorkCall (holt_winters_answer s m w (length out₀) (length work₀)) (holt_winters_line m w (line s)) out₀ (length s)
+    work₀

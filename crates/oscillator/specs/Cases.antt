@@ -1,5 +1,5 @@
 -- ultimate_oscillator at small series, with the cells that pure.rs gave, and its answers. Assumes nothing.
-use Rattle.std.specs.Prelude.{◌≡◌, refl, List, [], ◌∷◌, ℕ, suc, pos, length, Float}
+use Rattle.std.specs.Prelude.{◌≡◌, refl, List, ◌∷◌, ℕ, suc, pos, length, Float}
 use Rattle.std.specs.Float.{nan}
 use Rattle.std.specs.Float.Ieee.{round, neg, add, sub, mul, div, lt, eq, le, of_int, of_bits, to_bits}
 use Rattle.limits.specs.Limits.{longest_window}
@@ -81,7 +81,8 @@ abbrev one_bar : ℕ → ℕ → ℕ → Answer
 one_bar = one_bar_from Unknown
 
 -- one bar; any window of 0; the longest window and one longer; series of unequal length; no bars
-oscillator_answers : one_bar 1 2 3 ∷ one_bar 1 0 3 ∷ one_bar longest_window 1 longest_window ∷ one_bar 1 0 (suc longest_window)
+oscillator_answers : one_bar 1 2 3 ∷ one_bar 1 0 3 ∷ one_bar longest_window 1 longest_window
+    ∷ one_bar 1 0 (suc longest_window)
     ∷ oscillator_answer (plus_zero ∷ []) [] (plus_zero ∷ []) 1 2 3 Unknown 1 8
     ∷ oscillator_answer [] [] [] 1 2 3 Unknown 0 0
     ∷ []

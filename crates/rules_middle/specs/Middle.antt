@@ -1,5 +1,5 @@
 -- mid_positions, the middle: what it answers and writes. Assumes nothing.
-use Rattle.std.specs.Prelude.{cond, ◌||◌, List, [], ◌∷◌, ℕ, ◌-◌, ◌*◌, Float, length}
+use Rattle.std.specs.Prelude.{cond, ◌||◌, List, ◌∷◌, ℕ, ◌-◌, ◌*◌, Float, length}
 use Rattle.std.specs.Float.{binary64}
 use Rattle.std.specs.Float.Ieee.{add, sub, div, eq}
 use Rattle.cells.specs.Line.{plus_zero, Line, from_bar, line}
@@ -30,4 +30,5 @@ mid_line n f = against_middles n (mean n f) (extreme larger n (mean n f)) (extre
 -- what a call of `mid_positions` promises
 abbrev pub MidCall : List Float → ℕ → List Float → List Float → Answer → List Float → List Float → Type 0
 MidCall s n out₀ work₀ =
-    WorkCall (answered accepted s (n ∷ []) (length out₀) (length work₀ ∷ [])) (mid_line n (line s)) out₀ (length s) work₀
+    WorkCall (answered accepted s (n ∷ []) (length out₀) (length work₀ ∷ [])) (mid_line n (line s)) out₀ (length s)
+    work₀

@@ -1,5 +1,5 @@
 -- rsi_reverse_positions at small series, with the cells that pure.rs gives, and its answers. Assumes nothing.
-use Rattle.std.specs.Prelude.{◌≡◌, refl, true, false, List, [], ◌∷◌, ℕ, suc, ℤ, pos, Float}
+use Rattle.std.specs.Prelude.{◌≡◌, refl, true, false, List, ◌∷◌, ℕ, suc, ℤ, pos, Float}
 use Rattle.std.specs.Float.{nan, inf}
 use Rattle.std.specs.Float.Ieee.{round, neg, add, sub, mul, div, lt, eq, le, of_int, of_bits, to_bits}
 use Rattle.limits.specs.Limits.{longest_window}
@@ -60,7 +60,8 @@ rsi_reverse_least = refl
 rsi_reverse_answers : answered_with accepted (plus_zero ∷ []) (hundred ∷ plus_zero ∷ half ∷ []) (1 ∷ []) 1 (8 ∷ [])
     ∷ answered_with accepted (plus_zero ∷ []) (nan ∷ plus_zero ∷ half ∷ []) (suc longest_window ∷ []) 1 (8 ∷ [])
     ∷ answered_with accepted (plus_zero ∷ []) (hundred ∷ (inf false) ∷ half ∷ []) (suc longest_window ∷ []) 1 (8 ∷ [])
-    ∷ answered_with accepted (plus_zero ∷ []) (hundred ∷ plus_zero ∷ (inf true) ∷ []) (suc longest_window ∷ []) 1 (8 ∷ [])
+    ∷ answered_with accepted (plus_zero ∷ []) (hundred ∷ plus_zero ∷ (inf true) ∷ []) (suc longest_window ∷ []) 1
+    (8 ∷ [])
     ∷ answered_with accepted (plus_zero ∷ []) (hundred ∷ plus_zero ∷ half ∷ []) (suc longest_window ∷ []) 1 (8 ∷ [])
     ∷ answered_with accepted (plus_zero ∷ []) (hundred ∷ plus_zero ∷ half ∷ []) (0 ∷ []) 1 (8 ∷ [])
     ∷ answered_with accepted [] (hundred ∷ plus_zero ∷ half ∷ []) (1 ∷ []) 0 (0 ∷ [])

@@ -1,5 +1,5 @@
 -- triple_sma_positions at small series, with the cells that pure.rs gave, and its answers. Assumes nothing.
-use Rattle.std.specs.Prelude.{◌≡◌, refl, [], ◌∷◌, suc, pos}
+use Rattle.std.specs.Prelude.{◌≡◌, refl, ◌∷◌, suc, pos}
 use Rattle.std.specs.Float.Ieee.{round, add, div, lt, eq, le, of_int, to_bits}
 use Rattle.limits.specs.Limits.{longest_window}
 use Rattle.calls.specs.declared.Refusal.TheVariants.{WindowTooLong, SeriesTooShort, WindowsOutOfOrder}
@@ -13,7 +13,8 @@ use Rattle.rules_triple.specs.Triple.{triple_line, triple_answer}
 use Rattle.rules_held.specs.Held.{flat, long, short}
 
 -- windows 1, 2, 3: both above, both below, one of each; a flat series, and one of zeros; three bars
-triple_cases : (cells_of (triple_line 1 2 3) (prices (pos 1 ∷ pos 2 ∷ pos 4 ∷ pos 3 ∷ pos 1 ∷ pos 0 ∷ pos 5 ∷ pos 4 ∷ []))
+triple_cases : (cells_of (triple_line 1 2 3)
+    (prices (pos 1 ∷ pos 2 ∷ pos 4 ∷ pos 3 ∷ pos 1 ∷ pos 0 ∷ pos 5 ∷ pos 4 ∷ []))
     ≡ (flat ∷ flat ∷ long ∷ flat ∷ short ∷ short ∷ long ∷ flat ∷ []))
     × (cells_of (triple_line 1 2 3) (prices (pos 3 ∷ pos 3 ∷ pos 3 ∷ pos 3 ∷ [])) ≡ (flat ∷ flat ∷ flat ∷ flat ∷ []))
     × (cells_of (triple_line 1 2 3) (prices (pos 0 ∷ pos 0 ∷ pos 0 ∷ pos 0 ∷ [])) ≡ (flat ∷ flat ∷ flat ∷ flat ∷ []))

@@ -1,7 +1,7 @@
 -- What the loops that read a field's columns go by. Assumes nothing.
 use mathlib.Core.Path.{◌≡◌, refl}
 use mathlib.Core.Bool.{Bool, true, false, cond, ◌&&◌}
-use mathlib.Core.List.{List, [], ◌∷◌}
+use mathlib.Core.List.{List, ◌∷◌}
 use Prim.Native.Nat.{ℕ, suc, ◌+◌, ◌-◌, ◌*◌, ◌^◌, ◌<◌, ◌≤◌}
 use native.Mathlib.Nat.{add-zero, zero-add, one-le-pow, pow-succ', pow-le-pow_right}
 use native.Mathlib.Numerals.{add-one}
@@ -88,7 +88,8 @@ number_below (b ∷ rest) v k w h e =
     (go (leb 48 b) (leb b 57) (leb-true b 57)
     (λ l f. number_below rest _ (k + 1) w (digit_more v (b - 48) k h (omega arith)) f) e)
   where
-    go : {A : Type 0} (s t : Bool) → (t ≡ true → b ≤ 57) → (b ≤ 57 → number_after (10 * v + (b - 48)) rest ≡ Value w → A)
+    go : {A : Type 0} (s t : Bool) → (t ≡ true → b ≤ 57)
+        → (b ≤ 57 → number_after (10 * v + (b - 48)) rest ≡ Value w → A)
         → cond (s && t) (number_after (10 * v + (b - 48)) rest) Broken ≡ Value w → A
     go true true l next f = next (l refl) f
     go true false l next f = let z : ◌≡◌ {A = ℕ} 0 1 = cc in absurd (omega arith)

@@ -1,5 +1,5 @@
 -- Small cases, by computation: a request's first line, and why a line is refused. Assumes nothing.
-use Rattle.std.specs.Prelude.{◌≡◌, refl, [], ◌∷◌, map, replicate}
+use Rattle.std.specs.Prelude.{◌≡◌, refl, ◌∷◌, map, replicate}
 use Rattle.sheet_lines.specs.inner.Text.{bytes}
 use Rattle.sheet_lines.specs.Read.{number, read_field}
 use Rattle.sheet_lines.specs.declared.Header.TheVariants.{Asked, Malformed}
@@ -70,7 +70,8 @@ unfolding header_reason field_reason read_field number
 header_reasons = refl
 
 price_reasons :
-    map (λ line. price_reason (bytes line)) ("           x\n" ∷ "          1\n" ∷ "          12" ∷ "           123" ∷ [])
+    map (λ line. price_reason (bytes line)) ("           x\n" ∷ "          1\n" ∷ "          12" ∷ "           123"
+    ∷ [])
     ≡ PriceField ∷ LineLength ∷ InputEnds ∷ LineLength ∷ []
 unfolding price_reason
 price_reasons = refl

@@ -1,7 +1,7 @@
 -- A line feed among the columns breaks them. Assumes nothing.
 use mathlib.Core.Path.{◌≡◌, refl, sym, ap, ◌∙◌}
 use mathlib.Core.Bool.{Bool, true, false, not, cond, ◌&&◌, true≢false, false≢true}
-use mathlib.Core.List.{List, [], ◌∷◌, ◌++◌}
+use mathlib.Core.List.{List, ◌∷◌, ◌++◌}
 use Prim.Native.Nat.{ℕ, ◌+◌, ◌-◌, ◌*◌}
 use borrow.Author.Tests.{eqb-true}
 use lib.Dec.{eqb}
@@ -136,7 +136,8 @@ header_strict line e =
 
 price_strict : (line : List ℕ) → clean 12 line ≡ false → read_price_line line ≡ Unpriced
 unfolding read_price_line
-price_strict line e = unclean_read (columned 12 line) (no_feed (take 12 line)) _ Unpriced e (price_fed (slice 0 12 line))
+price_strict line e =
+    unclean_read (columned 12 line) (no_feed (take 12 line)) _ Unpriced e (price_fed (slice 0 12 line))
 
 -- ---- the two states that read
 

@@ -1,7 +1,7 @@
 -- A part of the input fed, and what it prints written behind what is written. Assumes nothing.
 use mathlib.Core.Path.{◌≡◌, refl, sym, ap, ◌∙◌}
 use mathlib.Core.Bool.{true}
-use mathlib.Core.List.{List, [], ◌++◌, append_assoc, append-nil}
+use mathlib.Core.List.{List, ◌++◌, append_assoc, append-nil}
 use Prim.Native.Nat.{ℕ, ◌+◌, ◌-◌, ◌<◌, ◌≤◌}
 use native.Mathlib.Omega.{arith}
 use lib.ListN.{length, take, drop, get_or, length-append, length-drop, take-append-drop, get_or-append}
@@ -15,7 +15,6 @@ use Rattle.sheet_requests.specs.declared.blocks.Place.{Place}
 use Rattle.sheet_requests.specs.declared.blocks.Stage.{Stage}
 use Rattle.sheet_requests.specs.declared.blocks.Stage.TheVariants.{Waiting, Collecting, Stopped}
 use Rattle.sheet_requests.specs.inner.Place.{state_of, beginning, next_line_bytes}
-use Rattle.sheet_requests.specs.inner.Taken.{text_room}
 use Rattle.sheet_requests.specs.inner.Finished.{Finished}
 use Rattle.sheet_requests.specs.declared.status.Status.TheVariants.{Done}
 use Rattle.sheet_text.specs.inner.Block.{Fed}

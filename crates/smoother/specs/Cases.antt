@@ -1,6 +1,6 @@
 -- Small cases, computed from the definitions: which numbers are periods, answers, and cells that pure.rs gave. Assumes
 -- nothing.
-use Rattle.std.specs.Prelude.{◌≡◌, ℕ, true, false, List, [], ◌∷◌, map, replicate, pos, negsuc, refl, Float}
+use Rattle.std.specs.Prelude.{◌≡◌, ℕ, true, false, List, ◌∷◌, map, replicate, pos, negsuc, refl, Float}
 use Rattle.std.specs.Float.{nan, inf, fin, binary64}
 use Rattle.std.specs.Float.Ieee.{neg, add, sub, mul, div, lt, eq, le, of_int, of_bits, to_bits, to_unsigned}
 use Rattle.calls.specs.declared.Answer.TheVariants.{Cells, Refused}
@@ -62,5 +62,6 @@ smoother_cases : (cells 7 (smooth (coefficients 1) (line prices))
     × (cells 7 (smooth (coefficients 512) (line prices))
     ≡ after (0x402811b1260fa8f8 ∷ 0x402fe9bb19a15441 ∷ 0x4033a0ecc365586c ∷ []))
     × (cells 5 (smooth (coefficients 0) (line prices)) ≡ num 1 ∷ num 2 ∷ num 4 ∷ num 8 ∷ nan ∷ [])
-unfolding smooth formula coefficients of_pair a1_of b1_of a1_table b1_table a1_bits b1_bits of_bits of_int neg add sub mul div
+unfolding smooth formula coefficients of_pair a1_of b1_of a1_table b1_table a1_bits b1_bits of_bits of_int neg add sub
+    mul div
 smoother_cases = (refl, refl, refl, refl)

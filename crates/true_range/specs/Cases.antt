@@ -1,5 +1,5 @@
 -- True ranges at small series, by hand, and the answers. Assumes nothing.
-use Rattle.std.specs.Prelude.{◌≡◌, refl, false, List, [], ◌∷◌, map, pos, Float}
+use Rattle.std.specs.Prelude.{◌≡◌, refl, false, List, ◌∷◌, map, pos, Float}
 use Rattle.std.specs.Float.{nan, fin}
 use Rattle.std.specs.Float.Ieee.{neg, add, sub, lt, eq, le, of_int, to_bits}
 use Rattle.rounding.specs.Leaves.{magnitude_of}
@@ -57,7 +57,8 @@ abbrev one_bar : CloseBefore → Answer
 one_bar first = true_range_answer (plus_zero ∷ []) (plus_zero ∷ []) (plus_zero ∷ []) first 1
 
 -- unknown; 2 ^ 30, and the whole number above it; -0.0; a NaN; then a refusal that comes first, and no bars
-range_answers : one_bar Unknown ∷ one_bar (Known (fin false 1 (pos 30))) ∷ one_bar (Known (fin false 1073741825 (pos 0)))
+range_answers : one_bar Unknown ∷ one_bar (Known (fin false 1 (pos 30)))
+    ∷ one_bar (Known (fin false 1073741825 (pos 0)))
     ∷ one_bar (Known minus_zero)
     ∷ one_bar (Known nan)
     ∷ true_range_answer (plus_zero ∷ []) [] (plus_zero ∷ []) (Known nan) 1

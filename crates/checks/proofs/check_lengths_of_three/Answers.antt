@@ -1,7 +1,7 @@
 -- `check_lengths_of_three` meets its contract: at each answer the tests on the way there pick the line of the table.
 -- Assumes nothing.
 use mathlib.Core.Path.{◌≡◌}
-use mathlib.Core.List.{[], ◌∷◌}
+use mathlib.Core.List.{◌∷◌}
 use borrow.Author.Tests.{le-leb, lt-leb, eq-eqb, ne_eqb}
 use lib.Dec.{leb, eqb}
 use Rattle.calls.specs.declared.Refusal.TheVariants.{LengthsDiffer, OutputTooShort}
@@ -48,7 +48,11 @@ returns-then-second-bars c =
 
 pub returns-then-third-bars : goal.returns-then-third-bars
 returns-then-third-bars c =
-    rw (short (goal.at.returns-then-third-bars c).Else-third-gt-LONGEST_SERIES, eq-eqb _ _ c.if-second-bars.false, ne_eqb _ _ c.if-third-bars.true)
+    rw (
+      short (goal.at.returns-then-third-bars c).Else-third-gt-LONGEST_SERIES,
+      eq-eqb _ _ c.if-second-bars.false,
+      ne_eqb _ _ c.if-third-bars.true,
+    )
 
 pub returns-then-out-bars : goal.returns-then-out-bars
 returns-then-out-bars c =

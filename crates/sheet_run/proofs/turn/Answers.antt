@@ -15,7 +15,8 @@ within c = omega (arith, c.refill-read.auto.block, c.refill-read.ensures.within)
 left : (c : After-feed-next) →
     c.feed-next.result.at ≤ c.refill-read.result.end
 left c =
-    rw (length-take-le _ _ (within (goal.at.After-feed-next c).After-refill-read)) at c.feed-next.ensures.0.placed.within
+    rw (length-take-le _ _ (within (goal.at.After-feed-next c).After-refill-read))
+    at c.feed-next.ensures.0.placed.within
 
 pub refill-read-requires : goal.refill-read-requires
 refill-read-requires c = (c.requires.0.some, omega (arith, c.requires.0.within, c.requires.1.block_long))
@@ -31,7 +32,8 @@ feed-next-requires c =
     let lent = c.requires.1 in (
       c.requires.0.between.incomplete,
       lent.lent,
-      rw (length-take-le _ _ (within (goal.at.feed-next-requires c).After-refill-read)) (omega (arith, within (goal.at.feed-next-requires c).After-refill-read, lent.text_long, lent.block_long)),
+      rw (length-take-le _ _ (within (goal.at.feed-next-requires c).After-refill-read))
+          (omega (arith, within (goal.at.feed-next-requires c).After-refill-read, lent.text_long, lent.block_long)),
     )
 
 pub write_text-output-requires : goal.write_text-output-requires
