@@ -1,5 +1,5 @@
 -- `sma` at small series, and answers at their edges, computed from the definitions. Assumes nothing.
-use Rattle.std.specs.Prelude.{false, List, ◌∷◌, map, ◌≡◌, refl, suc, pos, negsuc, replicate, Float}
+use Rattle.std.specs.Prelude.{false, List, [], ◌∷◌, map, ◌≡◌, refl, suc, pos, negsuc, replicate, Float}
 use Rattle.std.specs.Float.{nan, fin}
 use Rattle.std.specs.Float.Ieee.{round, add, sub, div, of_int, lt, eq, le, to_bits, whole}
 use Rattle.limits.specs.Limits.{longest_window}

@@ -1,5 +1,5 @@
 -- ema: what it answers and writes. TA-Lib's EMA. Assumes nothing.
-use Rattle.std.specs.Prelude.{List, ◌∷◌, ℕ, ◌-◌, Float, length}
+use Rattle.std.specs.Prelude.{List, [], ◌∷◌, ℕ, ◌-◌, Float, length}
 use Rattle.cells.specs.Line.{Line, line}
 use Rattle.windows.specs.Window.{mean}
 use Rattle.averages.specs.Blend.{ema_alpha, smooth_line}

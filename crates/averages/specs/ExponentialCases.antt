@@ -1,5 +1,5 @@
 -- The exponential averages at small series, and answers at their edges, computed from the definitions. Assumes nothing.
-use Rattle.std.specs.Prelude.{true, false, List, ◌∷◌, map, ◌≡◌, refl, ℤ, pos, negsuc, Float}
+use Rattle.std.specs.Prelude.{true, false, List, [], ◌∷◌, map, ◌≡◌, refl, ℤ, pos, negsuc, Float}
 use Rattle.std.specs.Float.{nan, inf, fin}
 use Rattle.std.specs.Float.Ieee.{round, add, sub, mul, div, of_int, lt, eq, le, to_bits}
 use Rattle.calls.specs.declared.Refusal.TheVariants.{ParameterNotFinite}

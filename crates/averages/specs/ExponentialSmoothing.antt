@@ -1,5 +1,5 @@
 -- exponential_smoothing: what it answers and writes. Assumes nothing.
-use Rattle.std.specs.Prelude.{List, ◌∷◌, ℕ, length, Float}
+use Rattle.std.specs.Prelude.{List, [], ◌∷◌, ℕ, length, Float}
 use Rattle.calls.specs.declared.Refusal.TheVariants.{ParameterNotFinite}
 use Rattle.calls.specs.declared.Answer.{Answer}
 use Rattle.calls.specs.declared.Answer.TheVariants.{Cells}

@@ -1,5 +1,5 @@
 -- sma: what it answers and writes. TA-Lib's SMA. Assumes nothing.
-use Rattle.std.specs.Prelude.{List, ◌∷◌, ℕ, ◌+◌, ◌-◌, Float, length}
+use Rattle.std.specs.Prelude.{List, [], ◌∷◌, ℕ, ◌+◌, ◌-◌, Float, length}
 use Rattle.std.specs.Float.{nan}
 use Rattle.cells.specs.Line.{Line, from_bar, line}
 use Rattle.windows.specs.Window.{over, running_sum, add_difference}

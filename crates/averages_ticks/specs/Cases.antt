@@ -1,5 +1,5 @@
 -- `tick_mean` at small series, computed from the definition. Assumes nothing.
-use Rattle.std.specs.Prelude.{true, false, List, ◌∷◌, map, ◌≡◌, refl, ℤ, pos, negsuc, replicate}
+use Rattle.std.specs.Prelude.{true, false, List, [], ◌∷◌, map, ◌≡◌, refl, ℤ, pos, negsuc, replicate}
 use Rattle.std.specs.Float.{fin}
 use Rattle.std.specs.Float.Ieee.{to_signed}
 use Rattle.rounding.specs.Whole.{total}

@@ -1,5 +1,5 @@
 -- tick_mean, our own: what it answers and writes, on whole numbers. Assumes nothing.
-use Rattle.std.specs.Prelude.{List, ◌∷◌, ℕ, suc, ◌+◌, ◌-◌, ℤ, pos, negsuc, neg_ℤ, Float, length}
+use Rattle.std.specs.Prelude.{List, [], ◌∷◌, ℕ, suc, ◌+◌, ◌-◌, ℤ, pos, negsuc, neg_ℤ, Float, length}
 use Rattle.std.specs.Float.Ieee.{to_signed}
 use Rattle.std.specs.Float.Ieee.Nearest.{closest}
 use Rattle.rounding.specs.Whole.{total}

@@ -1,5 +1,5 @@
 -- wilder_rsi at small series, with the cells of a plain loop in Rust, and its answers. Assumes nothing.
-use Rattle.std.specs.Prelude.{◌≡◌, refl, ◌∷◌, ℕ, suc, pos}
+use Rattle.std.specs.Prelude.{◌≡◌, refl, [], ◌∷◌, ℕ, suc, pos}
 use Rattle.std.specs.Float.{nan, binary64}
 use Rattle.std.specs.Float.Ieee.{round, neg, add, sub, mul, div, lt, eq, le, of_int, of_bits, to_bits}
 use Rattle.limits.specs.Limits.{longest_window}

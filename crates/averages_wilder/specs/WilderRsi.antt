@@ -1,6 +1,6 @@
 -- Wilder's relative strength index: what `wilder_rsi` answers and writes. J. Welles Wilder, New Concepts in Technical
 -- Trading Systems, 1978. Assumes nothing.
-use Rattle.std.specs.Prelude.{false, cond, List, ◌∷◌, ℕ, pos, length, Float}
+use Rattle.std.specs.Prelude.{false, cond, List, [], ◌∷◌, ℕ, pos, length, Float}
 use Rattle.std.specs.Float.{nan, fin}
 use Rattle.std.specs.Float.Ieee.{eq}
 use Rattle.rounding.specs.Literals.{hundred}

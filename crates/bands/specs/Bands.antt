@@ -1,6 +1,6 @@
 -- Bands about the ultimate smoother, named after John Ehlers' ultimate bands: what `ultimate_bands` answers and writes.
 -- The middle is the smoothed close, and the width the smoothed deviation of the close. Assumes nothing.
-use Rattle.std.specs.Prelude.{cond, List, ◌∷◌, ℕ, ◌-◌, ltb, length, Float}
+use Rattle.std.specs.Prelude.{cond, List, [], ◌∷◌, ℕ, ◌-◌, ltb, length, Float}
 use Rattle.values.specs.Accepted.{accepted}
 use Rattle.calls.specs.declared.Answer.{Answer}
 use Rattle.calls.specs.declared.Answer.TheVariants.{Cells}

@@ -1,7 +1,13 @@
 -- Contracts listed in another order: the same nets, and as many bars. Assumes nothing.
 use mathlib.Core.Path.{◌≡◌, refl, sym, ap, ◌∙◌}
 use mathlib.Core.Bool.{Bool, true, false, cond, ◌&&◌}
-use mathlib.Core.List.{List, ◌∷◌, map, Permᴰ}
+use mathlib.Core.List.{
+  List,
+  [],
+  ◌∷◌,
+  map,
+  Permᴰ,
+}
 use Prim.Native.Nat.{ℕ, zero, suc, ◌<◌}
 use native.Mathlib.Nat.{not-suc-le-zero}
 use native.Mathlib.Omega.{arith}

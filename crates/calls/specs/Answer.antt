@@ -1,6 +1,6 @@
 -- What a call answers: the numbers of documents 01 and 02, and their table of refusals read from the top. Assumes
 -- nothing.
-use Rattle.std.specs.Prelude.{Bool, true, false, ◌||◌, List, ◌∷◌, map, ℕ, ◌*◌, leb, eqb, length, Float}
+use Rattle.std.specs.Prelude.{Bool, true, false, ◌||◌, List, [], ◌∷◌, map, ℕ, ◌*◌, leb, eqb, length, Float}
 use Rattle.std.specs.Float.Ieee.{le}
 use Rattle.calls.specs.declared.Refusal.{Refusal}
 use Rattle.calls.specs.declared.Refusal.TheVariants.{

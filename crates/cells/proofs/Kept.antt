@@ -1,6 +1,6 @@
 -- What moving bytes to the front of a block means, and what the loop that moves them keeps. Assumes nothing.
 use mathlib.Core.Path.{◌≡◌, refl, sym, ap, ◌∙◌}
-use mathlib.Core.List.{List, ◌∷◌}
+use mathlib.Core.List.{List, [], ◌∷◌}
 use Prim.Native.Nat.{ℕ, zero, suc, ◌+◌, ◌-◌, ◌<◌, ◌≤◌}
 use native.Mathlib.Nat.{add_comm, zero-add, suc-add}
 use native.Mathlib.Numerals.{add-one}

@@ -1,6 +1,6 @@
 -- What the computed cases share: numbers and prices in whole numbers, f64 by their bits, and the first cells of a line.
 -- Assumes nothing.
-use Rattle.std.specs.Prelude.{List, ◌∷◌, map, ℕ, zero, suc, ℤ, pos, length, Float}
+use Rattle.std.specs.Prelude.{List, [], ◌∷◌, map, ℕ, zero, suc, ℤ, pos, length, Float}
 use Rattle.std.specs.Float.{binary64}
 use Rattle.std.specs.Float.Ieee.{of_int, of_bits}
 use Rattle.cells.specs.Line.{Line, line}

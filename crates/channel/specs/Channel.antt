@@ -1,7 +1,7 @@
 -- The ultimate channel: what `ultimate_channel` answers and writes. John Ehlers' ultimate smoother of the close, and
 -- beside it a multiple of the smoothed average true range of J. Welles Wilder, New Concepts in Technical Trading
 -- Systems, 1978. Assumes nothing.
-use Rattle.std.specs.Prelude.{List, ◌∷◌, ℕ, ◌+◌, ◌-◌, ◌/◌, leb, length, Float}
+use Rattle.std.specs.Prelude.{List, [], ◌∷◌, ℕ, ◌+◌, ◌-◌, ◌/◌, leb, length, Float}
 use Rattle.values.specs.Accepted.{accepted}
 use Rattle.calls.specs.declared.Refusal.TheVariants.{SeriesTooShort}
 use Rattle.calls.specs.declared.Answer.{Answer}

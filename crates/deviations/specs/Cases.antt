@@ -1,5 +1,5 @@
 -- Deviations of small series, computed from the definition. Assumes nothing.
-use Rattle.std.specs.Prelude.{◌≡◌, refl, ◌∷◌, pos}
+use Rattle.std.specs.Prelude.{◌≡◌, refl, [], ◌∷◌, pos}
 use Rattle.std.specs.Float.{nan}
 use Rattle.std.specs.Float.Ieee.{round, add, sub, mul, div, of_int}
 use Rattle.rounding_root.specs.Root.{sqrt_of}

@@ -6,7 +6,7 @@ use Rattle.std.proofs.Math.Path.{refl}
 use Rattle.std.proofs.Common.{sym, ap, ◌∙◌, arith}
 use Rattle.std.proofs.Math.Logic.{∥∥₁_elim}
 use mathlib.Core.List.Perm
-use mathlib.Core.List.{List, ◌∷◌, map, Perm}
+use mathlib.Core.List.{List, [], ◌∷◌, map, Perm}
 use Prim.Native.Nat.{ℕ, zero, suc, ◌+◌, ◌*◌, ◌<◌, ◌≤◌}
 use Rattle.std.proofs.Math.Nat.{ℕ_set}
 use borrow.Author.Tests.{ne_eqb}

@@ -1,6 +1,6 @@
 -- `boll_positions` with n 1: a window of one mean has no deviation over n - 1, which is 0, so every cell is flat, for
 -- every k. Assumes nothing.
-use Rattle.std.specs.Prelude.{◌≡◌, refl, Bool, true, false, List, ◌∷◌, ◌⊎◌, ℕ, zero, suc, ◌+◌, ◌-◌, ◌*◌, ◌<◌, T, ℤ, length, get_or, Float}
+use Rattle.std.specs.Prelude.{◌≡◌, refl, Bool, true, false, List, [], ◌∷◌, ◌⊎◌, ℕ, zero, suc, ◌+◌, ◌-◌, ◌*◌, ◌<◌, T, ℤ, length, get_or, Float}
 use Rattle.std.proofs.Common.{sym, inl, inr, zero-add, zero-mul, mul-one, one-mul, arith, lt-ltb}
 use Rattle.std.proofs.Math.Nat.{sub-zero}
 use Rattle.std.specs.Float.{nan, inf, fin, binary64}

@@ -1,7 +1,7 @@
 -- The two functions that look ahead, each with a series to which one bar is added, so that a cell of answered calls
 -- changes which it had before: no statement of no look-ahead can hold of them. And what does hold of the exponential
 -- rule: from the first mean that is not 0 on no cell depends on a later bar. Assumes nothing.
-use Rattle.std.specs.Prelude.{◌≡◌, refl, true, false, List, ◌∷◌, ◌++◌, ℕ, ◌<◌, ◌≤◌, pos, length, get_or, Float}
+use Rattle.std.specs.Prelude.{◌≡◌, refl, true, false, List, [], ◌∷◌, ◌++◌, ℕ, ◌<◌, ◌≤◌, pos, length, get_or, Float}
 use Rattle.std.proofs.Common.{sym, ◌∙◌, arith}
 use Rattle.std.specs.Float.Ieee.{round, neg, add, sub, mul, div, eq, of_int, is_nan}
 use Rattle.std.specs.Float.{nan}

@@ -1,6 +1,6 @@
 -- `wilder_rsi` of a flat market: where all prices are equal, both averages are 0 and every cell from bar n on is 50.
 -- Assumes nothing.
-use Rattle.std.specs.Prelude.{◌≡◌, true, List, ◌∷◌, pos, length, get_or, Float}
+use Rattle.std.specs.Prelude.{◌≡◌, true, List, [], ◌∷◌, pos, length, get_or, Float}
 use Rattle.std.proofs.Math.Path.{refl}
 use Rattle.std.proofs.Common.{◌∙◌, zero-mul, arith}
 use Rattle.std.proofs.lemmas.Bool.{false≢true}

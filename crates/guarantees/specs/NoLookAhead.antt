@@ -4,7 +4,7 @@
 -- sign, or both NaN. Assumes nothing.
 use Rattle.std.specs.Prelude.{◌≡◌, Bool, ℕ, ◌<◌, ◌≤◌, ℤ, pos, length, get_or, Float}
 use Rattle.std.proofs.Common.{sym, ◌∙◌, arith}
-use mathlib.Core.List.{List, ◌∷◌}
+use mathlib.Core.List.{List, [], ◌∷◌}
 use Rattle.std.specs.Float.Ieee.{nan}
 use Rattle.values.specs.Accepted.{accepted, tick}
 use Rattle.cells.specs.Line.{Line, line, Same, Causal}

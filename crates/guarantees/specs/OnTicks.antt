@@ -2,7 +2,7 @@
 -- (`WholeTicks`). Every sum and product named below is one of whole numbers, never rounded; what is said from a bar
 -- on holds there and at every later bar below the count k of the call's answer. Windows are all that a call takes, from
 -- 1 to `longest_window` bars. Assumes nothing.
-use Rattle.std.specs.Prelude.{◌≡◌, cond, Bool, false, true, List, ◌∷◌, ℕ, ◌+◌, ◌-◌, ◌*◌, ◌^◌, ◌<◌, ◌≤◌, ℤ, pos, nat_abs, ◌+ℤ◌, ◌*ℤ◌, length, get_or, Float, T}
+use Rattle.std.specs.Prelude.{◌≡◌, cond, Bool, false, true, List, [], ◌∷◌, ℕ, ◌+◌, ◌-◌, ◌*◌, ◌^◌, ◌<◌, ◌≤◌, ℤ, pos, nat_abs, ◌+ℤ◌, ◌*ℤ◌, length, get_or, Float, T}
 use Rattle.std.proofs.Common.{sym, ◌∙◌, true≢false, arith}
 use Rattle.std.specs.Int.Signed.{lt_z}
 use Rattle.std.specs.Float.{nan, binary64}

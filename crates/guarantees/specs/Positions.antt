@@ -1,6 +1,6 @@
 -- Positions: every cell of an answered call of the sheet's rules and of the exponential rule is +1.0, -1.0 or +0.0, and
 -- so none is a NaN; the cells of the min-max and the tanh rule and ranks lie from -1 to 1. Assumes nothing.
-use Rattle.std.specs.Prelude.{◌≡◌, refl, ◌⊎◌, Bool, true, false, cond, ◌||◌, List, ◌∷◌, ℕ, ◌+◌, ◌-◌, ◌*◌, ◌^◌, ◌<◌, ◌≤◌, length, get_or, Float}
+use Rattle.std.specs.Prelude.{◌≡◌, refl, ◌⊎◌, Bool, true, false, cond, ◌||◌, List, [], ◌∷◌, ℕ, ◌+◌, ◌-◌, ◌*◌, ◌^◌, ◌<◌, ◌≤◌, length, get_or, Float}
 use Rattle.std.proofs.Common.{sym, inl, inr, le_refl, arith}
 use Rattle.std.specs.Float.{nan}
 use Rattle.std.specs.Float.Ieee.{binary64, add, sub, div, eq, le, is_nan}

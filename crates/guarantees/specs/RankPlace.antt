@@ -1,7 +1,7 @@
 -- rolling_rank is a place in the sorted window: however the values of the window of an answered call are put in
 -- ascending order, the cell is the place, from 1, of the first value less than 1e-8 away from the present one. Assumes
 -- nothing.
-use Rattle.std.specs.Prelude.{◌≡◌, true, List, ◌∷◌, ℕ, suc, ◌-◌, ◌<◌, ◌≤◌, length, get_or, Float}
+use Rattle.std.specs.Prelude.{◌≡◌, true, List, [], ◌∷◌, ℕ, suc, ◌-◌, ◌<◌, ◌≤◌, length, get_or, Float}
 use Rattle.std.proofs.Common.{sym, ◌∙◌}
 use Rattle.values.specs.Accepted.{accepted}
 use Rattle.cells.specs.Line.{line}

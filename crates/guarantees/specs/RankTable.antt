@@ -1,6 +1,6 @@
 -- The rank table: which tables are taken, and what is written where one is. `Rattle.rules_rank_table.specs.Taken` says
 -- what a row read is and what it covers. Assumes nothing.
-use Rattle.std.specs.Prelude.{◌≡◌, List, ◌∷◌, ℕ, ◌-◌, ◌*◌, ◌<◌, ◌≤◌, ℤ, length, get_or, Float}
+use Rattle.std.specs.Prelude.{◌≡◌, List, [], ◌∷◌, ℕ, ◌-◌, ◌*◌, ◌<◌, ◌≤◌, ℤ, length, get_or, Float}
 use Rattle.std.proofs.Common.{arith}
 use Rattle.limits.specs.Limits.{Window}
 use Rattle.values.specs.Accepted.{accepted}

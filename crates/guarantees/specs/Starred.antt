@@ -1,6 +1,6 @@
 -- Document 01's starred cases, as one table: each function's own contract, of a call with slices just long enough,
 -- gives this answer and these cells. Assumes nothing.
-use Rattle.std.specs.Prelude.{◌≡◌, refl, false, List, ◌∷◌, map, ℕ, zero, suc, ◌*◌, ℤ, pos, negsuc, length, Float}
+use Rattle.std.specs.Prelude.{◌≡◌, refl, false, List, [], ◌∷◌, map, ℕ, zero, suc, ◌*◌, ℤ, pos, negsuc, length, Float}
 use Rattle.std.proofs.Common.{ap, ◌∙◌, arith}
 use Rattle.std.specs.Float.{nan, fin, binary64}
 use Rattle.std.specs.Float.Ieee.{add, sub, mul, div, of_int, to_signed, whole, lt, eq, le, to_bits, neg, round}

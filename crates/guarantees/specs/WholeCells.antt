@@ -1,7 +1,7 @@
 -- Cells that are whole numbers: every cell of an answered call of the triple rule, of both Bollinger rules and of the
 -- rule against the relative strength index is +1, -1 or 0; of two neighbouring cells of a reverse rule never is one +1
 -- and the other -1; a rolling rank lies from 1 to its window. Assumes nothing.
-use Rattle.std.specs.Prelude.{◌≡◌, refl, ◌⊎◌, ◌&&◌, List, ◌∷◌, ℕ, suc, ◌+◌, ◌-◌, ◌<◌, ◌≤◌, leb, ℤ, length, get_or, Float}
+use Rattle.std.specs.Prelude.{◌≡◌, refl, ◌⊎◌, ◌&&◌, List, [], ◌∷◌, ℕ, suc, ◌+◌, ◌-◌, ◌<◌, ◌≤◌, leb, ℤ, length, get_or, Float}
 use Rattle.std.proofs.Common.{inl, inr, arith}
 use Rattle.std.specs.Float.Ieee.{lt}
 use Rattle.calls.specs.declared.Answer.{Answer}

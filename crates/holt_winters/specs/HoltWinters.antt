@@ -1,6 +1,6 @@
 -- Additive Holt-Winters smoothing: what `holt_winters` answers and writes. C. C. Holt, 1957; P. R. Winters, Forecasting
 -- Sales by Exponentially Weighted Moving Averages, 1960. Every operation is rounded once. Assumes nothing.
-use Rattle.std.specs.Prelude.{cond, List, ◌∷◌, ℕ, zero, suc, ◌-◌, Float, ltb, length}
+use Rattle.std.specs.Prelude.{cond, List, [], ◌∷◌, ℕ, zero, suc, ◌-◌, Float, ltb, length}
 use Rattle.std.specs.Float.{binary64}
 use Rattle.std.specs.Float.Ieee.{add, sub}
 use Rattle.averages.specs.Blend.{blend}

@@ -1,7 +1,7 @@
 -- jurik_volty: three averaging passes over the sizes of changes, each an average as pandas' ewm(span, adjust = False)
 -- takes it. Before each pass the source looks through all bars whether the valid values are equal, and then leaves
 -- them as they are; so it looks ahead. Assumes nothing.
-use Rattle.std.specs.Prelude.{Bool, not, cond, ◌&&◌, List, ◌∷◌, ℕ, suc, ◌-◌, ◌/◌, leb, length, Float}
+use Rattle.std.specs.Prelude.{Bool, not, cond, ◌&&◌, List, [], ◌∷◌, ℕ, suc, ◌-◌, ◌/◌, leb, length, Float}
 use Rattle.std.specs.Float.{nan, binary64}
 use Rattle.std.specs.Float.Ieee.{add, sub, mul, eq, is_nan}
 use Rattle.calls.specs.declared.Answer.{Answer}

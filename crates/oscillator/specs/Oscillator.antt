@@ -1,6 +1,6 @@
 -- Larry Williams, The Ultimate Oscillator, Technical Analysis of Stocks & Commodities, 1985: buying pressure over true
 -- range in three windows, weighed 4, 2 and 1. What `ultimate_oscillator` answers and writes. Assumes nothing.
-use Rattle.std.specs.Prelude.{false, cond, List, ◌∷◌, ℕ, ◌+◌, ◌-◌, max, pos, length, Float}
+use Rattle.std.specs.Prelude.{false, cond, List, [], ◌∷◌, ℕ, ◌+◌, ◌-◌, max, pos, length, Float}
 use Rattle.std.specs.Float.{nan, fin, binary64}
 use Rattle.std.specs.Float.Ieee.{add, sub, mul, div, eq}
 use Rattle.rounding.specs.Literals.{hundred}

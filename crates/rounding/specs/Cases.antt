@@ -1,5 +1,5 @@
 -- The leaves at small numbers and at the edges, computed from their definitions. Assumes nothing.
-use Rattle.std.specs.Prelude.{◌≡◌, ◌+◌, ◌-◌, ◌^◌, true, false, List, ◌∷◌, map, pos, negsuc, refl, Float}
+use Rattle.std.specs.Prelude.{◌≡◌, ◌+◌, ◌-◌, ◌^◌, true, false, List, [], ◌∷◌, map, pos, negsuc, refl, Float}
 use Rattle.std.specs.Float.{nan, inf, fin}
 use Rattle.std.specs.Float.Ieee.{round}
 use Rattle.rounding.specs.Leaves.{plus_one, minus_one, magnitude_of, sign_of, round_to_whole}

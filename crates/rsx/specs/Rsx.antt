@@ -1,6 +1,6 @@
 -- The relative strength index of exponential averages, smoothed: what `rsx_ss2` answers and writes. The averages are
 -- those of pandas' ewm(alpha = 1 / n, adjust = False), and the smoother is Ehlers'. Assumes nothing.
-use Rattle.std.specs.Prelude.{List, ◌∷◌, ℕ, length, Float}
+use Rattle.std.specs.Prelude.{List, [], ◌∷◌, ℕ, length, Float}
 use Rattle.std.specs.Float.{nan}
 use Rattle.rounding.specs.Leaves.{plus_one}
 use Rattle.values.specs.Accepted.{accepted}

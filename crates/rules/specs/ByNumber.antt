@@ -1,6 +1,6 @@
 -- A rule by its number: 1 is one average, 2 double, 3 middle; 1 and 3 ignore m. What a call of it answers, whose output
 -- has `output` cells and whose work slice `work`, and the line of its cells. Assumes nothing.
-use Rattle.std.specs.Prelude.{Bool, cond, ◌&&◌, List, ◌∷◌, ℕ, leb, eqb, Float}
+use Rattle.std.specs.Prelude.{Bool, cond, ◌&&◌, List, [], ◌∷◌, ℕ, leb, eqb, Float}
 use Rattle.values.specs.Accepted.{accepted}
 use Rattle.calls.specs.declared.Answer.{Answer}
 use Rattle.calls.specs.Answer.{answered}

@@ -1,5 +1,5 @@
 -- boll_positions: the means of prices against Bollinger's bands of those means. Assumes nothing.
-use Rattle.std.specs.Prelude.{List, ◌∷◌, cond, ℕ, ◌-◌, ◌*◌, length, Float, ℤ}
+use Rattle.std.specs.Prelude.{List, [], ◌∷◌, cond, ℕ, ◌-◌, ◌*◌, length, Float, ℤ}
 use Rattle.std.specs.Float.{binary64}
 use Rattle.std.specs.Float.Ieee.{add, sub, lt}
 use Rattle.calls.specs.declared.Answer.{Answer}

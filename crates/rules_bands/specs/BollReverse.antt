@@ -1,5 +1,5 @@
 -- boll_reverse_positions: against Bollinger's bands of the means of prices, held to the middle. Assumes nothing.
-use Rattle.std.specs.Prelude.{cond, List, ◌∷◌, ℕ, ◌-◌, ◌*◌, ℤ, length, Float}
+use Rattle.std.specs.Prelude.{cond, List, [], ◌∷◌, ℕ, ◌-◌, ◌*◌, ℤ, length, Float}
 use Rattle.std.specs.Float.Ieee.{lt}
 use Rattle.cells.specs.Line.{Line, line, minus_zero, from_bar}
 use Rattle.windows.specs.Window.{mean}

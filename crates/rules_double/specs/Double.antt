@@ -1,5 +1,5 @@
 -- double_sma_positions, two averages: what it answers and writes. Assumes nothing.
-use Rattle.std.specs.Prelude.{List, ◌∷◌, ℕ, ◌+◌, ◌-◌, ltb, length, Float}
+use Rattle.std.specs.Prelude.{List, [], ◌∷◌, ℕ, ◌+◌, ◌-◌, ltb, length, Float}
 use Rattle.std.specs.Float.{binary64}
 use Rattle.std.specs.Float.Ieee.{sub}
 use Rattle.calls.specs.declared.Refusal.TheVariants.{WindowsOutOfOrder}

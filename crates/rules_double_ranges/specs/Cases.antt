@@ -1,5 +1,5 @@
 -- The rule on ranges at small series, and its answers at their edges, computed from the definitions. Assumes nothing.
-use Rattle.std.specs.Prelude.{false, List, ◌∷◌, ◌≡◌, refl, ℕ, suc, ℤ, pos, negsuc, Float}
+use Rattle.std.specs.Prelude.{false, List, [], ◌∷◌, ◌≡◌, refl, ℕ, suc, ℤ, pos, negsuc, Float}
 use Rattle.std.specs.Float.{nan, fin}
 use Rattle.std.specs.Float.Ieee.{round, of_int, to_signed, lt, eq, le, whole}
 use Rattle.calls.specs.declared.Refusal.TheVariants.{

@@ -1,6 +1,6 @@
 -- double_sma_ranges, our own: the two-average rule on prices that are known only within a range, a low and a high for
 -- each bar. What it answers and writes, on whole numbers. Assumes nothing.
-use Rattle.std.specs.Prelude.{Bool, true, false, not, cond, List, ◌∷◌, ℕ, ◌+◌, ◌-◌, leb, ltb, ℤ, pos, negsuc, ◌*ℤ◌, length, Float}
+use Rattle.std.specs.Prelude.{Bool, true, false, not, cond, List, [], ◌∷◌, ℕ, ◌+◌, ◌-◌, leb, ltb, ℤ, pos, negsuc, ◌*ℤ◌, length, Float}
 use Rattle.std.specs.Int.Signed.{lt_z}
 use Rattle.std.specs.Float.Ieee.{to_signed}
 use Rattle.calls.specs.declared.Refusal.TheVariants.{WindowsOutOfOrder}

@@ -1,5 +1,5 @@
 -- single_ema_positions at small series, with the cells that pure.rs gives. Assumes nothing.
-use Rattle.std.specs.Prelude.{true, ◌≡◌, refl, ◌∷◌, pos, negsuc}
+use Rattle.std.specs.Prelude.{true, ◌≡◌, refl, [], ◌∷◌, pos, negsuc}
 use Rattle.std.specs.Float.{fin}
 use Rattle.std.specs.Float.Ieee.{round, add, sub, mul, div, eq, of_int}
 use Rattle.cells.specs.Line.{plus_zero, from_bar}

@@ -1,6 +1,6 @@
 -- single_ema_positions: the price against the exponential average of its means, as TA-Lib's EMA takes it from a first
 -- bar on. That bar is searched for among all bars, so it may look ahead. Assumes nothing.
-use Rattle.std.specs.Prelude.{cond, List, ◌∷◌, ℕ, ◌+◌, ◌-◌, ltb, length, Float}
+use Rattle.std.specs.Prelude.{cond, List, [], ◌∷◌, ℕ, ◌+◌, ◌-◌, ltb, length, Float}
 use Rattle.std.specs.Float.{binary64}
 use Rattle.std.specs.Float.Ieee.{sub}
 use Rattle.cells.specs.Line.{Line, line, plus_zero, from_bar}

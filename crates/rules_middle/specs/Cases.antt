@@ -1,5 +1,5 @@
 -- The middle rule at small series, computed from the definition. Assumes nothing.
-use Rattle.std.specs.Prelude.{true, false, ◌∷◌, ◌≡◌, refl, pos, negsuc, replicate, Float}
+use Rattle.std.specs.Prelude.{true, false, [], ◌∷◌, ◌≡◌, refl, pos, negsuc, replicate, Float}
 use Rattle.std.specs.Float.Ieee.{round, add, sub, div, of_int, lt, eq}
 use Rattle.rounding.specs.Leaves.{one, sign_of}
 use Rattle.cells.specs.Line.{plus_zero, from_bar}

@@ -1,6 +1,6 @@
 -- mms_positions: where the mean stands between the lowest and the highest of the last means, as min-max scaling to -1
 -- and 1 gives it (scikit-learn's MinMaxScaler over a moving window). Assumes nothing.
-use Rattle.std.specs.Prelude.{cond, List, ◌∷◌, ℕ, ◌+◌, ◌-◌, Float, length}
+use Rattle.std.specs.Prelude.{cond, List, [], ◌∷◌, ℕ, ◌+◌, ◌-◌, Float, length}
 use Rattle.std.specs.Float.{binary64}
 use Rattle.std.specs.Float.Ieee.{sub, mul, div, lt}
 use Rattle.cells.specs.Line.{Line, plus_zero, from_bar, line}

@@ -1,6 +1,6 @@
 -- rank_positions of pure.rs: how many of the means before the present one lie below it, moved to -1 .. 1 and rounded to
 -- hundredths. Assumes nothing.
-use Rattle.std.specs.Prelude.{List, ◌∷◌, ℕ, ◌+◌, ◌-◌, ◌*◌, pos, Float, length}
+use Rattle.std.specs.Prelude.{List, [], ◌∷◌, ℕ, ◌+◌, ◌-◌, ◌*◌, pos, Float, length}
 use Rattle.std.specs.Float.{binary64}
 use Rattle.std.specs.Float.Ieee.{sub, mul, div, of_int}
 use Rattle.rounding.specs.Leaves.{two, round_to_whole}

@@ -1,7 +1,7 @@
 -- rolling_rank of pure.rs: the place, from 1, in the sorted window of the first value less than 1e-8 away from the
 -- present one; 0 where there is none. No sorting: the values before that place are those that lie below by 1e-8 or
 -- more. Assumes nothing.
-use Rattle.std.specs.Prelude.{Bool, not, ◌&&◌, List, ◌∷◌, ℕ, zero, suc, ◌-◌, length, Float}
+use Rattle.std.specs.Prelude.{Bool, not, ◌&&◌, List, [], ◌∷◌, ℕ, zero, suc, ◌-◌, length, Float}
 use Rattle.std.specs.Float.{binary64}
 use Rattle.std.specs.Float.Ieee.{sub, lt}
 use Rattle.cells.specs.Line.{Line, line, from_bar}

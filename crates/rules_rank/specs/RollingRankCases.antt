@@ -1,5 +1,5 @@
 -- rolling_rank at small series, with the cells that pure.rs gives, and its answers. Assumes nothing.
-use Rattle.std.specs.Prelude.{◌≡◌, refl, ◌∷◌, suc, pos}
+use Rattle.std.specs.Prelude.{◌≡◌, refl, [], ◌∷◌, suc, pos}
 use Rattle.std.specs.Float.Ieee.{round, neg, add, sub, lt, eq, le, of_int, of_bits, to_bits}
 use Rattle.limits.specs.Limits.{longest_window}
 use Rattle.calls.specs.declared.Refusal.TheVariants.{WorkTooShort, WindowTooLong}

@@ -1,5 +1,5 @@
 -- Places in a sorted window. Assumes nothing.
-use Rattle.std.specs.Prelude.{Bool, true, not, ◌&&◌, cond, List, ◌∷◌, ℕ, zero, suc, Float}
+use Rattle.std.specs.Prelude.{Bool, true, not, ◌&&◌, cond, List, [], ◌∷◌, ℕ, zero, suc, Float}
 use Rattle.std.specs.Float.Ieee.{lt}
 use Rattle.cells.specs.Line.{Line}
 

@@ -1,5 +1,5 @@
 -- rank_table_positions, our own: each rank of `rank_positions` looked up in a desk's table. Assumes nothing.
-use Rattle.std.specs.Prelude.{cond, List, ◌∷◌, ℕ, ◌-◌, ◌*◌, ℤ, length, Float}
+use Rattle.std.specs.Prelude.{cond, List, [], ◌∷◌, ℕ, ◌-◌, ◌*◌, ℤ, length, Float}
 use Rattle.std.specs.Float.Ieee.{to_signed, is_nan}
 use Rattle.values.specs.Accepted.{accepted}
 use Rattle.cells.specs.Line.{Line, line, from_bar}

@@ -1,5 +1,5 @@
 -- A desk's rank table: which whole hundredths of rank mean long, short and flat. Assumes nothing.
-use Rattle.std.specs.Prelude.{Bool, cond, ◌&&◌, List, ◌∷◌, ℕ, zero, suc, leb, ℤ, pos, ◌-ℤ◌}
+use Rattle.std.specs.Prelude.{Bool, cond, ◌&&◌, List, [], ◌∷◌, ℕ, zero, suc, leb, ℤ, pos, ◌-ℤ◌}
 use Rattle.std.specs.Int.Signed.{le_z}
 use Rattle.values.specs.Accepted.{all}
 use Rattle.cells.specs.Search.{every_bar}

@@ -1,6 +1,6 @@
 -- rsi_reverse_positions: against the relative strength index of the means of prices, held to an exit level. The index
 -- is Wilder's ("New Concepts in Technical Trading Systems", 1978), of plain averages. Assumes nothing.
-use Rattle.std.specs.Prelude.{cond, List, ◌∷◌, ℕ, ◌-◌, max, ℤ, Float, leb, length}
+use Rattle.std.specs.Prelude.{cond, List, [], ◌∷◌, ℕ, ◌-◌, max, ℤ, Float, leb, length}
 use Rattle.std.specs.Float.Ieee.{lt, eq}
 use Rattle.std.specs.Float.{nan}
 use Rattle.cells.specs.Line.{Line, line, plus_zero}

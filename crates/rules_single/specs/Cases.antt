@@ -1,5 +1,5 @@
 -- The one-average rule at small series, computed from the definition. Assumes nothing.
-use Rattle.std.specs.Prelude.{true, false, ◌∷◌, map, ◌≡◌, refl, pos, negsuc, replicate, Float}
+use Rattle.std.specs.Prelude.{true, false, [], ◌∷◌, map, ◌≡◌, refl, pos, negsuc, replicate, Float}
 use Rattle.std.specs.Float.{fin}
 use Rattle.std.specs.Float.Ieee.{round, add, sub, div, of_int, lt, eq, le, to_bits}
 use Rattle.rounding.specs.Leaves.{one, sign_of}

@@ -1,5 +1,5 @@
 -- single_sma_positions, one average: what it answers and writes. Assumes nothing.
-use Rattle.std.specs.Prelude.{cond, List, ◌∷◌, ℕ, ◌-◌, ◌*◌, Float, length}
+use Rattle.std.specs.Prelude.{cond, List, [], ◌∷◌, ℕ, ◌-◌, ◌*◌, Float, length}
 use Rattle.std.specs.Float.{binary64}
 use Rattle.std.specs.Float.Ieee.{sub, eq}
 use Rattle.cells.specs.Line.{plus_zero, Line, from_bar, line}

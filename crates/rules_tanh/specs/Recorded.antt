@@ -1,7 +1,7 @@
 -- The thresholds of tanh, as the bits of their f64: for each k from 1 to 100 the smallest x whose tanh rounds to k
 -- hundredths or more, (x.tanh() * 100.0).round() >= k. They are recorded once, by running Rust: rustc 1.95.0, -O,
 -- x86_64-unknown-linux-gnu, tanh of glibc 2.36. Assumes nothing.
-use Rattle.std.specs.Prelude.{List, ◌∷◌, ℕ}
+use Rattle.std.specs.Prelude.{List, [], ◌∷◌, ℕ}
 
 unfoldable pub threshold_bits : List ℕ
 threshold_bits =

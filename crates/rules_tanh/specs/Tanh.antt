@@ -1,6 +1,6 @@
 -- tanh_positions of pure.rs: how many deviations the mean of n prices lies above the mean of the last n such means, and
 -- tanh of that in hundredths, which a recorded table gives. Assumes nothing.
-use Rattle.std.specs.Prelude.{Bool, cond, List, ◌∷◌, map, ℕ, zero, suc, ◌-◌, ◌*◌, pos, length, get_or, Float}
+use Rattle.std.specs.Prelude.{Bool, cond, List, [], ◌∷◌, map, ℕ, zero, suc, ◌-◌, ◌*◌, pos, length, get_or, Float}
 use Rattle.std.specs.Float.{nan, binary64}
 use Rattle.std.specs.Float.Ieee.{sub, mul, div, lt, le, of_int, of_bits}
 use Rattle.rounding.specs.Leaves.{magnitude_of, sign_of}

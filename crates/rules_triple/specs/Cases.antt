@@ -1,5 +1,5 @@
 -- triple_sma_positions at small series, with the cells that pure.rs gave, and its answers. Assumes nothing.
-use Rattle.std.specs.Prelude.{◌≡◌, refl, ◌∷◌, suc, pos}
+use Rattle.std.specs.Prelude.{◌≡◌, refl, [], ◌∷◌, suc, pos}
 use Rattle.std.specs.Float.Ieee.{round, add, div, lt, eq, le, of_int, to_bits}
 use Rattle.limits.specs.Limits.{longest_window}
 use Rattle.calls.specs.declared.Refusal.TheVariants.{WindowTooLong, SeriesTooShort, WindowsOutOfOrder}

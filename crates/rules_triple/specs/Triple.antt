@@ -1,6 +1,6 @@
 -- triple_sma_positions: the mean against a long average of means, and a short average of means against a middle one
 -- (the triple moving average crossover, on averages of averages). Assumes nothing.
-use Rattle.std.specs.Prelude.{cond, ◌&&◌, List, ◌∷◌, ℕ, ◌+◌, ◌-◌, leb, ltb, ℤ, length, Float}
+use Rattle.std.specs.Prelude.{cond, ◌&&◌, List, [], ◌∷◌, ℕ, ◌+◌, ◌-◌, leb, ltb, ℤ, length, Float}
 use Rattle.std.specs.Float.Ieee.{lt}
 use Rattle.calls.specs.declared.Refusal.TheVariants.{SeriesTooShort, WindowsOutOfOrder}
 use Rattle.calls.specs.declared.Answer.{Answer}

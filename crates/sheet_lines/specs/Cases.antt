@@ -1,5 +1,5 @@
 -- Small cases, by computation. Assumes nothing.
-use Rattle.std.specs.Prelude.{◌≡◌, refl, true, false, ◌∷◌, map, pos, replicate}
+use Rattle.std.specs.Prelude.{◌≡◌, refl, true, false, [], ◌∷◌, map, pos, replicate}
 use Rattle.std.specs.Float.{fin}
 use Rattle.std.specs.Float.Ieee.{of_int}
 use Rattle.sheet_lines.specs.declared.columns.Field.TheVariants.{Value, Broken}

@@ -1,5 +1,5 @@
 -- Small cases, by computation: a request's first line, and why a line is refused. Assumes nothing.
-use Rattle.std.specs.Prelude.{◌≡◌, refl, ◌∷◌, map, replicate}
+use Rattle.std.specs.Prelude.{◌≡◌, refl, [], ◌∷◌, map, replicate}
 use Rattle.sheet_lines.specs.inner.Text.{bytes}
 use Rattle.sheet_lines.specs.Read.{number, read_field}
 use Rattle.sheet_lines.specs.declared.Header.TheVariants.{Asked, Malformed}

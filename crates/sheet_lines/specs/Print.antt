@@ -1,5 +1,5 @@
 -- What is printed in a field, and the text that fields make one after another. Assumes nothing.
-use Rattle.std.specs.Prelude.{cond, List, ◌∷◌, ◌++◌, ℕ, zero, suc, ◌+◌, ◌/◌, ◌%◌, eqb}
+use Rattle.std.specs.Prelude.{cond, List, [], ◌∷◌, ◌++◌, ℕ, zero, suc, ◌+◌, ◌/◌, ◌%◌, eqb}
 
 -- the last digit of n, blank where nothing of n is left
 abbrev pub column : ℕ → ℕ

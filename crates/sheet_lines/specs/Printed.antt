@@ -1,5 +1,5 @@
 -- What an answer prints, and the line of a desk's count. Assumes nothing.
-use Rattle.std.specs.Prelude.{List, ◌∷◌, ◌++◌, ℕ, zero, suc, Float}
+use Rattle.std.specs.Prelude.{List, [], ◌∷◌, ◌++◌, ℕ, zero, suc, Float}
 use Rattle.calls.specs.declared.Refusal.TheVariants.{BrokenLine}
 use Rattle.calls.specs.declared.Answer.{Answer}
 use Rattle.calls.specs.Answer.{number, refusal_of, count_of}

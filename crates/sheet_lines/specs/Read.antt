@@ -1,6 +1,6 @@
 -- What the bytes of a field say. A field is a right-justified decimal number: blanks, then one or more digits, to its
 -- last column. Zeros in front are digits. A price may have one minus, directly before its first digit. Assumes nothing.
-use Rattle.std.specs.Prelude.{Bool, cond, ◌&&◌, List, ◌∷◌, ℕ, ◌+◌, ◌-◌, ◌*◌, leb, eqb, pos, neg_ℤ}
+use Rattle.std.specs.Prelude.{Bool, cond, ◌&&◌, List, [], ◌∷◌, ℕ, ◌+◌, ◌-◌, ◌*◌, leb, eqb, pos, neg_ℤ}
 use Rattle.std.specs.Float.{binary64}
 use Rattle.std.specs.Float.Ieee.{of_int}
 use Rattle.sheet_lines.specs.declared.columns.Field.{Field}

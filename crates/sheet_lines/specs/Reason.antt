@@ -1,5 +1,5 @@
 -- Why a line is refused with 10: the first reason that applies. Assumes nothing.
-use Rattle.std.specs.Prelude.{Bool, true, not, cond, ◌&&◌, List, ◌∷◌, ℕ, leb, eqb, length, take}
+use Rattle.std.specs.Prelude.{Bool, true, not, cond, ◌&&◌, List, [], ◌∷◌, ℕ, leb, eqb, length, take}
 use Rattle.sheet_lines.specs.declared.columns.Field.{Field}
 use Rattle.sheet_lines.specs.declared.columns.Field.TheVariants.{Value, Broken}
 use Rattle.sheet_lines.specs.declared.Fields.{Fields}

@@ -1,5 +1,5 @@
 -- The requests that an input asks, the answers to them, and how many of a desk's are refused. Assumes nothing.
-use Rattle.std.specs.Prelude.{Bool, true, false, cond, List, ◌∷◌, ◌++◌, ℕ, zero, suc, ◌+◌, min, eqb, length}
+use Rattle.std.specs.Prelude.{Bool, true, false, cond, List, [], ◌∷◌, ◌++◌, ℕ, zero, suc, ◌+◌, min, eqb, length}
 use Rattle.calls.specs.declared.Answer.{Answer}
 use Rattle.calls.specs.declared.Answer.TheVariants.{Cells, Refused}
 use Rattle.sheet_lines.specs.Printed.{broken_line, head_line}

@@ -1,5 +1,5 @@
 -- Small cases, by computation: whole sheets with document 01's example. Assumes nothing.
-use Rattle.std.specs.Prelude.{◌≡◌, refl, cond, List, ◌∷◌, ◌++◌, map, ℕ, eqb}
+use Rattle.std.specs.Prelude.{◌≡◌, refl, cond, List, [], ◌∷◌, ◌++◌, map, ℕ, eqb}
 use Rattle.std.specs.Float.Ieee.{add, sub, div, of_int, lt, eq, le, to_bits}
 use Rattle.rounding.specs.Leaves.{sign_of}
 use Rattle.values.specs.Accepted.{accepted}

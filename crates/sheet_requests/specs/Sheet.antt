@@ -1,6 +1,6 @@
 -- What the program writes for a whole input, and where the input breaks its columns: a
 -- step on its lines, from the first to the last. Assumes nothing.
-use Rattle.std.specs.Prelude.{cond, List, ◌∷◌, ◌++◌, ℕ, eqb, length, Float}
+use Rattle.std.specs.Prelude.{cond, List, [], ◌∷◌, ◌++◌, ℕ, eqb, length, Float}
 use Rattle.sheet_lines.specs.declared.columns.Price.{Price}
 use Rattle.sheet_lines.specs.declared.columns.Price.TheVariants.{Ticks, Unpriced}
 use Rattle.sheet_lines.specs.declared.Request.{Request}

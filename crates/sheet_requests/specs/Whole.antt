@@ -1,5 +1,5 @@
 -- How far a run has come, what is printed last, and the numbers with which it ends. Assumes nothing.
-use Rattle.std.specs.Prelude.{Bool, true, false, ◌≡◌, List, ◌++◌, ℕ}
+use Rattle.std.specs.Prelude.{Bool, true, false, ◌≡◌, List, [], ◌++◌, ℕ}
 use Rattle.sheet_lines.specs.Reason.{reason_number}
 use Rattle.sheet_requests.specs.declared.status.Status.{Status}
 use Rattle.sheet_requests.specs.declared.status.Status.TheVariants.{Reading, Done, ReadFailed, WriteFailed}

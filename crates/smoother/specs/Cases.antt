@@ -1,6 +1,6 @@
 -- Small cases, computed from the definitions: which numbers are periods, answers, and cells that pure.rs gave. Assumes
 -- nothing.
-use Rattle.std.specs.Prelude.{◌≡◌, ℕ, true, false, List, ◌∷◌, map, replicate, pos, negsuc, refl, Float}
+use Rattle.std.specs.Prelude.{◌≡◌, ℕ, true, false, List, [], ◌∷◌, map, replicate, pos, negsuc, refl, Float}
 use Rattle.std.specs.Float.{nan, inf, fin, binary64}
 use Rattle.std.specs.Float.Ieee.{neg, add, sub, mul, div, lt, eq, le, of_int, of_bits, to_bits, to_unsigned}
 use Rattle.calls.specs.declared.Answer.TheVariants.{Cells, Refused}

@@ -1,5 +1,5 @@
 -- The ultimate smoother of John Ehlers: what `ultimate_smoother` answers and writes. Assumes nothing.
-use Rattle.std.specs.Prelude.{ℕ, zero, suc, List, ◌∷◌, length, Float}
+use Rattle.std.specs.Prelude.{ℕ, zero, suc, List, [], ◌∷◌, length, Float}
 use Rattle.std.specs.Float.{binary64}
 use Rattle.std.specs.Float.Ieee.{add, sub, mul}
 use Rattle.smoother_table.specs.declared.Coefficients.{Coefficients}

@@ -1,6 +1,6 @@
 -- What holds of the recorded numbers at every period from 1 to 512: 0 < a1 < 1, |b1| is at most 2 * a1, and a1 rises.
 -- Each is one test over the whole table, which is computed, and a law that reads it at one period. Assumes nothing.
-use Rattle.std.proofs.Common.{◌≡◌, ℕ, zero, suc, ◌+◌, ◌<◌, ◌≤◌, Bool, true, ◌&&◌, List, ◌∷◌, length, get_or, refl, le_of_suc-le-suc, not-suc-le-zero, add-one}
+use Rattle.std.proofs.Common.{◌≡◌, ℕ, zero, suc, ◌+◌, ◌<◌, ◌≤◌, Bool, true, ◌&&◌, List, [], ◌∷◌, length, get_or, refl, le_of_suc-le-suc, not-suc-le-zero, add-one}
 use lib.Ieee.{Float, nan, binary64, of_bits, mul, lt, eq, le}
 use Rattle.values.proofs.All.{and_parts}
 use Rattle.values.proofs.Rising.{rising, rising_at}

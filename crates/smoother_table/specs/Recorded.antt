@@ -1,7 +1,7 @@
 -- The smoother's numbers a1 and b1 of the periods 1 to 512, as the bits of their f64. They are recorded once, by running pure.rs's two formulas,
 -- a1 = (-1.414 * PI / period).exp() and b1 = 2.0 * a1 * (1.414 * 180.0 / period).to_radians().cos():
 -- rustc 1.95.0, -O, x86_64-unknown-linux-gnu, exp and cos of glibc 2.36 on a processor with FMA. Assumes nothing.
-use Rattle.std.specs.Prelude.{ℕ, List, ◌∷◌}
+use Rattle.std.specs.Prelude.{ℕ, List, [], ◌∷◌}
 
 unfoldable pub a1_bits : List ℕ
 a1_bits =

@@ -1,5 +1,5 @@
 -- True ranges at small series, by hand, and the answers. Assumes nothing.
-use Rattle.std.specs.Prelude.{◌≡◌, refl, false, List, ◌∷◌, map, pos, Float}
+use Rattle.std.specs.Prelude.{◌≡◌, refl, false, List, [], ◌∷◌, map, pos, Float}
 use Rattle.std.specs.Float.{nan, fin}
 use Rattle.std.specs.Float.Ieee.{neg, add, sub, lt, eq, le, of_int, to_bits}
 use Rattle.rounding.specs.Leaves.{magnitude_of}

@@ -1,6 +1,6 @@
 -- True range: J. Welles Wilder, New Concepts in Technical Trading Systems, 1978; what `true_range` writes. Assumes
 -- nothing.
-use Rattle.std.specs.Prelude.{Bool, true, List, ◌∷◌, ℕ, zero, suc, ◌-◌, Float, length}
+use Rattle.std.specs.Prelude.{Bool, true, List, [], ◌∷◌, ℕ, zero, suc, ◌-◌, Float, length}
 use Rattle.std.specs.Float.{binary64}
 use Rattle.std.specs.Float.Ieee.{sub}
 use Rattle.rounding.specs.Leaves.{magnitude_of}

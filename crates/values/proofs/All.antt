@@ -1,5 +1,5 @@
 -- Tests of every element of a list, and of two tests together. Assumes nothing.
-use Rattle.std.proofs.Common.{◌≡◌, ℕ, zero, suc, ◌+◌, ◌<◌, ◌≤◌, Bool, true, false, ◌&&◌, List, ◌∷◌, length, get_or, drop, sym, refl, true≢false, le_of_suc-le-suc, not-suc-le-zero, zero-lt-suc, add-one, arith, drop_of_length-le, drop-cons}
+use Rattle.std.proofs.Common.{◌≡◌, ℕ, zero, suc, ◌+◌, ◌<◌, ◌≤◌, Bool, true, false, ◌&&◌, List, [], ◌∷◌, length, get_or, drop, sym, refl, true≢false, le_of_suc-le-suc, not-suc-le-zero, zero-lt-suc, add-one, arith, drop_of_length-le, drop-cons}
 use lib.Ieee.{Float, nan}
 use Rattle.values.specs.Accepted.{all}
 

@@ -1,5 +1,5 @@
 -- A test of some cells of a line: with one cell more, of two parts that meet, of a whole series. Assumes nothing.
-use Rattle.std.proofs.Common.{◌≡◌, ℕ, zero, suc, ◌+◌, ◌<◌, Bool, true, ◌&&◌, List, ◌∷◌, length, sym, refl, ap, ◌∙◌, add-one, arith}
+use Rattle.std.proofs.Common.{◌≡◌, ℕ, zero, suc, ◌+◌, ◌<◌, Bool, true, ◌&&◌, List, [], ◌∷◌, length, sym, refl, ap, ◌∙◌, add-one, arith}
 use lib.Ieee.{Float}
 use Rattle.cells.specs.Line.{Line, line}
 use Rattle.values.specs.Accepted.{all}

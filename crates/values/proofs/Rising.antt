@@ -1,6 +1,6 @@
 -- A list of numbers of which each is above the one before it, as one test that is computed over the whole list, and a
 -- law that reads it at one place. Assumes nothing.
-use Rattle.std.proofs.Common.{◌≡◌, ℕ, zero, suc, ◌<◌, Bool, true, ◌&&◌, List, ◌∷◌, length, get_or, le_of_suc-le-suc, not-suc-le-zero}
+use Rattle.std.proofs.Common.{◌≡◌, ℕ, zero, suc, ◌<◌, Bool, true, ◌&&◌, List, [], ◌∷◌, length, get_or, le_of_suc-le-suc, not-suc-le-zero}
 use lib.Ieee.{Float, nan, lt}
 use Rattle.values.proofs.All.{and_parts}
 

@@ -1,5 +1,5 @@
 -- Whole ticks are accepted values. Assumes nothing.
-use Rattle.std.proofs.Common.{◌≡◌, ℕ, suc, ◌+◌, ◌*◌, ◌^◌, ◌<◌, ◌≤◌, true, false, T, List, ◌∷◌, get_or, ℤ, pos, sym, refl, ap, ◌∙◌, subst, true≢false, arith, lt-ltb, ne_eqb}
+use Rattle.std.proofs.Common.{◌≡◌, ℕ, suc, ◌+◌, ◌*◌, ◌^◌, ◌<◌, ◌≤◌, true, false, T, List, [], ◌∷◌, get_or, ℤ, pos, sym, refl, ap, ◌∙◌, subst, true≢false, arith, lt-ltb, ne_eqb}
 use lib.Ieee.{Float, nan, inf, fin, binary64, up, down, lt, eq, le, whole, fits, of_bits, to_bits}
 use lib.Ieee.Bits.{of_bits-to_bits}
 use lib.Ieee.Fits.{down_pos}

@@ -1,5 +1,5 @@
 -- Which numbers a series may hold. Assumes nothing.
-use Rattle.std.specs.Prelude.{ℕ, ◌^◌, Bool, true, false, not, ◌&&◌, List, ◌∷◌, pos, ◌==◌, to_bits, Float}
+use Rattle.std.specs.Prelude.{ℕ, ◌^◌, Bool, true, false, not, ◌&&◌, List, [], ◌∷◌, pos, ◌==◌, to_bits, Float}
 use Rattle.std.specs.Float.{nan, inf, fin, binary64}
 use Rattle.std.specs.Float.Ieee.{le, whole}
 use Rattle.limits.specs.Limits.{tick_power, value_power}

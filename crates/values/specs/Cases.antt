@@ -1,5 +1,5 @@
 -- Which numbers a series may hold. Assumes nothing.
-use Rattle.std.specs.Prelude.{◌≡◌, true, false, ◌∷◌, map, replicate, pos, negsuc, refl}
+use Rattle.std.specs.Prelude.{◌≡◌, true, false, [], ◌∷◌, map, replicate, pos, negsuc, refl}
 use Rattle.std.specs.Float.{nan, inf, fin}
 use Rattle.std.specs.Float.Ieee.{lt, eq, le, whole, to_bits}
 use Rattle.values.specs.Accepted.{accepted, tick}

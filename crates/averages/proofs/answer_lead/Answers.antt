@@ -1,6 +1,6 @@
 -- `answer_lead` meets its contract: the answer is that of the table, and all its cells stand before bar n - 1.
 -- Assumes nothing.
-use mathlib.Core.List.{◌∷◌}
+use mathlib.Core.List.{[], ◌∷◌}
 use Prim.Native.Nat.{◌<◌}
 use native.Mathlib.Omega.{arith}
 use lib.ListN.{length}

@@ -1,6 +1,6 @@
 -- The table of refusals in the forms that the checks meet it, and what is known of a call that it let pass. Assumes
 -- nothing.
-use Rattle.std.specs.Prelude.{List, ◌∷◌, ℕ, ◌≤◌}
+use Rattle.std.specs.Prelude.{List, [], ◌∷◌, ℕ, ◌≤◌}
 
 -- ---- what is known where a count was answered
 

@@ -1,7 +1,7 @@
 -- `check_lengths_of_three` meets its contract: at each answer the tests on the way there pick the line of the table.
 -- Assumes nothing.
 use mathlib.Core.Path.{◌≡◌}
-use mathlib.Core.List.{◌∷◌}
+use mathlib.Core.List.{[], ◌∷◌}
 use borrow.Author.Tests.{le-leb, lt-leb, eq-eqb, ne_eqb}
 use lib.Dec.{leb, eqb}
 use Rattle.calls.specs.declared.Refusal.TheVariants.{LengthsDiffer, OutputTooShort}

@@ -1,5 +1,6 @@
 -- `take_short` meets its contract: a line feed among too few bytes breaks the line. Assumes nothing.
 use native.Mathlib.Omega.{arith}
+use mathlib.Core.List.{[]}
 use lib.ListN.{length, drop, length-drop}
 use Rattle.sheet_lines.specs.declared.reasons.Reason.TheVariants.{LineLength}
 use Rattle.sheet_requests.proofs.Short.{fed_some, short_breaks, short_text_owed}
