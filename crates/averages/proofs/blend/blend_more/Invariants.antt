@@ -1,0 +1,17 @@
+-- `blend_more` meets its contract: each turn blends one price. Assumes nothing.
+use mathlib.Core.Path.{◌≡◌, refl}
+use Prim.Native.Nat.{◌+◌, ◌-◌, ◌≤◌}
+use native.Mathlib.Omega.{arith}
+use borrow.Author.Rules.{rules}
+use Rattle.cells.specs.Line.{line}
+use Rattle.cells.specs.inner.Recurring.{Recurring}
+use Rattle.cells.proofs.Recur.{no_step, one_step}
+use Rattle.averages.specs.Blend.{blend}
+use Rattle.averages.proofs.blend.blend_more.Given as goal
+
+abbrev pub invariant-loop-k : goal.invariant-loop-k
+invariant-loop-k l = (l.k ≤ l.count)
+    × Recurring l.last (λ l.k l.cell. blend l.alpha l.cell (line l.series (l.at + l.k))) l.k l.cell
+
+abbrev pub decreases-loop-k : goal.decreases-loop-k
+decreases-loop-k l = l.count - l.k

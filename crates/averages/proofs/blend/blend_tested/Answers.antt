@@ -1,0 +1,33 @@
+-- `blend_tested` meets its contract: the loop blends the first half, and tests both. Assumes nothing.
+use mathlib.Core.Path.{refl}
+use Prim.Native.Nat.{◌+◌, ◌-◌, ◌*◌, ◌≤◌}
+use native.Mathlib.Omega.{arith}
+use borrow.Author.Rules.{rules}
+use lib.ListN.{length}
+use Rattle.cells.specs.Line.{line}
+use Rattle.values.specs.Accepted.{accepted}
+use Rattle.values.proofs.Part.{all_passing}
+use Rattle.averages.specs.inner.Blending.{Blending}
+use Rattle.averages.proofs.Blending.{seeded, more_blended, at_bar}
+use Rattle.averages.proofs.TwoParts.{TwoParts, first_part, parts_on, parts_end}
+use Rattle.averages.proofs.blend.blend_tested.Goals as goal
+
+pub loop-k-init : goal.loop-k-init
+loop-k-init c = (omega arith, first_part _ _ c.requires.accept (omega arith), at_bar seeded (omega arith))
+
+pub loop-k-preserved : goal.loop-k-preserved
+loop-k-preserved c =
+    let inv = c.loop-k.invariant in (
+      omega arith,
+      parts_on _ _ inv.1 c.range_accepted-accept.ensures c.range_accepted-accept-in-loop-k.ensures (omega arith),
+      more_blended 8 _ inv.2 c.blend_more-last.ensures (omega arith),
+    )
+
+pub returns : goal.returns
+returns c =
+    let inv = c.loop-k.invariant in
+    let s = c.args.series.now in
+    record {
+      middle = at_bar inv.2 (omega arith);
+      accept = all_passing s (parts_end (length s) inv.1 c.range_accepted.ensures (omega arith)) refl;
+    }

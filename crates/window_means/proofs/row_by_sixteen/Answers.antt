@@ -1,0 +1,16 @@
+-- `row_by_sixteen` meets its contract: each turn writes sixteen means. Assumes nothing.
+use Prim.Native.Nat.{◌+◌, ◌-◌, ◌≤◌}
+use native.Mathlib.Omega.{arith}
+use borrow.Author.Rules.{rules}
+use Rattle.cells.specs.Written.{Writing}
+use Rattle.cells.proofs.Written.{ends}
+use Rattle.window_means.specs.inner.Row.{means_of_row}
+use Rattle.window_means.proofs.Row.{none_of_row, for_row, sixteen_moved}
+use Rattle.window_means.proofs.Storing.{sixteen_stored}
+use Rattle.window_means.proofs.row_by_sixteen.Goals as goal
+
+pub loop-i-init : goal.loop-i-init
+loop-i-init c = (omega arith, omega arith, none_of_row _ _ _ _ _)
+
+pub returns : goal.returns
+returns c = record { on = omega arith; inside = omega arith; means = c.loop-i.invariant.2 }

@@ -1,0 +1,17 @@
+-- `write_means_by_sixteen` meets its contract: each turn writes sixteen means. Assumes nothing.
+use Prim.Native.Nat.{◌-◌, ◌≤◌}
+use native.Mathlib.Omega.{arith}
+use borrow.Author.Rules.{rules}
+use lib.ListN.{length}
+use Rattle.cells.specs.Line.{line}
+use Rattle.cells.specs.Written.{Writing}
+use Rattle.windows.specs.Window.{mean}
+use Rattle.window_means.proofs.Storing.{sixteen_stored}
+use Rattle.window_means.proofs.write_means_by_sixteen.Given as goal
+
+abbrev pub invariant-loop-i : goal.invariant-loop-i
+invariant-loop-i l = (l.from ≤ l.i) × (l.i ≤ length l.series)
+    × Writing l.i (mean l.n (line l.series)) l.initial.means l.means
+
+abbrev pub decreases-loop-i : goal.decreases-loop-i
+decreases-loop-i l = length l.series - l.i
