@@ -27,7 +27,7 @@ tests : (c : After-accepted_from) → let a = c.args in
     c.sum_tested-sum.result.accept && c.accepted_from.result ≡ all accepted a.series.now
 tests c =
     let s = c.args.series.now in
-    let inside = (fits c.before.before.before).inside in
+    let inside = (fits_parts _ _ _ (sym c.window_fits.ensures ∙ c.if-window_fits.true)).inside in
     all_passing s (both_passing (length s) c.sum_tested-sum.ensures.accept c.accepted_from.ensures
     (omega arith)) refl
 

@@ -25,9 +25,26 @@ use Rattle.averages_ticks.proofs.Ticks.{
   ticks_same,
   tick_cell,
 }
-use Rattle.averages_ticks.proofs.slide_ticks.Invariants.{rest, window}
 use Rattle.averages_ticks.proofs.slide_ticks.Goals as goal
 use Rattle.averages_ticks.proofs.slide_ticks.Goals.{After-row_known-1, After-row_known-in-loop-i-1}
+
+-- the sum of the window that ends c.before.before.before bar i
+window : (c : After-row_known-1)
+    → let a = c.args in
+    HeldSum a.series.now (c.loop-i.i + 1 - a.n) a.n
+    (to_z w64 c.loop-i.rest-bits +ℤ held (to_signed 63 (line a.series.now c.loop-i.i)))
+window c =
+    hold_in c.requires.ticks c.loop-i.i c.loop-i.invariant.3 (omega arith)
+
+-- and of those that stay in the next one
+rest : (c : After-row_known-in-loop-i-1)
+    → let a = c.args in
+    let s = a.series.now in
+    HeldSum s (c.loop-i.i + 1 + 1 - a.n) (a.n - 1)
+    (held (to_z w64 c.loop-i.rest-bits +ℤ held (to_signed 63 (line s c.loop-i.i))) -ℤ held
+    (to_signed 63 (line s (c.loop-i.i + 1 - a.n))))
+rest c =
+    hold_out c.requires.ticks (hold_in c.requires.ticks c.loop-i.i c.loop-i.invariant.3 (omega arith)).sum (omega arith)
 
 pub loop-i-init : goal.loop-i-init
 loop-i-init c =
@@ -38,7 +55,7 @@ pub float_to_int-sum : goal.float_to_int-sum
 float_to_int-sum c = castable_at _ c.requires.ticks (omega arith)
 
 pub overflow_add-sum : goal.overflow_add-sum
-overflow_add-sum c = (window c).ranges
+overflow_add-sum c = (window c).fits
 
 pub to_tick-requires : goal.to_tick-requires
 to_tick-requires c =
@@ -51,12 +68,12 @@ float_to_int-rest c =
     (omega arith)
 
 pub overflow_sub-rest-in-loop-i : goal.overflow_sub-rest-in-loop-i
-overflow_sub-rest-in-loop-i c = (rest c).ranges
+overflow_sub-rest-in-loop-i c = (rest c).fits
 
 pub loop-i-preserved : goal.loop-i-preserved
 loop-i-preserved c =
     let call = c.to_tick in
-    let cell = to_z-of_z w64 call.result (sfits_of call.type-inv) in
+    let cell = to_z-of_z w64 call.result (sfits_of call.type_inv) in
     let mean = tick_cell c.args.n c.loop-i.i (window (goal.at.loop-i-preserved c).After-row_known-1).sum
     (omega arith) in
     (omega arith, omega arith, one_more c.loop-i.invariant.2 (rw (cell, call.ensures) mean) (omega arith), (rest c).sum)

@@ -20,7 +20,7 @@ use Rattle.averages_ticks.proofs.sum_lead.Goals.{After-row_known-1}
 next : (c : After-row_known-1)
     → let at = c.loop-i in
     let s = c.args.series.now in
-    HeldSum s 0 (at.i + 1) (to_z w64 at.sum +ℤ held (to_signed 63 (line s at.i)))
+    HeldSum s 0 (at.i + 1) (to_z w64 at.sum-bits +ℤ held (to_signed 63 (line s at.i)))
 next c =
     let at = c.loop-i in
     hold_in c.requires.ticks at.i at.invariant.2 (omega arith)
@@ -32,7 +32,7 @@ pub float_to_int-sum : goal.float_to_int-sum
 float_to_int-sum c = castable_at _ c.requires.ticks (omega arith)
 
 pub overflow_add-sum : goal.overflow_add-sum
-overflow_add-sum c = (next c).ranges
+overflow_add-sum c = (next c).fits
 
 pub loop-i-preserved : goal.loop-i-preserved
 loop-i-preserved c = (omega arith, one_more c.loop-i.invariant.1 refl (omega arith), (next c).sum)

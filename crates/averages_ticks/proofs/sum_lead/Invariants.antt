@@ -17,7 +17,7 @@ use Rattle.averages_ticks.proofs.sum_lead.Given as goal
 
 abbrev pub invariant-loop-i : goal.invariant-loop-i
 invariant-loop-i l = (l.i ≤ l.first) × Writing l.i (λ j. pos 0) l.initial.out l.out
-    × TickSum l.series 0 l.i (to_z w64 l.sum)
+    × TickSum l.series 0 l.i l.sum
 
 abbrev pub decreases-loop-i : goal.decreases-loop-i
 decreases-loop-i l = l.first - l.i

@@ -79,3 +79,9 @@ returns-in-13 c = in_row 13 (search rules) (search rules) c.pair_at-in-13.ensure
 pub returns-in-14 : goal.returns-in-14
 unfolding a1_table b1_table a1_bits b1_bits
 returns-in-14 c = in_row 14 (search rules) (search rules) c.pair_at-in-14.ensures
+
+pub returns-in_default : goal.returns-in_default
+unfolding a1_table b1_table a1_bits b1_bits NoneBelow
+returns-in_default c =
+    in_row 15 (search rules) (last _ (search rules) c.in_default.in_default-own.rest)
+    c.pair_at-in_default.ensures

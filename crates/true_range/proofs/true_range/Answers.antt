@@ -16,7 +16,7 @@ use Rattle.true_range.proofs.true_range.Goals.{After-and_then-due, Then-has_cell
 answer : (c : After-and_then-due) →
     let a = c.args in
     c.and_then-due.result
-    ≡ true_range_answer a.high.now a.low.now a.close-prev.now a.first (length a.out.now)
+    ≡ true_range_answer a.high.now a.low.now a.close_prev.now a.first (length a.out.now)
 unfolding true_range_answer
 answer c = rw (c.and_then-due.ensures, c.check_close-next.ensures, c.check_three-slices.ensures)
 

@@ -11,7 +11,7 @@ use Rattle.averages.proofs.blend.blend_more.Given as goal
 
 abbrev pub invariant-loop-k : goal.invariant-loop-k
 invariant-loop-k l = (l.k ≤ l.count)
-    × Recurring l.last (λ l.k l.cell. blend l.alpha l.cell (line l.series (l.at + l.k))) l.k l.cell
+    × Recurring l.last (λ k cell. blend l.alpha cell (line l.series (l.at + k))) l.k l.cell
 
 abbrev pub decreases-loop-k : goal.decreases-loop-k
 decreases-loop-k l = l.count - l.k

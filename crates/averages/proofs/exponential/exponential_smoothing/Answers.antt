@@ -29,7 +29,7 @@ rest : (c : In_default)
     exponential_answer a.series.now a.alpha (length a.out.now)
     ≡ unless (finite a.alpha) ParameterNotFinite (Cells (length a.series.now))
 unfolding exponential_answer
-rest c = rw (← c.check-due.ensures, c.enum_told-in_default-1.given.1)
+rest c = rw (← c.check-due.ensures, c.in_default.is)
 
 first-false : (t u : Bool) → t && u ≡ false → u ≡ true → t ≡ false
 first-false true u p q = absurd (true≢false (sym q ∙ p))
@@ -50,14 +50,14 @@ returns-then-window_fits-is_finite c =
 
 pub returns-in-Refused : goal.returns-in-Refused
 unfolding exponential_answer
-returns-in-Refused c = refused (rw (← c.check-due.ensures, c.enum_told-1.given.1)) c.enum_told-1.given.1
+returns-in-Refused c = refused (rw (← c.check-due.ensures, c.in-Refused.is)) c.in-Refused.is
 
 pub returns-then-is_finite : goal.returns-then-is_finite
 returns-then-is_finite c =
     let a = c.args in
     let yes = c.is_finite.ensures ∙ sym c.is_finite-2.ensures ∙ c.if-is_finite.true in
     let no = sym c.window_fits.ensures ∙ first-false _ _ c.if-window_fits-is_finite.false yes in
-    let room = checked_room _ _ _ _ _ (sym c.check-due.ensures ∙ c.enum_told-in_default-1.given.1) in
+    let room = checked_room _ _ _ _ _ (sym c.check-due.ensures ∙ c.in_default.is) in
     let few : length a.series.now < 1 = none_fits (length a.series.now) 1 _ no
     (record { some = omega arith; narrow = omega arith }) room.short room.out_long in
     let none : length a.series.now ≡ 0 = omega arith in

@@ -14,8 +14,8 @@ use Rattle.averages.proofs.halves.blend_both.Given as goal
 
 abbrev pub invariant-loop-k : goal.invariant-loop-k
 invariant-loop-k l =
-    (l.k ≤ l.count) × Recurring l.initial.lower (λ l.k cell. blend l.alpha cell (line l.series (l.low + l.k))) l.k l.lower
-    × Recurring l.initial.upper (λ l.k cell. blend l.alpha cell (line l.series (l.high + l.k))) l.k l.upper
+    (l.k ≤ l.count) × Recurring l.initial.lower (λ k cell. blend l.alpha cell (line l.series (l.low + k))) l.k l.lower
+    × Recurring l.initial.upper (λ k cell. blend l.alpha cell (line l.series (l.high + k))) l.k l.upper
     × Recurring l.initial.out (both_stored l.alpha (line l.series) l.initial.lower l.initial.upper l.low l.high) l.k l.out × (length l.out ≡ length l.initial.out)
 
 abbrev pub decreases-loop-k : goal.decreases-loop-k

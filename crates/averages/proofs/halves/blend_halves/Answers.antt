@@ -25,8 +25,8 @@ loop-k-preserved c =
     let at = c.loop-k in
     (omega arith, sides_on 8 _ _ at.invariant.1 c.blend_both-last.ensures (omega arith))
 
-pub shape_of-out : goal.shape_of-out
-shape_of-out c = (returns c).long
-
 pub returns : goal.returns
 returns c = sides_end _ c.loop-k.invariant.1 c.blend_rest.ensures (omega arith)
+
+pub shape_of-out : goal.shape_of-out
+shape_of-out c = (returns c).long

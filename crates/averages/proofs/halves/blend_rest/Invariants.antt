@@ -13,7 +13,7 @@ use Rattle.averages.proofs.halves.blend_rest.Given as goal
 
 abbrev pub invariant-loop-k : goal.invariant-loop-k
 invariant-loop-k l =
-    (l.from + l.k ≤ length l.series) × Recurring l.initial.cell (λ l.k l.cell. blend l.alpha l.cell (line l.series (l.from + l.k))) l.k l.cell
+    (l.from + l.k ≤ length l.series) × Recurring l.initial.cell (λ k cell. blend l.alpha cell (line l.series (l.from + k))) l.k l.cell
     × Recurring l.initial.out (stored l.alpha (line l.series) l.initial.cell l.from) l.k l.out × (length l.out ≡ length l.initial.out)
 
 abbrev pub decreases-loop-k : goal.decreases-loop-k

@@ -12,6 +12,14 @@ use Rattle.window_means.proofs.ranges.write_mean_ranges_by.Goals as goal
 pub slice_bounds-write_ranges-end-2 : goal.slice_bounds-write_ranges-end-2
 slice_bounds-write_ranges-end-2 c = sym (part_long c.write_means_by.ensures (omega arith))
 
+pub write_ranges-requires : goal.write_ranges-requires
+write_ranges-requires c =
+    let pre = c.requires.priced in
+    let known = c.requires.window in
+    let v = c.write_means_by.ensures in
+    means_room c.args.series.now pre.window known.0 pre.short
+    pre.values v (omega arith) (omega arith)
+
 pub returns : goal.returns
 returns c =
     let means = c.write_means_by.ensures in
