@@ -28,7 +28,7 @@ use Rattle.averages_ticks.proofs.Ticks.{
 use Rattle.averages_ticks.proofs.slide_ticks.Goals as goal
 use Rattle.averages_ticks.proofs.slide_ticks.Goals.{After-row_known-1, After-row_known-in-loop-i-1}
 
--- the sum of the window that ends c.before.before.before bar i
+-- the sum of the window that ends at bar i
 window : (c : After-row_known-1)
     → let a = c.args in
     HeldSum a.series.now (c.loop-i.i + 1 - a.n) a.n
@@ -44,7 +44,12 @@ rest : (c : After-row_known-in-loop-i-1)
     (held (to_z w64 c.loop-i.rest-bits +ℤ held (to_signed 63 (line s c.loop-i.i))) -ℤ held
     (to_signed 63 (line s (c.loop-i.i + 1 - a.n))))
 rest c =
-    hold_out c.requires.ticks (hold_in c.requires.ticks c.loop-i.i c.loop-i.invariant.3 (omega arith)).sum (omega arith)
+    let a = c.args in
+    let s = a.series.now in
+    let window_held : HeldSum s (c.loop-i.i + 1 - a.n) a.n
+        (to_z w64 c.loop-i.rest-bits +ℤ held (to_signed 63 (line s c.loop-i.i))) =
+        hold_in c.requires.ticks c.loop-i.i c.loop-i.invariant.3 (omega arith) in
+    hold_out c.requires.ticks window_held.sum (omega arith)
 
 pub loop-i-init : goal.loop-i-init
 loop-i-init c =

@@ -11,7 +11,7 @@ use Rattle.checks.proofs.Due.{clearable, priced, written_call, empty_call}
 use Rattle.averages_wilder.proofs.wilder_rsi.Goals as goal
 use Rattle.averages_wilder.proofs.wilder_rsi.Goals.{Then-cells_due}
 
--- where cells are c.before.before.before
+-- where cells are due
 opened : (c : Then-cells_due) →
     let a = c.args in
     let work = c.cells_due.new.work in

@@ -46,3 +46,14 @@ slide_spreads-requires c =
 
 pub shape_of-out : goal.shape_of-out
 shape_of-out c = c.slide_spreads.ensures.long ∙ simp length-set c.fill_lead.ensures.lead.long
+
+pub returns : goal.returns
+unfolding of_bits
+returns c =
+    let p = c.requires in
+    let long = c.fill_lead.ensures.lead.long in
+    let first =
+    first_position (over (goal.at.returns c).After-shared_slice_known-1) c.fill_lead.ensures (omega (arith, long, p.room))
+    c.first_spread-first.ensures
+    c.sign_of_number.ensures in
+    lead_then c.fill_lead.ensures (then_written first c.slide_spreads.ensures p.full) (omega arith)

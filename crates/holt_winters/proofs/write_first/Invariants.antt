@@ -1,0 +1,18 @@
+-- `write_first` meets its contract: each turn copies a price and keeps its seasonal part. Assumes nothing.
+use Prim.Native.Nat.{◌-◌, ◌≤◌}
+use native.Mathlib.Omega.{arith}
+use lib.ListN.{length}
+use Rattle.cells.specs.Line.{line}
+use Rattle.cells.proofs.Written.{none_written, ends}
+use Rattle.cells.proofs.Scratch.{unused, all_put}
+use Rattle.holt_winters.specs.inner.Stages.{First}
+use Rattle.holt_winters.proofs.Stages.{one_first}
+use borrow.Author.Rules.{rules}
+use Rattle.holt_winters.proofs.write_first.Given as goal
+
+abbrev pub invariant-loop-i : goal.invariant-loop-i
+invariant-loop-i l =
+    (l.i ≤ l.m) × First l.average (line l.series) (length l.series) l.i l.initial.out l.out l.initial.work l.work
+
+abbrev pub decreases-loop-i : goal.decreases-loop-i
+decreases-loop-i l = l.m - l.i

@@ -1,0 +1,8 @@
+-- `differing` meets its contract: the two tests. Assumes nothing.
+use borrow.Author.Rules.{rules}
+use lib.Ieee.{ne}
+use Rattle.jurik.proofs.differing.Goals as goal
+
+pub returns : goal.returns
+unfolding ne
+returns c = rw c.valid.ensures

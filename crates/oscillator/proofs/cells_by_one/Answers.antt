@@ -1,0 +1,15 @@
+-- `cells_by_one` meets its contract: each turn writes one cell. Assumes nothing.
+use Prim.Native.Nat.{◌-◌, ◌≤◌}
+use native.Mathlib.Omega.{arith}
+use borrow.Author.Rules.{rules}
+use lib.ListN.{length}
+use Rattle.cells.specs.Written.{Writing}
+use Rattle.cells.proofs.Written.{one_more, ends}
+use Rattle.oscillator.specs.inner.Begun.{afresh}
+use Rattle.oscillator.proofs.cells_by_one.Goals as goal
+
+pub loop-i-preserved : goal.loop-i-preserved
+loop-i-preserved c = (omega arith, omega arith, one_more c.loop-i.invariant.2 c.cell_at.ensures (omega arith))
+
+pub returns : goal.returns
+returns c = ends c.loop-i.invariant.2 (omega arith)

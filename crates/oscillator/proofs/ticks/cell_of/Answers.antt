@@ -1,0 +1,12 @@
+-- `cell_of` meets its contract: three shares, weighed. Assumes nothing.
+use borrow.Author.Rules.{rules}
+use Rattle.oscillator.proofs.ticks.cell_of.Goals as goal
+
+pub returns : goal.returns
+returns c =
+    rw (
+      c.weigh.ensures,
+      c.ratio_of.ensures,
+      c.ratio_of-b.ensures,
+      c.ratio_of-a.ensures,
+    )

@@ -1,0 +1,9 @@
+-- `divisor` meets its contract. Assumes nothing.
+use borrow.Author.Rules.{rules}
+use Rattle.rules_bands.proofs.bar.divisor.Goals as goal
+
+pub returns-then-reverse : goal.returns-then-reverse
+returns-then-reverse c = rw c.if-reverse.true
+
+pub returns-else-reverse : goal.returns-else-reverse
+returns-else-reverse c = rw c.if-reverse.false

@@ -1,0 +1,19 @@
+-- `write_positions` meets its contract: each turn writes one position. Assumes nothing.
+use Prim.Native.Nat.{◌-◌, ◌≤◌}
+use native.Mathlib.Omega.{arith}
+use borrow.Author.Rules.{rules}
+use lib.Ieee.{of_bits}
+use Rattle.cells.specs.Written.{Writing}
+use Rattle.cells.proofs.Written.{none_written, one_more, ends}
+use Rattle.rules_rank.specs.Rank.{rank_of}
+use Rattle.rules_rank.proofs.write_positions.Goals as goal
+
+pub loop-below-init : goal.loop-below-init
+loop-below-init c = search (rules, none_written)
+
+pub loop-below-preserved : goal.loop-below-preserved
+unfolding of_bits
+loop-below-preserved c = (omega arith, one_more c.loop-below.invariant.1 (rw c.whole_rank.ensures) (omega arith))
+
+pub returns : goal.returns
+returns c = ends c.loop-below.invariant.1 (omega arith)

@@ -1,0 +1,10 @@
+-- `index_by` meets its contract: its test is that of `index_by`. Assumes nothing.
+use borrow.Author.Rules.{rules}
+use lib.Ieee.{of_bits}
+use Rattle.rules_rsi.proofs.bar.index_by.Goals as goal
+
+pub returns-then-down : goal.returns-then-down
+returns-then-down c = unfold of_bits in rw c.if-down.true
+
+pub returns-else-down : goal.returns-else-down
+returns-else-down c = unfold of_bits in rw (c.if-down.false, c.strength.ensures)

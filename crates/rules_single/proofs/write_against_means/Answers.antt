@@ -1,0 +1,35 @@
+-- `write_against_means` meets its contract: each turn reads an average that still stands and writes the bar's cell.
+-- Assumes nothing.
+use mathlib.Core.Path.{◌∙◌, ap}
+use Prim.Native.Nat.{◌-◌, ◌*◌, ◌≤◌, min}
+use native.Mathlib.Omega.{arith}
+use borrow.Author.Rules.{rules}
+use lib.Ieee.{of_bits}
+use lib.ListN.{length}
+use Rattle.cells.specs.Line.{line, plus_zero}
+use Rattle.cells.proofs.Carried.{from_same}
+use Rattle.cells.proofs.Leads.{lead_stands, lead_then, not_yet}
+use Rattle.cells.specs.Written.{Writing}
+use Rattle.cells.proofs.Written.{one_more, writing_same}
+use Rattle.rules_single.specs.Single.{against_mean}
+use Rattle.rules_single.specs.inner.Positions.{positions}
+use Rattle.rules_single.proofs.Positions.{position_at}
+use Rattle.rules_single.proofs.write_against_means.Goals as goal
+
+pub loop-i-init : goal.loop-i-init
+loop-i-init c = unfold of_bits in search (rules, lead_stands)
+
+pub loop-i-preserved : goal.loop-i-preserved
+loop-i-preserved c =
+    let average_is = not_yet c.loop-i.i c.loop-i.invariant.2 (omega arith) in (
+      omega arith,
+      omega arith,
+      one_more c.loop-i.invariant.2
+          (c.against_mean.ensures ∙ position_at _ _ _ _ average_is (omega arith)) (omega arith),
+    )
+
+pub returns : goal.returns
+returns c =
+    let lead = c.fill_lead-i.ensures in
+    writing_same (lead_then lead c.loop-i.invariant.2 (omega arith))
+    (λ i l. from_same _ plus_zero _ _ i (λ b. ap (against_mean _) (not_yet i lead.lead (omega arith))))

@@ -1,0 +1,15 @@
+-- `copy` meets its contract: the loop copies cell after cell. Assumes nothing.
+use Rattle.std.proofs.Common.{◌-◌, ◌≤◌, refl, arith, rules}
+use Rattle.cells.specs.Line.{line}
+use Rattle.cells.specs.Written.{Writing}
+use Rattle.cells.proofs.Written.{none_written, one_more, ends}
+use Rattle.smoother.proofs.copy.Goals as goal
+
+pub loop-i-init : goal.loop-i-init
+loop-i-init c = (search rules, none_written)
+
+pub loop-i-preserved : goal.loop-i-preserved
+loop-i-preserved c = (search rules, one_more c.loop-i.invariant.1 refl (omega arith))
+
+pub returns : goal.returns
+returns c = ends c.loop-i.invariant.1 (omega arith)
