@@ -1,0 +1,15 @@
+-- `fill_flat` meets its contract: each turn writes one cell. Assumes nothing.
+use mathlib.Core.Path.{refl}
+use Prim.Native.Nat.{◌-◌, ◌≤◌}
+use native.Mathlib.Omega.{arith}
+use borrow.Author.Rules.{rules}
+use lib.IntN.{pos}
+use Rattle.cells.specs.Written.{Writing}
+use Rattle.cells.proofs.Written.{none_written, one_more, ends}
+use Rattle.basket.proofs.fill_flat.Given as goal
+
+abbrev pub invariant-loop-i : goal.invariant-loop-i
+invariant-loop-i l = (l.i ≤ l.n) × Writing l.i (λ j. pos 0) l.initial.out l.out
+
+abbrev pub decreases-loop-i : goal.decreases-loop-i
+decreases-loop-i l = l.n - l.i

@@ -1,0 +1,46 @@
+-- `add_contracts` meets its contract: each turn adds one contract to the nets. Assumes nothing.
+use mathlib.Core.Path.{◌≡◌, refl, ◌∙◌}
+use Prim.Native.Nat.{◌-◌, ◌*◌, ◌≤◌}
+use native.Mathlib.Omega.{arith}
+use borrow.Author.Rules.{rules}
+use lib.ListN.{length}
+use Rattle.cells.specs.Shown.{first_cells}
+use Rattle.cells.specs.inner.Touched.{Touched}
+use Rattle.cells.proofs.Touched.{untouched, touched_then}
+use Rattle.basket.specs.Basket.{Contract, contract_at}
+use Rattle.basket.proofs.Netting.{Netted, none_netted, next_netted, netted_all, still_opened, next_lent}
+use Rattle.basket.proofs.parts.add_contracts.Goals as goal
+
+pub loop-k-init : goal.loop-k-init
+loop-k-init c = (omega arith, none_netted c.requires.1 c.requires.0.sized.out_long, untouched, refl)
+
+pub add_contract-requires : goal.add_contract-requires
+add_contract-requires c =
+    let inv = c.loop-k.invariant in
+    let pre = c.requires in
+    let k = c.loop-k.k in
+    let h = c.loop-k-test.true in
+    (still_opened pre.0 k inv.1 inv.2, h, next_lent pre.0 k inv.1 inv.2 pre.2 inv.3 h)
+
+pub loop-k-preserved : goal.loop-k-preserved
+loop-k-preserved c =
+    let inv = c.loop-k.invariant in
+    let a = c.args in
+    let added = c.add_contract.ensures in
+    let k = c.loop-k.k in (
+      omega arith,
+      next_netted (contract_at a.bars a.series.now a.contracts.now a.weights.now) inv.1
+          added.cells (c.requires.0.each k c.loop-k-test.true).some,
+      touched_then inv.2 added.work,
+      added.block ∙ inv.3,
+    )
+
+pub returns : goal.returns
+returns c =
+    let inv = c.loop-k.invariant in
+    let a = c.args in (
+      netted_all (contract_at a.bars a.series.now a.contracts.now a.weights.now)
+          {k = c.loop-k.k} {n = length a.weights.now} inv.1 (omega arith)
+          c.requires.3,
+      inv.2,
+    )

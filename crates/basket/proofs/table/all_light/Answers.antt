@@ -1,0 +1,32 @@
+-- `all_light` meets its contract: each turn tests one weight. Assumes nothing.
+use mathlib.Core.Path.{◌≡◌, refl}
+use Prim.Native.Nat.{◌-◌, ◌≤◌}
+use native.Mathlib.Omega.{arith}
+use borrow.Author.Rules.{rules, sfits_of}
+use Rattle.cells.specs.Search.{every_bar}
+use lib.IntN.{pos}
+use lib.ListN.{length, get_or}
+use mir.Syntax.{w64}
+use mir.ValLaws.{to_z-of_z}
+use Rattle.basket.specs.inner.Listed.{light}
+use Rattle.basket.proofs.Checks.{every_more, every_ends}
+use Rattle.basket.proofs.table.all_light.Goals as goal
+
+pub loop-k-init : goal.loop-k-init
+loop-k-init c = unfold every_bar in (omega arith, refl)
+
+pub loop-k-preserved : goal.loop-k-preserved
+loop-k-preserved c =
+    let at = c.loop-k in (
+      omega arith,
+      rw (
+        every_more,
+        at.invariant.1,
+        c.is_light-all.ensures,
+        to_z-of_z w64 _ (sfits_of
+            c.is_light-arg-1.given),
+      ),
+    )
+
+pub returns : goal.returns
+returns c = every_ends _ c.loop-k.invariant.1 (omega arith)

@@ -1,0 +1,6 @@
+-- `boll_reverse_positions` meets its contract: it is `band_positions`. Assumes nothing.
+use borrow.Author.Rules.{rules}
+use Rattle.rules.proofs.boll_reverse_positions.Goals as goal
+
+pub returns : goal.returns
+returns c = c.band_positions.ensures

@@ -1,0 +1,7 @@
+-- `read_field` meets its contract: the digits start after the blanks. Assumes nothing.
+use borrow.Author.Rules.{rules}
+use Rattle.sheet_lines.specs.Read.{read_field}
+use Rattle.sheet_lines.proofs.columns.read_field.Goals as goal
+
+pub returns : goal.returns
+returns c = unfold read_field in rw (c.digits.ensures, c.after_blanks-first.ensures.2)

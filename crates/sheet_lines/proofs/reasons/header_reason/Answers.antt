@@ -1,0 +1,31 @@
+-- `header_reason` meets its contract: the line feed's place comes first, and then the fields. Assumes nothing.
+use native.Mathlib.Omega.{arith}
+use borrow.Author.Rules.{rules}
+use Rattle.sheet_lines.specs.Reason.{header_reason}
+use Rattle.sheet_lines.proofs.LineLength.{fed_of, unfed_of, feed_within, no_feed_after, all_columns}
+use Rattle.sheet_lines.proofs.reasons.header_reason.Goals as goal
+
+pub returns-then-has_feed : goal.returns-then-has_feed
+unfolding header_reason
+returns-then-has_feed c =
+    let a = c.args in
+    rw (feed_within a.block.now a.at 26 (omega arith) _
+    (fed_of _ _ c.has_feed.ensures c.if-has_feed.true))
+
+pub returns-then-block-at-eq10 : goal.returns-then-block-at-eq10
+unfolding header_reason
+returns-then-block-at-eq10 c =
+    let a = c.args in
+    rw (
+      all_columns a.block.now a.at 26 (omega arith) _
+          (unfed_of _ _ c.has_feed.ensures c.if-has_feed.false)
+          c.if-block-at-eq10.true,
+      ← c.read_fields.ensures,
+    )
+    c.field_reason.ensures
+
+pub returns-else-block-at-eq10 : goal.returns-else-block-at-eq10
+unfolding header_reason
+returns-else-block-at-eq10 c =
+    let a = c.args in
+    rw (no_feed_after a.block.now a.at 26 (omega arith) _ c.if-block-at-eq10.false)

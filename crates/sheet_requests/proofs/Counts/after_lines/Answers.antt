@@ -1,0 +1,6 @@
+-- `after_lines` meets its contract: so many lines more. Assumes nothing.
+use borrow.Author.Rules.{rules}
+use Rattle.sheet_requests.proofs.Counts.after_lines.Goals as goal
+
+pub returns : goal.returns
+returns c = rw c.many_more.ensures

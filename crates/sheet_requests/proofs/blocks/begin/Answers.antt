@@ -1,0 +1,6 @@
+-- `begin` meets its contract: no request is refused yet. Assumes nothing.
+use borrow.Author.Rules.{rules}
+use Rattle.sheet_requests.proofs.blocks.begin.Goals as goal
+
+pub returns : goal.returns
+returns c = rw c.none.ensures

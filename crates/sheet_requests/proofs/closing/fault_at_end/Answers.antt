@@ -1,0 +1,29 @@
+-- `fault_at_end` meets its contract: each arm says where the input breaks in its stage. Assumes nothing.
+use mathlib.Core.Path.{◌∙◌}
+use borrow.Author.Rules.{rules}
+use Rattle.sheet_requests.proofs.Ends.{ends_waiting, ends_stopped, cut_waiting, cut_collecting}
+use Rattle.sheet_requests.proofs.closing.fault_at_end.Goals as goal
+
+pub returns-then-kept-eq0 : goal.returns-then-kept-eq0
+returns-then-kept-eq0 c =
+    record { is = λ series rest e n. rw (c.in-Waiting.is, ends_waiting _ rest (e ∙ c.if-kept-eq0.true)) }
+
+pub returns-else-kept-eq0 : goal.returns-else-kept-eq0
+returns-else-kept-eq0 c =
+    let told = c.in-Waiting.is in
+    let few = rw told at c.requires in
+    record {
+      is = λ series rest e n. c.missing_line.ensures
+          ∙ rw (told, cut_waiting _ rest (λ z. c.if-kept-eq0.false (rw e at z)) (rw e few) n);
+    }
+
+pub returns-in-Collecting : goal.returns-in-Collecting
+returns-in-Collecting c =
+    let told = c.in-Collecting.is in
+    let few = rw told at c.requires in
+    record {
+      is = λ series rest e n. c.missing_line-in-Collecting.ensures ∙ rw (told, cut_collecting _ _ _ rest (rw e few) n);
+    }
+
+pub returns-in-Stopped : goal.returns-in-Stopped
+returns-in-Stopped c = record { is = λ series rest e n. rw (c.in-Stopped.is, ends_stopped _ _ rest) }
