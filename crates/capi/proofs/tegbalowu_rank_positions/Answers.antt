@@ -1,0 +1,7 @@
+-- `tegbalowu_rank_positions` meets its contract: it is the library's `rank_positions`, in numbers. Assumes nothing.
+use borrow.Author.Rules.{rules}
+use Rattle.calls.proofs.InNumbers.{told}
+use Rattle.capi.proofs.tegbalowu_rank_positions.Goals as goal
+
+pub returns : goal.returns
+returns c = search (rules, told)

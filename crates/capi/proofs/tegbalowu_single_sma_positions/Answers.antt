@@ -1,0 +1,8 @@
+-- `tegbalowu_single_sma_positions` meets its contract: it is the library's `single_sma_positions`, in numbers.
+-- Assumes nothing.
+use borrow.Author.Rules.{rules}
+use Rattle.calls.proofs.InNumbers.{told}
+use Rattle.capi.proofs.tegbalowu_single_sma_positions.Goals as goal
+
+pub returns : goal.returns
+returns c = search (rules, told)

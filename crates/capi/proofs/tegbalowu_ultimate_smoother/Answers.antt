@@ -1,0 +1,8 @@
+-- `tegbalowu_ultimate_smoother` meets its contract: it is the library's `ultimate_smoother`, in numbers. Assumes
+-- nothing.
+use borrow.Author.Rules.{rules}
+use Rattle.calls.proofs.InNumbers.{told}
+use Rattle.capi.proofs.tegbalowu_ultimate_smoother.Goals as goal
+
+pub returns : goal.returns
+returns c = search (rules, told)

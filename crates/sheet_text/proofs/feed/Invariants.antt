@@ -1,0 +1,17 @@
+-- `feed` meets its contract: each step goes onward, and the last one leaves too few bytes for a line. Assumes nothing.
+use mathlib.Core.Path.{refl, ◌∙◌}
+use Prim.Native.Nat.{◌-◌, ◌<◌}
+use native.Mathlib.Nat.{zero-add}
+use native.Mathlib.Omega.{arith}
+use borrow.Author.Rules.{rules}
+use lib.ListN.{length}
+use Rattle.sheet_requests.specs.inner.Place.{next_line_bytes}
+use Rattle.sheet_text.proofs.Feeding.{Feeding, onward, text_owed_few, fed_rest, unfed_rest, stopped}
+use Rattle.sheet_text.proofs.feed.Given as goal
+
+abbrev pub invariant-loop-place : goal.invariant-loop-place
+invariant-loop-place l =
+    Feeding l.block l.initial.place l.initial.series l.initial.work l.initial.text l.place l.series l.out l.work l.text
+
+abbrev pub decreases-loop-place : goal.decreases-loop-place
+decreases-loop-place l = length l.block - l.place.at
