@@ -22,6 +22,6 @@ uninstall:
 	tools/install --uninstall "$(PREFIX)"
 
 clean:
-	rm -rf target
+	rm -rf target crates/*/out
 
 .PHONY: all check install uninstall clean

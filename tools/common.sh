@@ -65,15 +65,3 @@ take_from() {
     [ "$(readlink $link)" != "$1" ] || rm -f $link
     rmdir "$link.$1"
 }
-
-# Puts temporary files into memory, where there is a file system for that: the prover unpacks thousands of small files
-# at each check. `memory` is then the folder, which the caller removes at its end. The programs that rt runs as nobody
-# must reach it.
-memory=
-files_in_memory() {
-    if [ -z "${TMPDIR:-}" ] && [ -d /dev/shm ] && [ -w /dev/shm ]; then
-        memory=$(mktemp -d -p /dev/shm)
-        chmod 755 "$memory"
-        export TMPDIR="$memory"
-    fi
-}

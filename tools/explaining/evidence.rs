@@ -47,11 +47,11 @@ impl Rule {
     /// The theorem's name in crates/guarantees/specs/OnTicks.antt, and what it says.
     fn theorem(self) -> &'static str {
         match self {
-            Rule::OneAverage => "single-on-ticks: the sign of n·n·price - D, where that and D are not 0",
+            Rule::OneAverage => "single_on_ticks: the sign of n·n·price - D, where that and D are not 0",
             Rule::Double => {
-                "double-on-ticks: +1 exactly where m times the short sum is at least n times the long one, else -1"
+                "double_on_ticks: +1 exactly where m times the short sum is at least n times the long one, else -1"
             }
-            Rule::Middle => "mid-on-ticks: the sign of 2·S - (H + W), where that, H and W are not 0",
+            Rule::Middle => "mid_on_ticks: the sign of 2·S - (H + W), where that, H and W are not 0",
         }
     }
 }

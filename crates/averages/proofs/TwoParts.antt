@@ -1,6 +1,6 @@
 -- The test of two parts of the prices side by side, each as far as it has come. Assumes nothing.
 use mathlib.Core.Path.{◌≡◌, refl, sym, ◌∙◌}
-use mathlib.Core.Bool.{Bool, true, false, ◌&&◌}
+use mathlib.Core.Bool.{Bool, ◌&&◌}
 use Prim.Native.Nat.{ℕ, ◌+◌}
 use lib.Ieee.{Float}
 use Rattle.cells.specs.Line.{Line}

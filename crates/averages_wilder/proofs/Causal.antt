@@ -21,4 +21,5 @@ unfolding wilder_rsi_line
 causal_wilder_rsi n =
     let average = causal_wilder n n (omega arith) in
     causal_from n nan
-    (λ f g b s l. causal_with wilder_cell (causal_then causal_gains average) (causal_then causal_losses average) f g b s)
+    (λ f g b s l. causal_with wilder_cell (causal_then causal_gains average) (causal_then causal_losses average) f g b
+    s)

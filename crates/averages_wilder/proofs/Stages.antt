@@ -1,7 +1,6 @@
 -- Wilder's average, and those of gains and losses, as the loops find them. Assumes nothing.
 use mathlib.Core.Path.{◌≡◌}
 use Prim.Native.Nat.{ℕ, ◌+◌, ◌-◌, ◌<◌, ◌≤◌}
-use native.Mathlib.Omega.{arith}
 use lib.Ieee.{Float, nan, binary64, add}
 use Rattle.cells.specs.Line.{Line, plus_zero}
 use Rattle.cells.proofs.Line.{from_bar_lem}

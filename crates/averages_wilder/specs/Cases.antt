@@ -1,5 +1,5 @@
 -- wilder_rsi at small series, with the cells of a plain loop in Rust, and its answers. Assumes nothing.
-use Rattle.std.specs.Prelude.{◌≡◌, refl, [], ◌∷◌, ℕ, suc, pos, length, Float}
+use Rattle.std.specs.Prelude.{◌≡◌, refl, [], ◌∷◌, ℕ, suc, pos}
 use Rattle.std.specs.Float.{nan, binary64}
 use Rattle.std.specs.Float.Ieee.{round, neg, add, sub, mul, div, lt, eq, le, of_int, of_bits, to_bits}
 use Rattle.limits.specs.Limits.{longest_window}
@@ -38,7 +38,8 @@ fifty_is = refl
 -- no change gives 50, zeros too; only falls give 0; n as long as the series, and one less; one bar
 wilder_rsi_edges : (cells_of (wilder_rsi_line 2) (prices (pos 5 ∷ pos 5 ∷ pos 5 ∷ [])) ≡ nan ∷ nan ∷ fifty ∷ [])
     × (cells_of (wilder_rsi_line 1) (prices (pos 0 ∷ pos 0 ∷ pos 0 ∷ [])) ≡ nan ∷ fifty ∷ fifty ∷ [])
-    × (cells_of (wilder_rsi_line 2) (prices (pos 5 ∷ pos 4 ∷ pos 3 ∷ pos 2 ∷ [])) ≡ nan ∷ nan ∷ plus_zero ∷ plus_zero ∷ [])
+    × (cells_of (wilder_rsi_line 2) (prices (pos 5 ∷ pos 4 ∷ pos 3 ∷ pos 2 ∷ []))
+    ≡ nan ∷ nan ∷ plus_zero ∷ plus_zero ∷ [])
     × (cells_of (wilder_rsi_line 3) (prices (pos 1 ∷ pos 2 ∷ pos 3 ∷ [])) ≡ nan ∷ nan ∷ nan ∷ [])
     × (cells_of (wilder_rsi_line 2) (prices (pos 1 ∷ pos 2 ∷ pos 3 ∷ [])) ≡ nan ∷ nan ∷ hundred ∷ [])
     × (cells_of (wilder_rsi_line 1) (prices (pos 7 ∷ [])) ≡ nan ∷ [])
@@ -57,7 +58,8 @@ abbrev one_bar : ℕ → Answer
 one_bar n = answered accepted (plus_zero ∷ []) (n ∷ []) 1 (8 ∷ [])
 
 -- a window of 1; one of 0; one too long; no bars
-wilder_rsi_answers : one_bar 1 ∷ one_bar 0 ∷ one_bar (suc longest_window) ∷ answered accepted [] (1 ∷ []) 0 (0 ∷ []) ∷ []
+wilder_rsi_answers : one_bar 1 ∷ one_bar 0 ∷ one_bar (suc longest_window) ∷ answered accepted [] (1 ∷ []) 0 (0 ∷ [])
+    ∷ []
     ≡ Cells 1 ∷ Cells 0 ∷ Refused WindowTooLong ∷ Cells 0 ∷ []
 unfolding answered windowed slices checked accepted lt eq le to_bits
 wilder_rsi_answers = refl

@@ -44,9 +44,9 @@ bands_cases : (shown 2 (num 2) 3 (prices (pos 1 ∷ pos 2 ∷ pos 4 ∷ pos 3 �
     ∷ 0x40161c2f93070a2c ∷ 0x4010000000000000 ∷ 0x4019b546fc946ee3 ∷ 0x401e0154ed1d0725 ∷ 0x4018c065fe061758 ∷ [])
     ∷ bits (0x7ff8000000000000 ∷ 0x7ff8000000000000 ∷ 0x4003c7a0d9f1eba8 ∷ 0x4000000000000000 ∷ 0x40135d8443600f9d
     ∷ 0x4016a8dd68aae245 ∷ 0x4011c6aba337740c ∷ []) ∷ []))
-unfolding bands_middle bands_upper bands_lower bands_width bands_deviation upper_line lower_line deviation sqrt_of sum_from
-    from_bar smooth formula coefficients of_pair a1_of b1_of a1_table b1_table a1_bits b1_bits neg add sub mul div of_int of_bits
-    round lt eq
+unfolding bands_middle bands_upper bands_lower bands_width bands_deviation upper_line lower_line deviation sqrt_of
+    sum_from from_bar smooth formula coefficients of_pair a1_of b1_of a1_table b1_table a1_bits b1_bits neg add sub mul
+    div of_int of_bits round lt eq
 bands_cases = (refl, refl)
 
 -- period 1 has no deviation; period 4: the outer lines have a number at bar 3 alone; period 5: they are NaN
@@ -73,7 +73,8 @@ bands_edges : (shown 1 (num 2) 3 (prices (pos 1 ∷ pos 2 ∷ pos 4 ∷ pos 3 �
     ∷ 0x4013ffffffffffff ∷ []) ∷ bits (0x7ff8000000000000 ∷ 0x4014000000000000 ∷ 0x4014000000000000
     ∷ 0x4014000000000000 ∷ 0x4013ffffffffffff ∷ []) ∷ []))
     × (shown 2 (num 2) 2 (prices (pos 0 ∷ pos 0 ∷ pos 0 ∷ []))
-    ≡ ((plus_zero ∷ plus_zero ∷ plus_zero ∷ []) ∷ (nan ∷ plus_zero ∷ plus_zero ∷ []) ∷ (nan ∷ plus_zero ∷ plus_zero ∷ [])
+    ≡ ((plus_zero ∷ plus_zero ∷ plus_zero ∷ []) ∷ (nan ∷ plus_zero ∷ plus_zero ∷ [])
+    ∷ (nan ∷ plus_zero ∷ plus_zero ∷ [])
     ∷ []))
     × (shown 3 plus_one 2 (prices (pos 1 ∷ pos 2 ∷ pos 4 ∷ []))
     ≡ (bits (0x3ff0000000000000 ∷ 0x4000000000000000 ∷ 0x4010000000000000 ∷ []) ∷ bits (0x7ff8000000000000
@@ -81,9 +82,9 @@ bands_edges : (shown 1 (num 2) 3 (prices (pos 1 ∷ pos 2 ∷ pos 4 ∷ pos 3 �
     ∷ 0x4003c7a0d9f1eba8 ∷ []) ∷ []))
     × (shown 1 (num 2) 1 (prices (pos 7 ∷ []))
     ≡ (bits (0x401c000000000000 ∷ []) ∷ bits (0x401c000000000000 ∷ []) ∷ bits (0x401c000000000000 ∷ []) ∷ []))
-unfolding bands_middle bands_upper bands_lower bands_width bands_deviation upper_line lower_line deviation sqrt_of sum_from
-    from_bar smooth formula coefficients of_pair a1_of b1_of a1_table b1_table a1_bits b1_bits neg add sub mul div of_int of_bits
-    round lt eq
+unfolding bands_middle bands_upper bands_lower bands_width bands_deviation upper_line lower_line deviation sqrt_of
+    sum_from from_bar smooth formula coefficients of_pair a1_of b1_of a1_table b1_table a1_bits b1_bits neg add sub mul
+    div of_int of_bits round lt eq
 bands_edges = (refl, refl, refl, refl, refl, refl, refl)
 
 abbrev one_bar : ℕ → Float → ℕ → Answer

@@ -2,28 +2,19 @@
 use mathlib.Core.Path.{◌≡◌, refl, sym, ap, ◌∙◌}
 use mathlib.Core.Bool.{Bool, true, false, cond, ◌&&◌, ◌||◌}
 use mathlib.Core.List.{List}
-use Prim.Native.Nat.{ℕ, suc, ◌+◌, ◌-◌, ◌*◌, ◌<◌, ◌≤◌}
+use Prim.Native.Nat.{ℕ, ◌+◌, ◌-◌, ◌*◌, ◌<◌, ◌≤◌}
 use native.Mathlib.Nat.{not-suc-le-zero, mul-le-mul_right}
 use native.Mathlib.Omega.{arith}
 use borrow.Author.Tests.{ltb-true, ltb-false, leb-true, leb-false, eqb-true, eqb-false, lt-ltb, le-ltb, le-leb, lt-leb}
 use lib.Dec.{leb, ltb, eqb}
 use lib.IntN.{ℤ, pos, nat_abs, ◌+ℤ◌, +ℤ_idr}
-use lib.ListN.{length, get_or, take, drop, set}
+use lib.ListN.{length, get_or, take, set}
 use lib.Seq.{get_or-set_same, get_or-set_other, get_or-take, get_or-drop, take-set-le}
 use Rattle.values.proofs.All.{and_parts}
 use Rattle.cells.specs.inner.Touched.{Touched}
 use Rattle.cells.proofs.Touched.{untouched, touched_set, touched_then, touched_more}
 use Rattle.basket.specs.Basket.{groups, rows}
-use Rattle.basket.specs.inner.Adding.{
-  largest_so_far,
-  RowRoom,
-  Added,
-  cell_at,
-  Light,
-  between,
-  RowsAdded,
-  BarsRoom,
-}
+use Rattle.basket.specs.inner.Adding.{RowRoom, Added, cell_at, Light, between, RowsAdded, BarsRoom}
 
 -- ---- cells that stay
 
@@ -146,9 +137,11 @@ pub two_rows : {l q b e : ℕ} {x y : ℕ → ℤ} {old mid now : List ℤ} → 
 two_rows {l} {q} {b} {e} {x} {y} {old} {mid} {now} v w (row, o, u) same =
     record {
       cells = λ r j h k.
-          join (eqb r q) (eqb r groups) (between b e j) (cell_at l old r j) (cell_at l mid r j) (cell_at l now r j) (y j)
+          join (eqb r q) (eqb r groups) (between b e j) (cell_at l old r j) (cell_at l mid r j) (cell_at l now r j)
+          (y j)
           (apart r)
-          (row_cell_lem l q b e v o u r j k ∙ ap (λ (z : ℤ). cell_at l old r j +ℤ z) (cond_at (eqb r q) (between b e j) _ _
+          (row_cell_lem l q b e v o u r j k ∙ ap (λ (z : ℤ). cell_at l old r j +ℤ z)
+          (cond_at (eqb r q) (between b e j) _ _
           (reach j)))
           (row_cell_lem l groups b e w o u r j k
           ∙ ap (λ (z : ℤ). cell_at l mid r j +ℤ z) (cond_at (eqb r groups) (between b e j) _ _ (reach j)));

@@ -8,13 +8,12 @@ use native.Mathlib.Omega.{arith}
 use borrow.Author.Tests.{leb-true, leb-false}
 use lib.Dec.{leb, eqb}
 use lib.IntN.{ℤ, ◌*ℤ◌}
-use lib.ListN.{length, get_or, take, drop, length-take, length-drop}
+use lib.ListN.{length, take, drop, length-take, length-drop}
 use lib.Seq.{get_or-take, get_or-drop}
 use lib.Ieee.{Float, nan}
-use Rattle.limits.specs.Limits.{Window}
 use Rattle.values.specs.Accepted.{accepted, all}
 use Rattle.values.proofs.All.{all_at, all_of}
-use Rattle.cells.specs.Line.{Line, line, Same, Causal}
+use Rattle.cells.specs.Line.{Line, line, Causal}
 use Rattle.cells.specs.Written.{Writing}
 use Rattle.cells.proofs.Written.{read_back}
 use Rattle.cells.specs.inner.Touched.{Touched}

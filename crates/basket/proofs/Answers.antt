@@ -80,7 +80,8 @@ one_onward f n k h =
 pub record Onward (f : ℕ → Contract) (n : ℕ) (next : Answer) (k : ℕ) (x : Answer) : Type 0 where
   pub is : x ≡ each_answered (onward f n k) next
 
-pub none_answered : (f : ℕ → Contract) (n : ℕ) (next : Answer) → Onward f n next 0 (each_answered (first_cells n f) next)
+pub none_answered : (f : ℕ → Contract) (n : ℕ) (next : Answer)
+    → Onward f n next 0 (each_answered (first_cells n f) next)
 none_answered f n next =
     record { is = ap (λ (cs : List Contract). each_answered cs next) (from_first f n) }
 
@@ -125,7 +126,8 @@ pub part_long : (l : ℕ) (series : List Float) (k : ℕ) → k * l + l ≤ leng
 part_long l series k h = rw (part_same l series k) (simp (length-take, length-drop) (omega arith))
 
 pub contract_is : (l : ℕ) (series : List Float) (table : List ℕ) (weights : List ℤ) (k : ℕ)
-    → contract_of (take (k * l + l - k * l) (drop (k * l) series)) (get_or table (5 * k + 1) 0) (get_or table (5 * k + 2) 0)
+    → contract_of (take (k * l + l - k * l) (drop (k * l) series)) (get_or table (5 * k + 1) 0)
+    (get_or table (5 * k + 2) 0)
     (get_or table (5 * k + 3) 0) (get_or table (5 * k + 4) 0) (get_or weights k (pos 0))
     ≡ contract_at l series table weights k
 unfolding contract_at
@@ -134,7 +136,8 @@ contract_is l series table weights k = rw (part_same l series k)
 -- and its answer is that of these
 pub own_of : (l : ℕ) (series : List Float) (table : List ℕ) (weights : List ℤ) (k : ℕ) → k * l + l ≤ length series
     → let part = take (k * l + l - k * l) (drop (k * l) series) in
-    answer_by_rule (get_or table (5 * k + 1) 0) (get_or table (5 * k + 2) 0) (get_or table (5 * k + 3) 0) part (length part)
+    answer_by_rule (get_or table (5 * k + 1) 0) (get_or table (5 * k + 2) 0) (get_or table (5 * k + 3) 0) part
+    (length part)
     (8 * l)
     ≡ own_answer (contract_at l series table weights k)
 unfolding own_answer contract_at
@@ -223,7 +226,8 @@ module _ (series : List Float) (table : List ℕ) (weights : List ℤ) (out work
     not_whole e = rw (listed_table, ← p, ← q, e)
 
     module _ (e : s && t ≡ true) where
-      pub no_output : out / rows < get_or table 0 0 → Refused OutputTooShort ≡ listed_answer series table weights out work
+      pub no_output : out / rows < get_or table 0 0
+          → Refused OutputTooShort ≡ listed_answer series table weights out work
       no_output h = rw (listed_table, ← p, ← q, e, lt-leb (rows * get_or table 0 0) out (omega arith))
 
       module _ (room : get_or table 0 0 ≤ out / rows) where

@@ -9,7 +9,7 @@ use Rattle.cells.proofs.Line.{from_bar_lem}
 use Rattle.windows.specs.Window.{mean, over, sum_from, window_sum}
 use Rattle.extremes.specs.Extreme.{larger, smaller, pick_from, extreme}
 use Rattle.rules_single.specs.Single.{against_mean, single_line}
-use Rattle.rules_middle.specs.Middle.{against_middle, mid_line}
+use Rattle.rules_middle.specs.Middle.{mid_line}
 
 -- the line from bar a on
 abbrev pub later : ℕ → Line → Line

@@ -19,7 +19,7 @@ use Rattle.cells.specs.inner.Touched.{Touched}
 use Rattle.cells.proofs.Touched.{touched, touched_then, written_over_all}
 use Rattle.cells.proofs.Written.{read_back, stood}
 use Rattle.calls.specs.Answer.{count_of}
-use Rattle.rules.specs.Position.{by_side, whole_position}
+use Rattle.rules.specs.Position.{whole_position}
 use Rattle.basket.specs.Basket.{
   Contract,
   groups,
@@ -225,24 +225,25 @@ module _ {l : ℕ} (f : ℕ → Contract) {old now : List ℤ} where
 module _ {series : List Float} {table : List ℕ} {weights : List ℤ} {l : ℕ} {out₀ out₁ : List ℤ} {work₀ work₁ : List
     Float}
     (o : Opened series table weights l (length out₀) (length work₀)) (k : ℕ)
-    (v : Netted l (first_cells k (contract_at l series table weights)) out₀ out₁) (t : Touched (8 * l) work₀ work₁) where
-  -- the slices are as long as before
-  pub still_opened : Opened series table weights l (length out₁) (length work₁)
-  still_opened = rw (v.rest.long, t.long) o
+    (v : Netted l (first_cells k (contract_at l series table weights)) out₀ out₁) (t : Touched (8 * l) work₀ work₁)
+  where
+    -- the slices are as long as before
+    pub still_opened : Opened series table weights l (length out₁) (length work₁)
+    still_opened = rw (v.rest.long, t.long) o
 
-  -- they have room for the next contract
-  pub next_lent : {block block₁ : ℕ} → part_bars ≤ block → block₁ ≡ block → k < length weights
-      → Lent l out₁ block₁ (length work₁)
-  next_lent p e h =
-      let few = o.sized.shape.few in
-      record {
-        room = rw v.rest.long o.sized.out_long;
-        small = record {
-          cells = λ r j i from u.
-              let size = net_small (contract_at l series table weights) r j k (λ n m.
-              let ready = o.each n (omega arith) in (ready.some, ready.light)) in
-              rw (v.cells r j i u) (omega (arith, mul-le-mul_right largest_weight h));
-        };
-        block_long = rw e p;
-        work_long = rw t.long o.sized.work_long;
-      }
+    -- they have room for the next contract
+    pub next_lent : {block block₁ : ℕ} → part_bars ≤ block → block₁ ≡ block → k < length weights
+        → Lent l out₁ block₁ (length work₁)
+    next_lent p e h =
+        let few = o.sized.shape.few in
+        record {
+          room = rw v.rest.long o.sized.out_long;
+          small = record {
+            cells = λ r j i from u.
+                let size = net_small (contract_at l series table weights) r j k (λ n m.
+                let ready = o.each n (omega arith) in (ready.some, ready.light)) in
+                rw (v.cells r j i u) (omega (arith, mul-le-mul_right largest_weight h));
+          };
+          block_long = rw e p;
+          work_long = rw t.long o.sized.work_long;
+        }

@@ -5,11 +5,11 @@ use mathlib.Core.List.{List, [], ◌∷◌}
 use Prim.Native.Nat.{ℕ, zero, suc, ◌-◌, ◌*◌, ◌<◌, ◌≤◌}
 use native.Mathlib.Omega.{arith}
 use borrow.Author.Tests.{leb-true, le-leb, lt-ltb, le-ltb, ne_eqb}
-use lib.Dec.{leb, ltb, eqb}
+use lib.Dec.{leb, eqb}
 use lib.IntN.{ℤ, pos, ◌*ℤ◌, *ℤ-zero}
 use lib.ListN.{length}
 use lib.Ieee.{Float, nan}
-use Rattle.limits.specs.Limits.{longest_window, Window}
+use Rattle.limits.specs.Limits.{longest_window}
 use Rattle.values.specs.Accepted.{accepted}
 use Rattle.values.proofs.All.{and_parts}
 use Rattle.cells.specs.Line.{line}

@@ -59,9 +59,9 @@ nets : map (λ r. first_cells 3 (λ j. net_line 3 (contracts_of 3 series table w
     ∷ (pos 0 ∷ pos 0 ∷ pos 0 ∷ [])
     ∷ (pos 0 ∷ negsuc 1 ∷ pos 5 ∷ [])
     ∷ []
-unfolding net_line net of_group contract_at position_of own_answer own_line answered double_answer slices checked windowed
-    accepted single_line double_line mid_line mean window_sum extreme pick_from running_mean running_sum recur sum_from from_bar
-    sign_of add sub div of_int lt eq le to_bits round
+unfolding net_line net of_group contract_at position_of own_answer own_line answered double_answer slices checked
+    windowed accepted single_line double_line mid_line mean window_sum extreme pick_from running_mean running_sum recur
+    sum_from from_bar sign_of add sub div of_int lt eq le to_bits round
 nets = refl
 
 -- the answer of one contract with one bar, weight w, and so many output and work cells

@@ -24,7 +24,8 @@ unfolding first_bar
 first_bar_most t zero e = rw e (omega arith)
 first_bar_most t (suc j) e = go (t 0) (first_bar_most (λ i. t (suc i)) j e)
   where
-    go : (p : Bool) → first_bar (λ i. t (suc i)) (suc j) ≤ j → cond p 0 (suc (first_bar (λ i. t (suc i)) (suc j))) ≤ suc j
+    go : (p : Bool) → first_bar (λ i. t (suc i)) (suc j) ≤ j
+        → cond p 0 (suc (first_bar (λ i. t (suc i)) (suc j))) ≤ suc j
     go true h = omega arith
     go false h = omega arith
 

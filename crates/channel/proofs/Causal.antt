@@ -2,7 +2,6 @@
 use Prim.Native.Nat.{ℕ, ◌-◌, ◌/◌}
 use native.Mathlib.Omega.{arith}
 use lib.Ieee.{Float}
-use Rattle.cells.specs.Line.{Line}
 use Rattle.true_range.specs.declared.CloseBefore.{CloseBefore}
 use Rattle.true_range.proofs.TrueRange.{Causal₃, causal₃-then, causal_close, causal_ranges}
 use Rattle.averages_wilder.proofs.Causal.{causal_wilder}

@@ -17,7 +17,7 @@ use Rattle.calls.specs.declared.Answer.{Answer}
 use Rattle.calls.specs.declared.Answer.TheVariants.{Cells}
 use Rattle.calls.specs.Answer.{count_of, cleared_of, unless, checked, limited, unless_empty}
 use Rattle.calls.proofs.Call.{AllBars}
-use Rattle.calls.proofs.Room.{Asked, asked, and_then_cells, unless_cells, or_parts, nonzero, same_count}
+use Rattle.calls.proofs.Room.{asked, and_then_cells, unless_cells, or_parts, nonzero, same_count}
 use Rattle.cells.specs.Line.{Line, line}
 use Rattle.cells.specs.Recur.{carried}
 use Rattle.cells.specs.Written.{Writing}
@@ -83,7 +83,8 @@ module _ (high low close : List Float) (n : ℕ) (k : Float) (first : CloseBefor
   pub channel_bars : AllBars due (length high)
   unfolding channel_answer
   channel_bars j e h =
-      let next = (and_then_cells (checked accepted (high ∷ low ∷ close ∷ []) (a ∷ b ∷ c ∷ []) (work ∷ [])) rest j e).1 in
+      let next =
+      (and_then_cells (checked accepted (high ∷ low ∷ close ∷ []) (a ∷ b ∷ c ∷ []) (work ∷ [])) rest j e).1 in
       let parameters = (unless_cells (accepted_close first) _ asks j next).1 in
       let all = (asked (length high) (k ∷ []) [] (n ∷ []) long j parameters h).rest in
       sym (same_count _ _ (unless_cells (leb n (length high + 1)) _ _ j all).1)

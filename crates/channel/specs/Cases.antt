@@ -68,9 +68,9 @@ channel_cases : (shown 2 (num 2) (prices (pos 5 ∷ pos 7 ∷ pos 9 ∷ pos 8 �
     ∷ 0x4023555555555555 ∷ 0x401f1c71c71c71c6 ∷ 0x401e42cd7898c95a ∷ 0x402740c3e107598e ∷ 0x402c96c08405a4b6 ∷ [])
     ∷ bits (0x7ff8000000000000 ∷ 0x7ff8000000000000 ∷ 0x4011555555555556 ∷ 0x4001c71c71c71c73 ∷ 0x3ff5794283f0d830
     ∷ 0x401092ecb21e0ebd ∷ 0x401d3d479f90795d ∷ []) ∷ []))
-unfolding upper_line lower_line channel_width average_range smooth formula coefficients of_pair a1_of b1_of a1_table b1_table
-    a1_bits b1_bits true_ranges true_range given_before wilder carried recur sum_from from_bar magnitude_of neg add sub mul div
-    of_int of_bits round lt eq
+unfolding upper_line lower_line channel_width average_range smooth formula coefficients of_pair a1_of b1_of a1_table
+    b1_table a1_bits b1_bits true_ranges true_range given_before wilder carried recur sum_from from_bar magnitude_of neg
+    add sub mul div of_int of_bits round lt eq
 channel_cases = (refl, refl)
 
 -- period 1 smooths its width with period 0: the outer lines are NaN from bar 4 on; period 4: they have a number at
@@ -109,13 +109,14 @@ channel_edges : (shown 1 plus_one (prices (pos 5 ∷ pos 7 ∷ pos 9 ∷ pos 8 �
     ≡ (bits (0x4010000000000000 ∷ []) ∷ bits (0x4020000000000000 ∷ []) ∷ (plus_zero ∷ []) ∷ []))
     × (shown 2 plus_one (prices (pos 0 ∷ pos 0 ∷ pos 0 ∷ pos 0 ∷ pos 0 ∷ [])) (prices (pos 0 ∷ pos 0 ∷ pos 0 ∷ pos 0
     ∷ pos 0 ∷ [])) (prices (pos 0 ∷ pos 0 ∷ pos 0 ∷ pos 0 ∷ pos 0 ∷ []))
-    ≡ ((plus_zero ∷ plus_zero ∷ plus_zero ∷ plus_zero ∷ plus_zero ∷ []) ∷ (nan ∷ plus_zero ∷ plus_zero ∷ plus_zero ∷ plus_zero
+    ≡ ((plus_zero ∷ plus_zero ∷ plus_zero ∷ plus_zero ∷ plus_zero ∷ [])
+    ∷ (nan ∷ plus_zero ∷ plus_zero ∷ plus_zero ∷ plus_zero
     ∷ []) ∷ (nan ∷ plus_zero ∷ plus_zero ∷ plus_zero ∷ plus_zero ∷ []) ∷ []))
     × (shown 1 (num 2) (prices (pos 3 ∷ [])) (prices (pos 5 ∷ [])) (prices (pos 4 ∷ []))
     ≡ (bits (0x4010000000000000 ∷ []) ∷ (plus_zero ∷ []) ∷ bits (0x4020000000000000 ∷ []) ∷ []))
-unfolding upper_line lower_line channel_width average_range smooth formula coefficients of_pair a1_of b1_of a1_table b1_table
-    a1_bits b1_bits true_ranges true_range given_before wilder carried recur sum_from from_bar magnitude_of neg add sub mul div
-    of_int of_bits round lt eq
+unfolding upper_line lower_line channel_width average_range smooth formula coefficients of_pair a1_of b1_of a1_table
+    b1_table a1_bits b1_bits true_ranges true_range given_before wilder carried recur sum_from from_bar magnitude_of neg
+    add sub mul div of_int of_bits round lt eq
 channel_edges = (refl, refl, refl, refl, refl, refl, refl, refl)
 
 -- a bar from 3 to 5 that closes at 4, of a close before it: above the bar, below it and inside it; and two bars, whose
@@ -129,20 +130,23 @@ first_cases : (shown_from (Known (num 9)) 1 plus_one (num 5 ∷ []) (num 3 ∷ [
     × (shown_from (Known (num 9)) 2 (num 2) (prices (pos 5 ∷ pos 7 ∷ [])) (prices (pos 3 ∷ pos 4
     ∷ [])) (prices (pos 4 ∷ pos 6 ∷ []))
     ≡ (prices (pos 4 ∷ pos 6 ∷ []) ∷ (nan ∷ num 15 ∷ []) ∷ (nan ∷ prices (negsuc 2 ∷ [])) ∷ []))
-unfolding upper_line lower_line channel_width average_range smooth formula coefficients of_pair a1_of b1_of a1_table b1_table
-    a1_bits b1_bits true_ranges true_range given_before wilder carried recur sum_from from_bar magnitude_of neg add sub mul div
-    of_int of_bits round lt eq
+unfolding upper_line lower_line channel_width average_range smooth formula coefficients of_pair a1_of b1_of a1_table
+    b1_table a1_bits b1_bits true_ranges true_range given_before wilder carried recur sum_from from_bar magnitude_of neg
+    add sub mul div of_int of_bits round lt eq
 first_cases = (refl, refl, refl, refl)
 
 -- a period of L + 1, and of L + 2; the longest, and longer; 0; a multiplier that is not finite; series of
 -- unequal length; one of three outputs too short; no bars
-channel_answers : channel_answer (plus_zero ∷ []) (plus_zero ∷ []) (plus_zero ∷ []) 2 plus_one Unknown (1 ∷ 1 ∷ 1 ∷ []) 8
+channel_answers : channel_answer (plus_zero ∷ []) (plus_zero ∷ []) (plus_zero ∷ []) 2 plus_one Unknown (1 ∷ 1 ∷ 1 ∷ [])
+    8
     ∷ channel_answer (plus_zero ∷ []) (plus_zero ∷ []) (plus_zero ∷ []) 3 plus_one Unknown (1 ∷ 1 ∷ 1 ∷ []) 8
-    ∷ channel_answer (plus_zero ∷ []) (plus_zero ∷ []) (plus_zero ∷ []) longest_period plus_one Unknown (1 ∷ 1 ∷ 1 ∷ []) 8
+    ∷ channel_answer (plus_zero ∷ []) (plus_zero ∷ []) (plus_zero ∷ []) longest_period plus_one Unknown (1 ∷ 1 ∷ 1 ∷ [])
+    8
     ∷ channel_answer (plus_zero ∷ []) (plus_zero ∷ []) (plus_zero ∷ []) (suc longest_period) plus_one Unknown
     (1 ∷ 1 ∷ 1 ∷ []) 8
     ∷ channel_answer (plus_zero ∷ []) (plus_zero ∷ []) (plus_zero ∷ []) 0 plus_one Unknown (1 ∷ 1 ∷ 1 ∷ []) 8
-    ∷ channel_answer (plus_zero ∷ []) (plus_zero ∷ []) (plus_zero ∷ []) (suc longest_period) nan Unknown (1 ∷ 1 ∷ 1 ∷ []) 8
+    ∷ channel_answer (plus_zero ∷ []) (plus_zero ∷ []) (plus_zero ∷ []) (suc longest_period) nan Unknown
+    (1 ∷ 1 ∷ 1 ∷ []) 8
     ∷ channel_answer (plus_zero ∷ []) (plus_zero ∷ []) [] 2 plus_one Unknown (1 ∷ 1 ∷ 1 ∷ []) 8
     ∷ channel_answer (plus_zero ∷ []) (plus_zero ∷ []) (plus_zero ∷ []) 2 plus_one Unknown (1 ∷ 1 ∷ 0 ∷ []) 8
     ∷ channel_answer [] [] [] 9 plus_one Unknown (0 ∷ 0 ∷ 0 ∷ []) 0

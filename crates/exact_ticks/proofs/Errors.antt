@@ -27,7 +27,7 @@ unfolding sum_from total
 sum_about {c = c} i zero s l h = about_weaken _ (about_minus_zero binary64 c) (omega arith)
 sum_about {f} {z} {a} {c} {e} {b} i (suc k) s l h =
     let shorter : Standing f z a k c e b =
-        record { about = λ j m. s.about j (omega arith); size = λ j m. s.size j (omega arith) } in
+    record { about = λ j m. s.about j (omega arith); size = λ j m. s.size j (omega arith) } in
     let p = sum_about {f = f} {z = z} {a = a} {c = c} {e = e} {b = b} i k shorter l (omega arith) in
     let q = s.about k (le_refl (suc k)) in
     let x = total_size z a k b (λ j m. s.size j (omega arith)) in

@@ -1,1 +1,3 @@
+#![tactic(auto)]
+
 // What holds of windows, means and extremes of whole ticks: see proofs/.

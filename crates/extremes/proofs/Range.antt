@@ -9,7 +9,7 @@ use Rattle.cells.specs.Line.{Line, plus_zero}
 use Rattle.cells.proofs.Line.{before_bar}
 use Rattle.extremes.specs.declared.blocks.HighLow.{HighLow}
 use Rattle.extremes.specs.Extreme.{larger, smaller, extreme}
-use Rattle.extremes.specs.inner.Best.{Numbers, Best}
+use Rattle.extremes.specs.inner.Best.{Numbers}
 use Rattle.extremes.specs.inner.Range.{RangeOf, alone, joined}
 use Rattle.extremes.proofs.Best as Best
 

@@ -1,5 +1,5 @@
 -- Lines that are NaN at every bar. The warm-up of an average stays in the smoother's feedback. Assumes nothing.
-use Rattle.std.specs.Prelude.{◌≡◌, List, ℕ, ◌<◌, ◌≤◌, length, get_or, Float}
+use Rattle.std.specs.Prelude.{◌≡◌, List, ℕ, ◌<◌, ◌≤◌, get_or, Float}
 use Rattle.std.proofs.Common.{sym, ◌∙◌, arith}
 use Rattle.std.specs.Float.{nan}
 use Rattle.cells.specs.Line.{line, plus_zero}

@@ -2,7 +2,7 @@
 -- rule against the relative strength index is +1, -1 or 0; of two neighbouring cells of a reverse rule never is one +1
 -- and the other -1; a rolling rank lies from 1 to its window. Assumes nothing.
 use Rattle.std.specs.Prelude.{◌≡◌, refl, ◌⊎◌, ◌&&◌, List, [], ◌∷◌, ℕ, suc, ◌+◌, ◌-◌, ◌<◌, ◌≤◌, leb, ℤ, length, get_or, Float}
-use Rattle.std.proofs.Common.{sym, inl, inr, arith}
+use Rattle.std.proofs.Common.{inl, inr, arith}
 use Rattle.std.specs.Float.Ieee.{lt}
 use Rattle.calls.specs.declared.Answer.{Answer}
 use Rattle.calls.specs.declared.Answer.TheVariants.{Cells}

@@ -14,14 +14,14 @@ use Rattle.calls.specs.Answer.{count_of, cleared_of, checked, limited, unless_em
 use Rattle.calls.proofs.Call.{AllBars}
 use Rattle.calls.proofs.Room.{asked, and_then_cells, empty_if_cells, same_count}
 use Rattle.checks.proofs.Passed.{one_passed, one_clearable}
-use Rattle.cells.specs.Line.{Line, plus_zero}
+use Rattle.cells.specs.Line.{Line}
 use Rattle.cells.proofs.Written.{one_more, stands, then_written, writing_same}
 use Rattle.windows.specs.Window.{mean}
 use Rattle.cells.specs.inner.Scratch.{put_at}
 use Rattle.cells.proofs.Scratch.{one_put, goes_on, then_put, scratch_same}
 use Rattle.holt_winters.specs.declared.Fit.{Fit}
 use Rattle.holt_winters.specs.declared.Weights.{Weights}
-use Rattle.holt_winters.specs.HoltWinters.{first_fit, next_fit, total, fit_line, holt_winters_line, holt_winters_answer}
+use Rattle.holt_winters.specs.HoltWinters.{first_fit, next_fit, total, fit_line, holt_winters_answer}
 use Rattle.holt_winters.specs.inner.Stages.{SeasonRoom, First, Smoothed}
 use Rattle.holt_winters.proofs.Bars.{fit_first, fit_next, cell_first, cell_later}
 
@@ -93,7 +93,8 @@ module _ (s : List Float) (m : ℕ) (w : Weights) (out work : ℕ) where
   abbrev rest : Answer
   rest = limited numbers (m ∷ []) [] (unless_empty (length s) (m ∷ []) [] whole)
 
-  pub holt_winters_clearable : {r : Answer} → r ≡ holt_winters_answer s m w out work → cleared_of r (8 * length s) ≤ work
+  pub holt_winters_clearable : {r : Answer} → r ≡ holt_winters_answer s m w out work
+      → cleared_of r (8 * length s) ≤ work
   unfolding holt_winters_answer
   holt_winters_clearable e = one_clearable s out work rest e
 
@@ -106,7 +107,8 @@ module _ (s : List Float) (m : ℕ) (w : Weights) (out work : ℕ) where
       sym (same_count _ _ (empty_if_cells (ltb (length s) m) _ k a.rest h).1)
 
   -- and where they are due, all is in order
-  pub holt_winters_ready : {r : Answer} → r ≡ holt_winters_answer s m w out work → 0 < count_of r → SeasonRoom m s out work
+  pub holt_winters_ready : {r : Answer} → r ≡ holt_winters_answer s m w out work → 0 < count_of r
+      → SeasonRoom m s out work
   unfolding holt_winters_answer
   holt_winters_ready {r} e h =
       let p = one_passed s out work rest e h in

@@ -65,4 +65,5 @@ abbrev pub HoltWintersCall : List Float → ℕ → Float → Float → Float �
     → List Float → Type 0
 HoltWintersCall s m alpha beta gamma out₀ work₀ =
     let w = weights alpha beta gamma in
-    WorkCall (holt_winters_answer s m w (length out₀) (length work₀)) (holt_winters_line m w (line s)) out₀ (length s) work₀
+    WorkCall (holt_winters_answer s m w (length out₀) (length work₀)) (holt_winters_line m w (line s)) out₀ (length s)
+    work₀

@@ -36,8 +36,8 @@ jurik_cases : (cells_of (jurik_line 6 6 plus_one) (prices (pos 1 ∷ pos 2 ∷ p
     ≡ bits (0 ∷ 0 ∷ 0x4004000000000000 ∷ 0xbff8000000000000 ∷ 0x4029000000000000 ∷ []))
     × (cells_of (jurik_line 5 1 plus_one) (prices (pos 1 ∷ pos 2 ∷ pos 4 ∷ pos 3 ∷ pos 7 ∷ []))
     ≡ bits (0 ∷ 0 ∷ 0x401c000000000000 ∷ 0xc040800000000000 ∷ 0x405cc00000000000 ∷ []))
-unfolding jurik_line jurik_with smooth1 smooth2 jv_of jv price_change averaged copied first_differing change carried first_bar
-    recur from_bar magnitude_of is_nan neg add sub mul div of_int of_bits round eq
+unfolding jurik_line jurik_with smooth1 smooth2 jv_of jv price_change averaged copied first_differing change carried
+    first_bar recur from_bar magnitude_of is_nan neg add sub mul div of_int of_bits round eq
 jurik_cases = (refl, refl, refl, refl)
 
 -- equal changes are left as they are at every pass: one tenth a bar stays that, where an average would round; of four
@@ -52,13 +52,14 @@ jurik_equal : (cells_of (jurik_line 5 7 plus_one) (bits (0 ∷ 0x3fb999999999999
     ≡ bits (0 ∷ 0 ∷ 0x4012000000000000 ∷ 0xc012000000000000 ∷ 0x400c000000000000 ∷ []))
     × (cells_of (jurik_line 4 3 plus_one) (prices (pos 5 ∷ pos 5 ∷ pos 5 ∷ pos 5 ∷ []))
     ≡ (plus_zero ∷ plus_zero ∷ plus_zero ∷ plus_zero ∷ []))
-    × (cells_of (jurik_line 3 2 plus_one) (prices (pos 0 ∷ pos 0 ∷ pos 0 ∷ [])) ≡ (plus_zero ∷ plus_zero ∷ plus_zero ∷ []))
+    × (cells_of (jurik_line 3 2 plus_one) (prices (pos 0 ∷ pos 0 ∷ pos 0 ∷ []))
+    ≡ (plus_zero ∷ plus_zero ∷ plus_zero ∷ []))
     × (cells_of (jurik_line 5 5 plus_zero) (prices (pos 1 ∷ pos 2 ∷ pos 4 ∷ pos 3 ∷ pos 7 ∷ []))
     ≡ (plus_zero ∷ plus_zero ∷ plus_zero ∷ plus_zero ∷ plus_zero ∷ []))
     × (cells_of (jurik_line 1 3 plus_one) (prices (pos 7 ∷ [])) ≡ (plus_zero ∷ []))
     × (cells_of (jurik_line 2 3 plus_one) (prices (pos 7 ∷ pos 9 ∷ [])) ≡ (plus_zero ∷ plus_zero ∷ []))
-unfolding jurik_line jurik_with smooth1 smooth2 jv_of jv price_change averaged copied first_differing change carried first_bar
-    recur from_bar magnitude_of is_nan neg add sub mul div of_int of_bits round eq
+unfolding jurik_line jurik_with smooth1 smooth2 jv_of jv price_change averaged copied first_differing change carried
+    first_bar recur from_bar magnitude_of is_nan neg add sub mul div of_int of_bits round eq
 jurik_equal = (refl, refl, refl, refl, refl, refl, refl, refl)
 
 -- the third pass starts at the first cell that is not 0; n 1 of a single step; a power below 0
@@ -68,8 +69,8 @@ jurik_zeros : (cells_of (jurik_line 6 3 plus_one) (prices (pos 5 ∷ pos 5 ∷ p
     ≡ bits (0 ∷ 0 ∷ 0 ∷ 0x4018000000000000 ∷ 0xc041000000000000 ∷ 0x4053800000000000 ∷ 0xc061400000000000 ∷ []))
     × (cells_of (jurik_line 5 4 (of_int binary64 (negsuc 2))) (prices (pos 1 ∷ pos 2 ∷ pos 4 ∷ pos 3 ∷ pos 7 ∷ []))
     ≡ bits (0 ∷ 0 ∷ 0xc013ffffffffffff ∷ 0xc00d555555555556 ∷ 0xc02271c71c71c71c ∷ []))
-unfolding jurik_line jurik_with smooth1 smooth2 jv_of jv price_change averaged copied first_differing change carried first_bar
-    recur from_bar magnitude_of is_nan neg add sub mul div of_int of_bits round eq
+unfolding jurik_line jurik_with smooth1 smooth2 jv_of jv price_change averaged copied first_differing change carried
+    first_bar recur from_bar magnitude_of is_nan neg add sub mul div of_int of_bits round eq
 jurik_zeros = (refl, refl, refl)
 
 -- one bar; a power that is not finite before a window too long; a window of 0; no bars

@@ -17,7 +17,7 @@ use native.Mathlib.Nat.{
 }
 use native.Mathlib.Omega.{arith}
 use lib.Dec.{T, ltb, ltb→lt, nltb→le, lit≤, lit<}
-use lib.IntN.{ℤ, pos, negsuc, nat_abs, ◌+ℤ◌, ◌-ℤ◌}
+use lib.IntN.{pos, negsuc, nat_abs, ◌+ℤ◌, ◌-ℤ◌}
 use lib.ListN.{length}
 use lib.Signed.{lt_z}
 use lib.Pow.{pow_pos}
@@ -80,7 +80,8 @@ magnitude_plus nan n = absurd n.ends
 magnitude_plus (inf s) n = absurd n.ends
 magnitude_plus (fin s m e) n = record { number = magnitude_number (fin s m e) n; sign = refl }
 
-magnitude_size : (x : Float) → Number binary64 x → in_units binary64 (magnitude_of x) ≡ nat_abs (signed_units binary64 x)
+magnitude_size : (x : Float) → Number binary64 x
+    → in_units binary64 (magnitude_of x) ≡ nat_abs (signed_units binary64 x)
 magnitude_size x n = sym (abs_units binary64 (magnitude_of x)) ∙ ap nat_abs (magnitude_units x n)
 
 -- M is no less than the magnitudes of the first k prices

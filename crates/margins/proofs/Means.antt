@@ -114,7 +114,8 @@ spread m d = m * (2 ^ 18 + 4) + 2 ^ 53 + d
 -- g made afresh.
 module _ {m n l : ℕ} {g h : Line} (w : Windowed m n l g) (v : Windowed m n l h) (d : ℕ)
     (D : (j : ℕ) → j < l → nat_abs (signed_units binary64 (h j) -ℤ signed_units binary64 (g j)) * 2 ^ 53 ≤ d) where
-  pub average_near : {c : ℕ} {y : Float} (i : ℕ) → Carried m n h (i + 1) c y → n ≤ i + 1 → i < l → n + c ≤ longest_summed
+  pub average_near : {c : ℕ} {y : Float} (i : ℕ) → Carried m n h (i + 1) c y → n ≤ i + 1 → i < l
+      → n + c ≤ longest_summed
       → nat_abs (signed_units binary64 (over n y) -ℤ signed_units binary64 (over n (window_sum n g i))) * 2 ^ 53
       ≤ spread m d
   average_near {c} {y} i r b H L =
@@ -198,7 +199,8 @@ module _ {m n l : ℕ} {g h : Line} (w : Windowed m n l g) (v : Windowed m n l h
   pub running_means_near : (d : ℕ)
       → ((j : ℕ) → j < l → nat_abs (signed_units binary64 (h j) -ℤ signed_units binary64 (g j)) * 2 ^ 53 ≤ d)
       → (i : ℕ) → i < l
-      → nat_abs (signed_units binary64 (running_means n h i) -ℤ signed_units binary64 (mean n g i)) * 2 ^ 53 ≤ spread m d
+      → nat_abs (signed_units binary64 (running_means n h i) -ℤ signed_units binary64 (mean n g i)) * 2 ^ 53 ≤ spread m
+      d
   running_means_near d D i H =
       at_every_bar (λ x y. nat_abs (signed_units binary64 x -ℤ signed_units binary64 y) * 2 ^ 53 ≤ spread m d) n i g h
       w.some w.narrow (rw zero_units (omega arith))

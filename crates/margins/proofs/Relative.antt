@@ -148,7 +148,8 @@ pub near_apart : (v z : ℤ) {e : ℕ} → Near ((above v + below z) * 2 ^ 53) (
 near_apart v z h = rw (abs_gap v z) (omega arith)
 
 pub off_near : {x : Float} {z : ℤ} {e : ℕ} → Off x z e
-    → Near ((above (signed_units binary64 x) + below z) * 2 ^ 53) ((above z + below (signed_units binary64 x)) * 2 ^ 53) e
+    → Near ((above (signed_units binary64 x) + below z) * 2 ^ 53) ((above z + below (signed_units binary64 x)) * 2 ^ 53)
+    e
 off_near {x} {z} o = apart_near (signed_units binary64 x) z o.close
 
 -- the largest numbers are farther off

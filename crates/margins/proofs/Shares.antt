@@ -17,7 +17,7 @@ use native.Mathlib.Omega.{arith}
 use lib.Dec.{lit≤, lit<}
 use lib.IntN.{ℤ, pos, nat_abs, ◌+ℤ◌, ◌-ℤ◌}
 use lib.Pow.{pow_pos}
-use lib.Ieee.{Float, binary64, unlike, up, add, sub, mul, fits}
+use lib.Ieee.{Float, binary64, unlike, add, sub, mul, fits}
 use lib.Ieee.Scale.{grid, overflow}
 use Rattle.rounding.specs.Leaves.{negative, plus_one}
 use Rattle.rounding.specs.Nearest.{signed, in_units, signed_units, Number}

@@ -87,7 +87,8 @@ module _ (s : List Float) (n : ℕ) (ok : all accepted s ≡ true) (floats : (j 
 
   -- the means are close
   pub once_near : (i : ℕ) → i < length s
-      → nat_abs (signed_units binary64 (running_means n (line s) i) -ℤ signed_units binary64 (mean n (line s) i)) * 2 ^ 53
+      → nat_abs (signed_units binary64 (running_means n (line s) i) -ℤ signed_units binary64 (mean n (line s) i)) * 2
+      ^ 53
       ≤ spread m 0
   once_near =
       running_means_near prices prices short 0 (λ j l. omega (arith, abs_same (signed_units binary64 (line s j))))

@@ -1,6 +1,6 @@
 -- The call of `ultimate_oscillator`: what is known where its cells are due, and its cells from the two rows. Assumes
 -- nothing.
-use mathlib.Core.Path.{◌≡◌, sym, ◌∙◌}
+use mathlib.Core.Path.{◌≡◌, sym}
 use mathlib.Core.List.{List, [], ◌∷◌}
 use Prim.Native.Nat.{ℕ, ◌+◌, ◌*◌, ◌<◌, ◌≤◌}
 use native.Mathlib.Omega.{arith}
@@ -14,7 +14,7 @@ use Rattle.calls.specs.Answer.{count_of, cleared_of, checked, windowed}
 use Rattle.calls.proofs.Call.{AllBars}
 use Rattle.calls.proofs.Room.{asked, and_then_cells, unless_cells, same_count}
 use Rattle.checks.proofs.Passed.{three_passed, three_clearable}
-use Rattle.cells.specs.Line.{Line, line, minus_zero}
+use Rattle.cells.specs.Line.{line, minus_zero}
 use Rattle.cells.specs.Written.{Writing}
 use Rattle.cells.proofs.Written.{writing_same}
 use Rattle.cells.specs.inner.Rows.{beside}

@@ -83,7 +83,8 @@ eight_shares n i f g p q =
 
 pub eight_cells : (z : Float) (n m k i : ℕ) (f g : Line) {x y w : Eight} → EightOf (share z n f g) i x
     → EightOf (share z m f g) i y
-    → EightOf (share z k f g) i w → max n (max m k) ≤ i + 1 → EightOf (weighed_shares z n m k f g) i (each_weighed x y w)
+    → EightOf (share z k f g) i w → max n (max m k) ≤ i + 1
+    → EightOf (weighed_shares z n m k f g) i (each_weighed x y w)
 eight_cells z n m k i f g a b c h =
     record {
       lane0 = cell_is z n m k i f g a.lane0 b.lane0 c.lane0 h;

@@ -8,14 +8,13 @@ use native.Mathlib.Nat.{zero-mul, zero-div, zero-lt-suc, mul-pos, mul-le-mul_lef
 use native.Mathlib.Omega.{arith}
 use borrow.Author.Tests.{ltb-true, ltb-false}
 use lib.Dec.{T, ltb, eqb, lit<}
-use lib.IntN.{ℤ, pos}
+use lib.IntN.{ℤ}
 use lib.Pow.{pow_pos}
 use lib.ListN.{length}
-use lib.Ieee.{Float, nan, inf, fin, Format, binary64, prec, emax, low, up, down, round, units, sum, sub, lt, fits, size}
+use lib.Ieee.{Float, nan, inf, fin, Format, binary64, prec, low, up, down, round, units, sum, sub, lt, fits, size}
 use lib.Ieee.{to_bits}
 use lib.Ieee.Fits.{down_pos, up_pos, round_is}
 use lib.Ieee.Exact.{HasValue, units_val}
-use lib.Ieee.Order.{kept, drop}
 use lib.Ieee.Scale.{grid, overflow}
 use Rattle.limits.specs.Limits.{value_power}
 use Rattle.rounding.specs.Leaves.{negative, magnitude_of}

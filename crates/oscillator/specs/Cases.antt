@@ -81,7 +81,8 @@ abbrev one_bar : ℕ → ℕ → ℕ → Answer
 one_bar = one_bar_from Unknown
 
 -- one bar; any window of 0; the longest window and one longer; series of unequal length; no bars
-oscillator_answers : one_bar 1 2 3 ∷ one_bar 1 0 3 ∷ one_bar longest_window 1 longest_window ∷ one_bar 1 0 (suc longest_window)
+oscillator_answers : one_bar 1 2 3 ∷ one_bar 1 0 3 ∷ one_bar longest_window 1 longest_window
+    ∷ one_bar 1 0 (suc longest_window)
     ∷ oscillator_answer (plus_zero ∷ []) [] (plus_zero ∷ []) 1 2 3 Unknown 1 8
     ∷ oscillator_answer [] [] [] 1 2 3 Unknown 0 0
     ∷ []

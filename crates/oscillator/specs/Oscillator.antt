@@ -54,7 +54,8 @@ weighed_shares z short medium long f g = from_bar (max short (max medium long) -
 -- the shares of pressure in true range, with a short, a medium and a long window and sums from 0.0
 unfoldable pub oscillator_line : ℕ → ℕ → ℕ → CloseBefore → Line → Line → Line → Line
 oscillator_line short medium long first high low close =
-    weighed_shares plus_zero short medium long (pressures first low close) (true_ranges high low (close_before first close))
+    weighed_shares plus_zero short medium long (pressures first low close)
+    (true_ranges high low (close_before first close))
 
 unfoldable pub oscillator_answer : List Float → List Float → List Float → ℕ → ℕ → ℕ → CloseBefore → ℕ → ℕ → Answer
 oscillator_answer high low close short medium long first output work =

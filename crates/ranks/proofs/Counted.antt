@@ -16,7 +16,8 @@ pub count_from_same : (t u : Float → Bool) (f g : Line) (a k : ℕ) → ((j : 
     → count_from t f a k ≡ count_from u g a k
 unfolding count_from
 count_from_same t u f g a zero h = refl
-count_from_same t u f g a (suc k) h = rw (count_from_same t u f g a k (λ j l. h j (omega arith)), h (a + k) (omega arith))
+count_from_same t u f g a (suc k) h =
+    rw (count_from_same t u f g a k (λ j l. h j (omega arith)), h (a + k) (omega arith))
 
 -- at most all of them
 pub count_from_most : (t : Float → Bool) (f : Line) (a k : ℕ) → count_from t f a k ≤ k

@@ -50,7 +50,8 @@ same (fin t n d) s m e g f v =
     rw (mul_right_comm (n * up d), v.1, mul_right_comm (m * up e)) in
     let units = div_same (n * up d * 2 ^ 1074) (down d) (m * up e * 2 ^ 1074) (down e) (down_pos d) (down_pos e)
     scaled in
-    let bits : to_bits binary64 (fin t n d) ≡ to_bits binary64 (fin s m e) = rw (packs t n d, packs s m e, v.0, units) in
+    let bits : to_bits binary64 (fin t n d) ≡ to_bits binary64 (fin s m e) =
+    rw (packs t n d, packs s m e, v.0, units) in
     sym (of_bits-to_bits binary64 (fin t n d) g) ∙ ap (of_bits binary64) bits ∙ of_bits-to_bits binary64 (fin s m e) f
 
 pub own : (s : Bool) (m : ℕ) (e : ℤ) → T (fits binary64 (fin s m e)) → round binary64 s (m * up e) (down e) ≡ fin s m e

@@ -3,7 +3,7 @@
 use Rattle.std.proofs.Common.{◌≡◌, ℕ, zero, suc, ◌+◌, ◌-◌, ◌*◌, ◌/◌, ◌%◌, ◌^◌, ◌<◌, ◌≤◌, min, Bool, true, false, ◌&&◌, T, eqb, ltb, leb, ℤ, pos, negsuc, sym, refl, ap, ◌∙◌, true≢false, le_of_eq, lt_of_lt_of_le, le_of_suc-le-suc, lt_of_le_of_lt, lt_irrefl, zero-lt-suc, mul_assoc, mul_comm, div-lt_iff_lt-mul, lt_of_mul-lt-mul_right, mul-lt-mul_of_pos_right, mul-pos, one-mul, lt_of_not-le, zero-mul, mul-one, mul_right_comm, arith, lit<, lit≤, eqb→eq, ltb→lt, lt→ltb, leb→le, pow_pos, pow_mono, pow-add, shl_lt, ltb-false, ltb-true}
 use native.Mathlib.Nat.{add-div_right, pow-succ', div-div-eq-div-mul}
 use lib.Pow.{pow-lt}
-use lib.Ieee.{Float, nan, inf, fin, binary64, up, down, odd, round, mul, lt, fits, to_unsigned}
+use lib.Ieee.{Float, nan, inf, fin, binary64, up, down, round, mul, lt, fits, to_unsigned}
 use lib.Ieee.Exact.{HasValue, round_exact}
 use lib.Ieee.Fits.{and_l, and_r, down_pos, round-fits}
 use lib.Ieee.Back.{round_whole, whole_unique}
@@ -137,7 +137,8 @@ pub record Halves (x : Float) : Type 0 where
   pub above : T (lt (fin true 1 (pos 0)) (doubled x))
   pub below : T (lt (doubled x) (fin false 1 (pos 64)))
   pub small : to_unsigned 64 (doubled x) < 2 ^ 53
-  pub whole : mul binary64 (round binary64 false ((to_unsigned 64 (doubled x) + 1) / 2) 1) (sign_of x) ≡ round_to_whole x
+  pub whole : mul binary64 (round binary64 false ((to_unsigned 64 (doubled x) + 1) / 2) 1) (sign_of x)
+      ≡ round_to_whole x
 
 pub halves : (x : Float) → T (fits binary64 x) → lt (magnitude_of x) (fin false 1 (pos 52)) ≡ true → Halves x
 unfolding lt magnitude_of sign_of round_to_whole

@@ -313,7 +313,8 @@ about_div {f} {x} {z} {c} {e} i n p N k l h =
 
 -- ---- order
 
-pub number_lt : {f : Format} {x y : Float} → Number f x → Number f y → lt x y ≡ lt_z (signed_units f x) (signed_units f y)
+pub number_lt : {f : Format} {x y : Float} → Number f x → Number f y
+    → lt x y ≡ lt_z (signed_units f x) (signed_units f y)
 number_lt {f} {x} {y} n m = rw (← signed_back f x, ← signed_back f y) (worth_lt (worth x n) (worth y m))
 
 -- a bound on a difference, times k

@@ -42,7 +42,7 @@ use native.Mathlib.Omega.{arith}
 use lib.Dec.{T, ltb, ltb→lt, nltb→le, is_le, compare_is_eq, leb→le, nleb→lt, eqb→eq}
 use lib.IntN.{ℤ, pos, negsuc, nat_abs, ◌*ℤ◌}
 use lib.Pow.{pow-add, pow_pos, pow_mono, shl_lt}
-use lib.Ieee.{Float, Format, binary32, binary64, prec, low, up, size, nearest, round, hid, top, to_bits}
+use lib.Ieee.{Float, Format, binary32, binary64, prec, low, size, nearest, round, hid, top, to_bits}
 use lib.Ieee.Fits.{two, eq→eqb, nearest-le, kept-lt, down_pos}
 use lib.Ieee.Digits.{size-le, size_reaches}
 use lib.Ieee.Nearest.{closest}

@@ -163,7 +163,8 @@ module _ {f : Format} {a b : ℤ} {n m : ℕ} (v : Whole f a n) (w : Whole f b m
         go (no k) = about_order (about_quotient v) (about_quotient w) k (omega arith)
 
 -- and the sign of their difference says it
-pub quotient_sign : {a b : ℤ} {n m : ℕ} → Whole binary64 a n → Whole binary64 b m → nat_abs a * m + nat_abs b * n < 2 ^ 53
+pub quotient_sign : {a b : ℤ} {n m : ℕ} → Whole binary64 a n → Whole binary64 b m
+    → nat_abs a * m + nat_abs b * n < 2 ^ 53
     → sign_of (sub binary64 (quotient binary64 a n) (quotient binary64 b m))
     ≡ cond (lt_z (a *ℤ pos m) (b *ℤ pos n)) minus_one plus_one
 quotient_sign {a} {b} {n} {m} v w h =

@@ -139,7 +139,8 @@ module _ (m : ℕ) (e : ℤ) (F : T (fits binary64 (fin false (suc m) e))) where
         sym (lt_at t plus_zero (negative t) (in_units binary64 t) false 0 (2 ^ 1074) (pow_pos 1074) t_value
         (refl, refl)) ∙ P
 
-    square_is : mul binary64 t t ≡ round binary64 false (in_units binary64 t * in_units binary64 t) (2 ^ 1074 * 2 ^ 1074)
+    square_is : mul binary64 t t ≡ round binary64 false (in_units binary64 t * in_units binary64 t)
+        (2 ^ 1074 * 2 ^ 1074)
     square_is =
         let u = in_units binary64 t in
         let s = negative t in
@@ -150,7 +151,8 @@ module _ (m : ℕ) (e : ℤ) (F : T (fits binary64 (fin false (suc m) e))) where
         (in_units binary64 (sqrt_of binary64 (fin false (suc m) e))) (in_units binary64 t)
     near = root_nearest.nearer t N.fit N.ends
 
-    above_at : lt (fin false (suc m) e) (mul binary64 t t) ≡ true → lt t (sqrt_of binary64 (fin false (suc m) e)) ≡ false
+    above_at : lt (fin false (suc m) e) (mul binary64 t t) ≡ true
+        → lt t (sqrt_of binary64 (fin false (suc m) e)) ≡ false
     above_at h = neither_way _ (λ z. true≢false (sym h ∙ over_v (mul binary64 t t) (less z)))
       where
         less : lt t (sqrt_of binary64 (fin false (suc m) e)) ≡ true
@@ -168,7 +170,8 @@ module _ (m : ℕ) (e : ℤ) (F : T (fits binary64 (fin false (suc m) e))) where
             (pow_pos 1074)
             (rw (← mul_assoc u (2 ^ 1074) (2 ^ 1074)) (mul-le-mul_right (2 ^ 1074) (le_of_lt few)))))
 
-    below_at : lt (mul binary64 t t) (fin false (suc m) e) ≡ true → lt (sqrt_of binary64 (fin false (suc m) e)) t ≡ false
+    below_at : lt (mul binary64 t t) (fin false (suc m) e) ≡ true
+        → lt (sqrt_of binary64 (fin false (suc m) e)) t ≡ false
     below_at h = neither_way _ (λ z. true≢false (sym h ∙ under_v (mul binary64 t t) (more z)))
       where
         more : lt (sqrt_of binary64 (fin false (suc m) e)) t ≡ true

@@ -23,7 +23,8 @@ below_whole (negsuc a) (negsuc b) = ltb_same (suc b) (suc a) b a (λ h. omega ar
 
 lt_whole : (a b : ℤ) → nat_abs a ≤ 2 ^ 53 → nat_abs b ≤ 2 ^ 53 → lt (of_int binary64 a) (of_int binary64 b) ≡ lt_z a b
 lt_whole a b h k =
-    lt_at (of_int binary64 a) (of_int binary64 b) (is_negative a) (nat_abs a) (is_negative b) (nat_abs b) 1 (zero-lt-suc 0)
+    lt_at (of_int binary64 a) (of_int binary64 b) (is_negative a) (nat_abs a) (is_negative b) (nat_abs b) 1
+    (zero-lt-suc 0)
     (whole_value binary64 a h) (whole_value binary64 b k)
     ∙ below_whole a b
 

@@ -1,1 +1,3 @@
+#![tactic(auto)]
+
 // What keeps its order when it is rounded: sums, differences, products, and squares beside a root: see proofs/.

@@ -21,4 +21,5 @@ pub record Nearer (n r y : ℕ) : Type 0 where
 pub record NearestRoot (f : Format) (x r : Float) : Type 0 where
   pub held : T (fits f r)
   pub above_zero : T (positive r)
-  pub nearer : (y : Float) → T (fits f y) → T (finite y) → Nearer (in_units f x * 2 ^ low f) (in_units f r) (in_units f y)
+  pub nearer : (y : Float) → T (fits f y) → T (finite y)
+      → Nearer (in_units f x * 2 ^ low f) (in_units f r) (in_units f y)

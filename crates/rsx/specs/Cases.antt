@@ -25,8 +25,8 @@ rsx_cases : (cells_of (rsx_line 3 5) (prices (pos 1 ∷ pos 2 ∷ pos 4 ∷ pos 
     × (cells_of (rsx_line 1 2) (prices (pos 3 ∷ pos 1 ∷ pos 2 ∷ pos 2 ∷ pos 5 ∷ pos 4 ∷ []))
     ≡ bits (0x7ff8000000000000 ∷ 0 ∷ 0x4059000000000000 ∷ 0x4059000000000000 ∷ 0x4059000000000000
     ∷ 0x40360296393a0e72 ∷ []))
-unfolding rsx_line rsx_unsmoothed smooth formula coefficients of_pair a1_of b1_of a1_table b1_table a1_bits b1_bits carried recur
-    from_bar gains losses change rsi neg add sub mul div of_int of_bits round lt eq
+unfolding rsx_line rsx_unsmoothed smooth formula coefficients of_pair a1_of b1_of a1_table b1_table a1_bits b1_bits
+    carried recur from_bar gains losses change rsi neg add sub mul div of_int of_bits round lt eq
 rsx_cases = (refl, refl)
 
 -- no change at all gives 100; only falls give 0; one bar; two bars
@@ -36,8 +36,8 @@ rsx_edges : (cells_of (rsx_line 2 3) (prices (pos 5 ∷ pos 5 ∷ pos 5 ∷ pos 
     ≡ nan ∷ plus_zero ∷ plus_zero ∷ plus_zero ∷ plus_zero ∷ plus_zero ∷ [])
     × (cells_of (rsx_line 1 1) (prices (pos 7 ∷ [])) ≡ nan ∷ [])
     × (cells_of (rsx_line 3 512) (prices (pos 0 ∷ pos 0 ∷ [])) ≡ nan ∷ hundred ∷ [])
-unfolding rsx_line rsx_unsmoothed smooth formula coefficients of_pair a1_of b1_of a1_table b1_table a1_bits b1_bits carried recur
-    from_bar gains losses change rsi neg add sub mul div of_int of_bits round lt eq
+unfolding rsx_line rsx_unsmoothed smooth formula coefficients of_pair a1_of b1_of a1_table b1_table a1_bits b1_bits
+    carried recur from_bar gains losses change rsi neg add sub mul div of_int of_bits round lt eq
 rsx_edges = (refl, refl, refl, refl)
 
 abbrev one_bar : ℕ → ℕ → Answer

@@ -26,7 +26,8 @@ outside_at = beyond (ten_to_minus 10)
 -- A line against Bollinger's bands of its last n cells ("Bollinger on Bollinger Bands", 2001), from bar 2n - 2 on.
 -- The middle is the mean of those cells, and the width their deviation over n - 1.
 unfoldable pub outside_bands : ℕ → Float → Line → ℕ → ℤ
-outside_bands n k g = from_bar (2 * n - 2) flat (λ i. outside_at (g i) (mean n g i) k (deviation minus_zero (n - 1) n g i))
+outside_bands n k g =
+    from_bar (2 * n - 2) flat (λ i. outside_at (g i) (mean n g i) k (deviation minus_zero (n - 1) n g i))
 
 -- the line is that of the means of the last n prices
 abbrev pub boll_line : ℕ → Float → Line → ℕ → ℤ
@@ -35,5 +36,6 @@ boll_line n k f = outside_bands n k (mean n f)
 -- what a call of `boll_positions` promises
 abbrev pub BollCall : List Float → ℕ → Float → List ℤ → List Float → Answer → List ℤ → List Float → Type 0
 BollCall s n k out₀ work₀ =
-    WorkCall (answered_with accepted s (k ∷ []) (n ∷ []) (length out₀) (length work₀ ∷ [])) (boll_line n k (line s)) out₀
+    WorkCall (answered_with accepted s (k ∷ []) (n ∷ []) (length out₀) (length work₀ ∷ [])) (boll_line n k (line s))
+    out₀
     (length s) work₀

@@ -29,7 +29,8 @@ boll_cases : (cells_of (boll_line 2 half) (prices (pos 1 ∷ pos 2 ∷ pos 4 ∷
     ≡ flat ∷ flat ∷ flat ∷ flat ∷ long ∷ flat ∷ short ∷ [])
     × (cells_of (boll_line 2 plus_zero) (prices (pos 5 ∷ pos 5 ∷ pos 5 ∷ pos 5 ∷ [])) ≡ flat ∷ flat ∷ flat ∷ flat ∷ [])
     × (cells_of (boll_line 2 plus_one) (prices (pos 0 ∷ pos 0 ∷ pos 0 ∷ pos 0 ∷ [])) ≡ flat ∷ flat ∷ flat ∷ flat ∷ [])
-unfolding outside_bands deviation mean window_sum sum_from from_bar ten_to_minus sqrt_of add sub mul div of_int of_bits round lt
+unfolding outside_bands deviation mean window_sum sum_from from_bar ten_to_minus sqrt_of add sub mul div of_int of_bits
+    round lt
 boll_cases = (refl, refl, refl, refl)
 
 -- n 1 divides 0 by 0, and opens nothing; n as long as the series, and longer; one bar; k below 0, where the bands
@@ -44,7 +45,8 @@ boll_edges : (cells_of (boll_line 1 half) (prices (pos 1 ∷ pos 5 ∷ pos 2 ∷
     × (cells_of (boll_line 2 plus_zero)
     (bits (0x3ff0000000000000 ∷ 0x3ff0000000000000 ∷ 0x3ff00000000dbe70 ∷ 0x3ff00000001b7ce0 ∷ []))
     ≡ flat ∷ flat ∷ flat ∷ flat ∷ [])
-unfolding outside_bands deviation mean window_sum sum_from from_bar ten_to_minus sqrt_of add sub mul div of_int of_bits round lt
+unfolding outside_bands deviation mean window_sum sum_from from_bar ten_to_minus sqrt_of add sub mul div of_int of_bits
+    round lt
 boll_edges = (refl, refl, refl, refl, refl, refl)
 
 -- 4, 4, 8 with n 2 and k 0.5 gives 0, 0, -1, and with k 0.8 too, where a deviation over n - 1 would give 0; then
@@ -57,22 +59,24 @@ reverse_cases : (cells_of (boll_reverse_line 2 half) (prices (pos 4 ∷ pos 4 �
     × (cells_of (boll_reverse_line 2 half)
     (prices (pos 9 ∷ pos 8 ∷ pos 2 ∷ pos 2 ∷ pos 2 ∷ pos 9 ∷ pos 9 ∷ pos 9 ∷ []))
     ≡ flat ∷ flat ∷ long ∷ long ∷ long ∷ flat ∷ short ∷ short ∷ [])
-unfolding band_signals turned_bands hold moved recur deviation mean window_sum sum_from from_bar sqrt_of add sub mul div of_int
-    of_bits round lt
+unfolding band_signals turned_bands hold moved recur deviation mean window_sum sum_from from_bar sqrt_of add sub mul div
+    of_int of_bits round lt
 reverse_cases = (refl, refl, refl, refl)
 
 -- n 1, where mean, middle and bands are one; a flat series, and zeros; n longer than the series; one bar; k below 0,
 -- where above the upper band is asked first
 reverse_edges : (cells_of (boll_reverse_line 1 half) (prices (pos 1 ∷ pos 5 ∷ pos 2 ∷ [])) ≡ flat ∷ flat ∷ flat ∷ [])
-    × (cells_of (boll_reverse_line 2 half) (prices (pos 5 ∷ pos 5 ∷ pos 5 ∷ pos 5 ∷ [])) ≡ flat ∷ flat ∷ flat ∷ flat ∷ [])
-    × (cells_of (boll_reverse_line 2 half) (prices (pos 0 ∷ pos 0 ∷ pos 0 ∷ pos 0 ∷ [])) ≡ flat ∷ flat ∷ flat ∷ flat ∷ [])
+    × (cells_of (boll_reverse_line 2 half) (prices (pos 5 ∷ pos 5 ∷ pos 5 ∷ pos 5 ∷ []))
+    ≡ flat ∷ flat ∷ flat ∷ flat ∷ [])
+    × (cells_of (boll_reverse_line 2 half) (prices (pos 0 ∷ pos 0 ∷ pos 0 ∷ pos 0 ∷ []))
+    ≡ flat ∷ flat ∷ flat ∷ flat ∷ [])
     × (cells_of (boll_reverse_line 3 half) (prices (pos 1 ∷ pos 2 ∷ [])) ≡ flat ∷ flat ∷ [])
     × (cells_of (boll_reverse_line 1 half) (prices (pos 7 ∷ [])) ≡ flat ∷ [])
     × (cells_of (boll_reverse_line 2 (of_int binary64 (negsuc 1)))
     (prices (pos 1 ∷ pos 2 ∷ pos 4 ∷ pos 8 ∷ pos 1 ∷ pos 1 ∷ pos 1 ∷ []))
     ≡ flat ∷ flat ∷ short ∷ short ∷ flat ∷ short ∷ short ∷ [])
-unfolding band_signals turned_bands hold moved recur deviation mean window_sum sum_from from_bar sqrt_of add sub mul div of_int
-    of_bits round lt
+unfolding band_signals turned_bands hold moved recur deviation mean window_sum sum_from from_bar sqrt_of add sub mul div
+    of_int of_bits round lt
 reverse_edges = (refl, refl, refl, refl, refl, refl)
 
 -- one bar; a k that is not finite comes before a window too long; a window of 0 after both; no bars

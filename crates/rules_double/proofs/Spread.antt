@@ -93,7 +93,8 @@ unfolding of_int
 sign_whole (pos a) = sign_round false a 1
 sign_whole (negsuc a) = sign_round true (suc a) 1
 
-added : {x y : Float} (a b : ℤ) → x ≡ of_int binary64 a → y ≡ of_int binary64 b → nat_abs a ≤ 2 ^ 53 → nat_abs b ≤ 2 ^ 53
+added : {x y : Float} (a b : ℤ) → x ≡ of_int binary64 a → y ≡ of_int binary64 b → nat_abs a ≤ 2 ^ 53
+    → nat_abs b ≤ 2 ^ 53
     → add binary64 x y ≡ of_int binary64 (a +ℤ b)
 added a b p q h k = rw (p, q) (add_whole binary64 a b h k)
 

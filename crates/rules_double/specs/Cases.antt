@@ -40,7 +40,8 @@ unfolding double_line running_mean running_sum recur sum_from from_bar sign_of a
 double_cases = refl
 
 -- a long average of -0.0: 0.0 less -0.0 is 0.0, and the number next below 0 less -0.0 is itself
-double_edges : cells_of (double_line 1 2) (least ∷ plus_zero ∷ []) ∷ cells_of (double_line 1 2) (plus_zero ∷ least ∷ []) ∷ []
+double_edges : cells_of (double_line 1 2) (least ∷ plus_zero ∷ []) ∷ cells_of (double_line 1 2) (plus_zero ∷ least ∷ [])
+    ∷ []
     ≡ (flat ∷ up ∷ []) ∷ (flat ∷ down ∷ []) ∷ []
 unfolding double_line running_mean running_sum recur sum_from from_bar sign_of add sub div of_int round
 double_edges = refl

@@ -124,7 +124,8 @@ module _ (n m i : ℕ) (L : n < m) (B : m ≤ i + 1) where
       then_best = long_more below_best
 
     -- where the worst series gives +1, the best one does
-    pub worst_then_best : {l : ℕ} → i < l → NotAbove low high l → Implies (gives_long n m worst i) (gives_long n m best i)
+    pub worst_then_best : {l : ℕ} → i < l → NotAbove low high l
+        → Implies (gives_long n m worst i) (gives_long n m best i)
     worst_then_best H h =
         let lows : Between low high low _ = record { from_low = λ j p. self_not_less (low j); to_high = h } in
         record { so = λ e. then_best H lows (worst_then H lows e) }

@@ -22,7 +22,8 @@ use Rattle.rules_double_ranges.specs.Ranges.{joined, gives_long, ranges_line, ra
 
 -- two bars with n 1 and m 2
 abbrev cells : ℕ → ℕ → ℕ → ℕ → List ℤ
-cells a b c d = first_cells 2 (ranges_line 1 2 (line (prices (pos a ∷ pos c ∷ []))) (line (prices (pos b ∷ pos d ∷ []))))
+cells a b c d =
+    first_cells 2 (ranges_line 1 2 (line (prices (pos a ∷ pos c ∷ []))) (line (prices (pos b ∷ pos d ∷ []))))
 
 -- 5..6, 5..6 hangs on the price to come; 5..6, 6..6 is settled, a tie giving 1; 5..6, 4..4 is settled; 5..6, 5..5 hangs
 ranges_cases : cells 5 6 5 6 ∷ cells 5 6 6 6 ∷ cells 5 6 4 4 ∷ cells 5 6 5 5 ∷ []

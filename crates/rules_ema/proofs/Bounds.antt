@@ -6,8 +6,8 @@ use native.Mathlib.Nat.{le_refl}
 use native.Mathlib.Omega.{arith}
 use lib.Dec.{lit≤, lit<}
 use lib.IntN.{pos}
-use lib.Ieee.{Float, binary64, sub, div, of_int}
-use Rattle.rounding.specs.Leaves.{plus_one, two}
+use lib.Ieee.{Float, binary64, sub, of_int}
+use Rattle.rounding.specs.Leaves.{two}
 use Rattle.rounding_laws.proofs.Bounds.{AtMost, add_at_most, sub_at_most}
 use Rattle.rounding_laws.proofs.Value.{div_at}
 use Rattle.rounding_laws.proofs.Whole.{whole_value}
@@ -49,7 +49,8 @@ module _ (n : ℕ) (f : Line) (i : ℕ) (N : (0 < n) × (n ≤ 2 ^ 12)) (h : Bou
       (means (start + 1 + k) (omega arith)) (omega arith))
 
   -- so the price less the average is finite
-  pub gap_bounded : (start : ℕ) → start ≤ i → i < 2 ^ 16 → AtMost (2 ^ 48) (sub binary64 (f i) (ema_of_means start n f i))
+  pub gap_bounded : (start : ℕ) → start ≤ i → i < 2 ^ 16
+      → AtMost (2 ^ 48) (sub binary64 (f i) (ema_of_means start n f i))
   unfolding ema_of_means carried
   gap_bounded start l m =
       rw (from_bar_lem start plus_zero (λ j. recur (mean n (mean n f) start)

@@ -69,7 +69,8 @@ module _ (n : ℕ) (N : (0 < n) × (n ≤ 2 ^ 12)) where
   last_share : Share (sub binary64 plus_one (ema_alpha n)) (in_units binary64 (sub binary64 plus_one (ema_alpha n)))
   last_share = share_of (rest_share (alpha_share n N)) (sub-fits binary64 _ _)
 
-  weights : MakeUp (in_units binary64 (ema_alpha n)) (in_units binary64 (sub binary64 plus_one (ema_alpha n))) (2 ^ 1074)
+  weights : MakeUp (in_units binary64 (ema_alpha n)) (in_units binary64 (sub binary64 plus_one (ema_alpha n)))
+      (2 ^ 1074)
   weights = rest_of mean_share last_share
 
 -- ---- sizes and errors

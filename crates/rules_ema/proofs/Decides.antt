@@ -142,7 +142,8 @@ module _ (s : List Float) (n : ℕ) (floats : (j : ℕ) → T (fits binary64 (li
       i (h, k)
 
   -- and over n it is the mean, so that the average is the rule's own
-  same_average : (i : ℕ) → (start ≤ i) × (i < length s) → running_ema start n (line s) i ≡ ema_of_means start n (line s) i
+  same_average : (i : ℕ) → (start ≤ i) × (i < length s)
+      → running_ema start n (line s) i ≡ ema_of_means start n (line s) i
   same_average i (h, k) =
       each_bar start (length s)
       (sym (first_running_average start n (line s) refl)

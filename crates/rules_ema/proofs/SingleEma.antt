@@ -16,7 +16,6 @@ use Rattle.cells.proofs.Touched.{untouched, touched, touched_more}
 use Rattle.cells.proofs.Parts.{part_long, part_is}
 use Rattle.cells.specs.Search.{first_bar, non_zero}
 use Rattle.cells.proofs.Search.{first_bar_same, first_bar_met, first_bar_most}
-use Rattle.cells.specs.Recur.{carried}
 use Rattle.cells.proofs.Carried.{carried_same, carried_seed, carried_next}
 use Rattle.cells.specs.inner.Finished.{Finished}
 use Rattle.cells.proofs.Scratch.{goes_on}
@@ -49,7 +48,8 @@ module _ (start n : ℕ) (f : Line) where
       e ∙ rw (p, q) (sym (rw last at next))
 
   -- the position of bar i
-  pub position_at : (i : ℕ) {x p : Float} → x ≡ ema_of_means start n f i → p ≡ sign_of (sub binary64 (f i) x) → start ≤ i
+  pub position_at : (i : ℕ) {x p : Float} → x ≡ ema_of_means start n f i → p ≡ sign_of (sub binary64 (f i) x)
+      → start ≤ i
       → p ≡ single_ema_from start n f i
   unfolding single_ema_from
   position_at i e g h = rw (g, e, from_bar_lem start plus_zero _ i h)

@@ -1,5 +1,5 @@
 -- Held positions, computed from the definition. Assumes nothing.
-use Rattle.std.specs.Prelude.{◌≡◌, refl, true, false, List, [], ◌∷◌, ℕ, zero, suc}
+use Rattle.std.specs.Prelude.{◌≡◌, refl, true, List, [], ◌∷◌, ℕ, zero, suc}
 use Rattle.cells.specs.Recur.{recur}
 use Rattle.cells.specs.Shown.{first_cells}
 use Rattle.rules_held.specs.Held.{flat, long, short, Signal, silent, moved, hold}

@@ -30,4 +30,5 @@ mid_line n f = against_middles n (mean n f) (extreme larger n (mean n f)) (extre
 -- what a call of `mid_positions` promises
 abbrev pub MidCall : List Float → ℕ → List Float → List Float → Answer → List Float → List Float → Type 0
 MidCall s n out₀ work₀ =
-    WorkCall (answered accepted s (n ∷ []) (length out₀) (length work₀ ∷ [])) (mid_line n (line s)) out₀ (length s) work₀
+    WorkCall (answered accepted s (n ∷ []) (length out₀) (length work₀ ∷ [])) (mid_line n (line s)) out₀ (length s)
+    work₀

@@ -1,7 +1,7 @@
 -- Every cell of `mms_positions` is a number from -1 to 1: the mean lies between the lowest and the highest, and
 -- rounding keeps that order. Assumes nothing.
 use mathlib.Core.Path.{◌≡◌, refl, sym, subst, ◌∙◌}
-use mathlib.Core.Bool.{Bool, true, false, not, cond, true≢false}
+use mathlib.Core.Bool.{Bool, true, false, cond, true≢false}
 use Prim.Native.Nat.{ℕ, zero, suc, ◌+◌, ◌-◌, ◌*◌, ◌^◌, ◌<◌, ◌≤◌}
 use native.Mathlib.Nat.{le_refl, mul-pos, zero-mul}
 use native.Mathlib.Omega.{arith}

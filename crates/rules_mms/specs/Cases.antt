@@ -19,8 +19,8 @@ mms_cases : (cells_of (mms_line 1 2) (prices (pos 1 ∷ pos 3 ∷ pos 2 ∷ []))
     × (cells_of (mms_line 2 3) (prices (pos 1 ∷ pos 3 ∷ pos 5 ∷ pos 2 ∷ pos 4 ∷ pos 4 ∷ []))
     ≡ bits (0 ∷ 0 ∷ 0 ∷ 0x3fe0000000000000 ∷ 0xbff0000000000000 ∷ 0x3ff0000000000000 ∷ []))
     × (cells_of (mms_line 1 3) (prices (pos 1 ∷ pos 4 ∷ pos 2 ∷ [])) ≡ bits (0 ∷ 0 ∷ 0xbfd5555555555556 ∷ []))
-unfolding mms_line extreme pick_from mean window_sum sum_from from_bar ten_to_minus magnitude_of neg add sub mul div of_int
-    of_bits round lt eq
+unfolding mms_line extreme pick_from mean window_sum sum_from from_bar ten_to_minus magnitude_of neg add sub mul div
+    of_int of_bits round lt eq
 mms_cases = (refl, refl, refl)
 
 -- a flat series, and zeros; a window of one mean, whose spread is 0; windows longer than the series; one bar;
@@ -34,8 +34,8 @@ mms_edges : (cells_of (mms_line 1 2) (prices (pos 5 ∷ pos 5 ∷ pos 5 ∷ []))
     × (cells_of (mms_line 1 2) (bits (0 ∷ 0x3dd0000000000000 ∷ [])) ≡ (plus_zero ∷ plus_zero ∷ []))
     × (cells_of (mms_line 1 2) (bits (0 ∷ 0x3ddb7cdfd9d7bdbb ∷ [])) ≡ (plus_zero ∷ plus_zero ∷ []))
     × (cells_of (mms_line 1 2) (bits (0 ∷ 0x3ddb7cdfd9d7bdbc ∷ [])) ≡ (plus_zero ∷ plus_one ∷ []))
-unfolding mms_line extreme pick_from mean window_sum sum_from from_bar ten_to_minus magnitude_of neg add sub mul div of_int
-    of_bits round lt eq
+unfolding mms_line extreme pick_from mean window_sum sum_from from_bar ten_to_minus magnitude_of neg add sub mul div
+    of_int of_bits round lt eq
 mms_edges = (refl, refl, refl, refl, refl, refl, refl, refl, refl)
 
 -- one bar; either window of 0; either too long; no bars; a work slice too short

@@ -48,7 +48,8 @@ module _ (a : Answer) (narrow none : Bool) {l : ℕ} (next : Answer) (bars : non
       × (and_then a (unless narrow WindowTooLong (empty_if none next)) ≡ next)
   next_asked h = go a narrow none refl h
     where
-      go : (a : Answer) (t u : Bool) → none ≡ u → 0 < count_of (and_then a (unless t WindowTooLong (empty_if u (Cells l))))
+      go : (a : Answer) (t u : Bool) → none ≡ u
+          → 0 < count_of (and_then a (unless t WindowTooLong (empty_if u (Cells l))))
           → (and_then a (unless t WindowTooLong (empty_if u (Cells l))) ≡ Cells l)
           × (and_then a (unless t WindowTooLong (empty_if u next)) ≡ next)
       go (Refused q) t u e h = let none : 0 < 0 = h in absurd (omega arith)
@@ -61,7 +62,8 @@ module _ (a : Answer) (narrow none : Bool) {l : ℕ} (next : Answer) (bars : non
       ≡ and_then a (unless narrow WindowTooLong (empty_if none next))
   not_asked z = go a narrow none refl z
     where
-      go : (a : Answer) (t u : Bool) → none ≡ u → count_of (and_then a (unless t WindowTooLong (empty_if u (Cells l)))) ≡ 0
+      go : (a : Answer) (t u : Bool) → none ≡ u
+          → count_of (and_then a (unless t WindowTooLong (empty_if u (Cells l)))) ≡ 0
           → and_then a (unless t WindowTooLong (empty_if u (Cells l)))
           ≡ and_then a (unless t WindowTooLong (empty_if u next))
       go (Refused q) t u e z = refl
@@ -78,8 +80,10 @@ module _ (s : List Float) (n : ℕ) (table : List ℤ) (output work : ℕ) {due 
   pub table_asked : 0 < count_of due → table_checked (rows_read table) due ≡ rank_table_answer s n table output work
   unfolding rank_table_answer answered windowed
   table_asked h =
-      let (cells, next) = next_asked (checked accepted (s ∷ []) (output ∷ []) (work ∷ [])) (leb n longest_window && true)
-      (eqb (length s) 0 || (eqb n 0 || false)) (table_checked (rows_read table) (Cells (length s))) bars_of (rw e at h) in
+      let (cells, next) =
+      next_asked (checked accepted (s ∷ []) (output ∷ []) (work ∷ [])) (leb n longest_window && true)
+      (eqb (length s) 0 || (eqb n 0 || false)) (table_checked (rows_read table) (Cells (length s))) bars_of (rw e at h)
+      in
       rw (e, cells) (sym next)
 
   -- without, it is not looked at

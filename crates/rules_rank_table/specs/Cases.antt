@@ -34,15 +34,16 @@ rank_table_cases : (map (λ table. cells_of (rank_table_line (rows_read table) 2
     × (cells_of (rank_table_line (rows_read halves) 2) (prices (pos 1 ∷ pos 2 ∷ pos 3 ∷ [])) ≡ flat ∷ flat ∷ long ∷ [])
     × (cells_of (rank_table_line (rows_read halves) 1) (prices (pos 5 ∷ [])) ≡ flat ∷ [])
     × (cells_of (rank_table_line (rows_read halves) 3) (prices (pos 1 ∷ pos 2 ∷ [])) ≡ flat ∷ flat ∷ [])
-unfolding rank_table_line table_position rows_read position_for whole_rank below_now count_from round_to_whole mean window_sum
-    sum_from from_bar is_nan to_signed add sub mul div of_int of_bits round lt
+unfolding rank_table_line table_position rows_read position_for whole_rank below_now count_from round_to_whole mean
+    window_sum sum_from from_bar is_nan to_signed add sub mul div of_int of_bits round lt
 rank_table_cases = (refl, refl, refl, refl)
 
 -- 200 of 401 means below is -0.0 in hundredths, and 0 as a whole number; none of none is not looked up
 rank_numbers : (rank_number 200 401 ∷ rank_number 199 401 ∷ rank_number 401 401 ∷ rank_number 17 80 ∷ []
     ≡ pos 0 ∷ negsuc 0 ∷ pos 100 ∷ negsuc 56 ∷ [])
     × (table_position (rows_read halves) 0 0 ∷ table_position (rows_read halves) 200 401 ∷ [] ≡ flat ∷ long ∷ [])
-unfolding table_position rows_read position_for whole_rank round_to_whole is_nan to_signed sub mul div of_int of_bits round
+unfolding table_position rows_read position_for whole_rank round_to_whole is_nan to_signed sub mul div of_int of_bits
+    round
 rank_numbers = (refl, refl)
 
 -- what the table's rows are answered with, before what is next

@@ -12,7 +12,8 @@ use Rattle.rules_held.specs.Held.{flat}
 use Rattle.rules_rank.specs.Rank.{whole_rank, below_now}
 use Rattle.rules_rank_table.specs.Table.{Row, rows_read, table_checked, position_for}
 
--- the rank of `rank_positions` for c of m means below, in whole hundredths: `to_signed 31` is Rust's `as i32`, for which
+-- the rank of `rank_positions` for c of m means below, in whole hundredths: `to_signed 31` is Rust's `as i32`, for
+-- which
 -- -0.0 is 0
 abbrev pub rank_number : ℕ → ℕ → ℤ
 rank_number c m = to_signed 31 (whole_rank c m)
@@ -34,5 +35,6 @@ rank_table_answer s n table output work =
 -- what a call of `rank_table_positions` promises
 abbrev pub RankTableCall : List Float → ℕ → List ℤ → List ℤ → List Float → Answer → List ℤ → List Float → Type 0
 RankTableCall s n table out₀ work₀ =
-    WorkCall (rank_table_answer s n table (length out₀) (length work₀)) (rank_table_line (rows_read table) n (line s)) out₀
+    WorkCall (rank_table_answer s n table (length out₀) (length work₀)) (rank_table_line (rows_read table) n (line s))
+    out₀
     (length s) work₀

@@ -51,16 +51,18 @@ module _ (losing : Bool) (to : ℕ) (old : List Float) where
 parts_same : (losing : Bool) (f g : Line) (i : ℕ) → ((j : ℕ) → j ≤ i → f j ≡ g j) → parts losing f i ≡ parts losing g i
 parts_same losing f g i s = ap (part losing) (causal_change plus_zero f g i s)
 
-module _ (losing : Bool) (to : ℕ) {e : ℕ} {old now : List Float} (w : Writing e (with_parts losing to old) old now) where
-  -- the cells before the row are as they were
-  pub cell_stays : (j : ℕ) → (j ≤ to) × (j < e) × (j < length old) → line now j ≡ line old j
-  cell_stays j (a, b, c) = read_back j nan w (b, c) ∙ before_parts losing to old j (omega arith)
+module _ (losing : Bool) (to : ℕ) {e : ℕ} {old now : List Float} (w : Writing e (with_parts losing to old) old now)
+  where
+    -- the cells before the row are as they were
+    pub cell_stays : (j : ℕ) → (j ≤ to) × (j < e) × (j < length old) → line now j ≡ line old j
+    cell_stays j (a, b, c) = read_back j nan w (b, c) ∙ before_parts losing to old j (omega arith)
 
-  -- so the next cell is what the row asks
-  pub next_part : (i : ℕ) → (0 < i) × (i < to) × (to < e) × (to < length old)
-      → parts losing (line now) i ≡ with_parts losing to old (to + i)
-  next_part i (a, b, c, d) =
-      parts_same losing (line now) (line old) i (λ j l. cell_stays j (omega arith)) ∙ sym (parts_cell losing to old i a)
+    -- so the next cell is what the row asks
+    pub next_part : (i : ℕ) → (0 < i) × (i < to) × (to < e) × (to < length old)
+        → parts losing (line now) i ≡ with_parts losing to old (to + i)
+    next_part i (a, b, c, d) =
+        parts_same losing (line now) (line old) i (λ j l. cell_stays j (omega arith))
+        ∙ sym (parts_cell losing to old i a)
 
 module _ (losing : Bool) (to : ℕ) {bars : ℕ} {old now : List Float}
     (w : Writing (to + bars) (with_parts losing to old) old now) (r : to + bars ≤ length old) where
@@ -173,7 +175,8 @@ whole_sixteen n i bars e =
     let both = and_parts (leb (2 * n) i) (leb (i + 16) bars) e in
     (leb-true _ _ both.0, leb-true _ _ both.1)
 
-full_index : (n j : ℕ) (g : Line) {x y : Float} → x ≡ sum_before n (gains g) j → y ≡ sum_before n (losses g) j → 2 * n ≤ j
+full_index : (n j : ℕ) (g : Line) {x y : Float} → x ≡ sum_before n (gains g) j → y ≡ sum_before n (losses g) j
+    → 2 * n ≤ j
     → index_by (of_int binary64 (pos n)) x y ≡ rsi_before n g j
 full_index n j g p q h =
     let count : changes_before n j ≡ n = omega (arith, changes_before_lem n j) in

@@ -60,7 +60,8 @@ rsi_reverse_least = refl
 rsi_reverse_answers : answered_with accepted (plus_zero ∷ []) (hundred ∷ plus_zero ∷ half ∷ []) (1 ∷ []) 1 (8 ∷ [])
     ∷ answered_with accepted (plus_zero ∷ []) (nan ∷ plus_zero ∷ half ∷ []) (suc longest_window ∷ []) 1 (8 ∷ [])
     ∷ answered_with accepted (plus_zero ∷ []) (hundred ∷ (inf false) ∷ half ∷ []) (suc longest_window ∷ []) 1 (8 ∷ [])
-    ∷ answered_with accepted (plus_zero ∷ []) (hundred ∷ plus_zero ∷ (inf true) ∷ []) (suc longest_window ∷ []) 1 (8 ∷ [])
+    ∷ answered_with accepted (plus_zero ∷ []) (hundred ∷ plus_zero ∷ (inf true) ∷ []) (suc longest_window ∷ []) 1
+    (8 ∷ [])
     ∷ answered_with accepted (plus_zero ∷ []) (hundred ∷ plus_zero ∷ half ∷ []) (suc longest_window ∷ []) 1 (8 ∷ [])
     ∷ answered_with accepted (plus_zero ∷ []) (hundred ∷ plus_zero ∷ half ∷ []) (0 ∷ []) 1 (8 ∷ [])
     ∷ answered_with accepted [] (hundred ∷ plus_zero ∷ half ∷ []) (1 ∷ []) 0 (0 ∷ [])

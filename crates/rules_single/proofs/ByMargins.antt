@@ -13,7 +13,6 @@ use Rattle.cells.specs.Line.{line, plus_zero}
 use Rattle.cells.specs.Written.{Writing}
 use Rattle.cells.proofs.Carried.{from_same}
 use Rattle.cells.proofs.Written.{read_back}
-use Rattle.windows.specs.Window.{mean}
 use Rattle.windows.specs.inner.Means.{running_means}
 use Rattle.margins.specs.inner.Margin.{largest_of, margin_of, far, AllFar}
 use Rattle.margins.proofs.Twice.{decided_twice}

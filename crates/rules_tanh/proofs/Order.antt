@@ -5,7 +5,7 @@ use mathlib.Core.Bool.{Bool, true, false, not, true≢false}
 use Prim.Native.Nat.{ℕ, ◌*◌, ◌≤◌}
 use native.Mathlib.Nat.{le_refl}
 use native.Mathlib.Omega.{arith}
-use lib.Dec.{T, lit≤, lit<}
+use lib.Dec.{lit≤, lit<}
 use lib.IntN.{pos}
 use lib.Ieee.{Float, nan, inf, fin, binary64, unlike, round, neg, mul, div, lt, eq, le, of_int, of_bits, is_nan}
 use lib.Ieee.Bits.{is_true}
@@ -75,7 +75,8 @@ opposites {x} {y} o = record {
 }
 
 -- a number with a minus is at most one without it
-signs_ordered : (x y : Float) → is_nan x ≡ false → is_nan y ≡ false → negative x ≡ true → negative y ≡ false → Ordered x y
+signs_ordered : (x y : Float) → is_nan x ≡ false → is_nan y ≡ false → negative x ≡ true → negative y ≡ false
+    → Ordered x y
 unfolding negative lt is_nan
 signs_ordered nan y p q s t = absurd (true≢false p)
 signs_ordered (inf u) nan p q s t = absurd (true≢false q)

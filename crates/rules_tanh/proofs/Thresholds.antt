@@ -60,7 +60,8 @@ turned p true e h = refl
 turned p false e h = absurd (true≢false (sym e ∙ h))
 
 -- a size below one threshold is below the next
-below_next : (size : Float) (k : ℕ) → k < 100 → le (threshold_of k) size ≡ false → le (threshold_of (suc k)) size ≡ false
+below_next : (size : Float) (k : ℕ) → k < 100 → le (threshold_of k) size ≡ false
+    → le (threshold_of (suc k)) size ≡ false
 below_next size k h e = go (is_nan size) refl
   where
     go : (t : Bool) → is_nan size ≡ t → le (threshold_of (suc k)) size ≡ false

@@ -1,5 +1,5 @@
 -- What is known of a call of the triple rule that was answered with cells. Assumes nothing.
-use mathlib.Core.Path.{◌≡◌, refl, sym, ◌∙◌}
+use mathlib.Core.Path.{◌≡◌, sym}
 use mathlib.Core.Bool.{Bool, true, ◌&&◌}
 use mathlib.Core.List.{List, [], ◌∷◌}
 use Prim.Native.Nat.{ℕ, ◌*◌, ◌<◌, ◌≤◌}
@@ -12,7 +12,7 @@ use Rattle.values.specs.Accepted.{accepted}
 use Rattle.values.proofs.All.{and_parts}
 use Rattle.calls.specs.declared.Answer.{Answer}
 use Rattle.calls.specs.declared.Answer.TheVariants.{Cells, Refused}
-use Rattle.calls.specs.Answer.{count_of, cleared_of, checked, and_then, windowed}
+use Rattle.calls.specs.Answer.{count_of, cleared_of, checked, windowed}
 use Rattle.calls.proofs.Call.{AllBars}
 use Rattle.calls.proofs.Room.{Room, checked_room, and_then_cells, unless_cells, same_count, asked}
 use Rattle.checks.specs.inner.Due.{CellsDue, Priced}
@@ -47,7 +47,8 @@ module _ (s : List Float) (m1 m2 m3 output work k : ℕ) (e : triple_answer s m1
       (rising, d.1)
 
 -- it has a cell for each bar
-pub triple_bars : (s : List Float) (m1 m2 m3 output work : ℕ) → AllBars (triple_answer s m1 m2 m3 output work) (length s)
+pub triple_bars : (s : List Float) (m1 m2 m3 output work : ℕ)
+    → AllBars (triple_answer s m1 m2 m3 output work) (length s)
 triple_bars s m1 m2 m3 output work k e h = sym (same_count _ _ (parts s m1 m2 m3 output work k e h).1)
 
 -- its work slice has room to be cleared

@@ -13,7 +13,8 @@ use Rattle.rules_triple.specs.Triple.{triple_line, triple_answer}
 use Rattle.rules_held.specs.Held.{flat, long, short}
 
 -- windows 1, 2, 3: both above, both below, one of each; a flat series, and one of zeros; three bars
-triple_cases : (cells_of (triple_line 1 2 3) (prices (pos 1 ∷ pos 2 ∷ pos 4 ∷ pos 3 ∷ pos 1 ∷ pos 0 ∷ pos 5 ∷ pos 4 ∷ []))
+triple_cases : (cells_of (triple_line 1 2 3)
+    (prices (pos 1 ∷ pos 2 ∷ pos 4 ∷ pos 3 ∷ pos 1 ∷ pos 0 ∷ pos 5 ∷ pos 4 ∷ []))
     ≡ (flat ∷ flat ∷ long ∷ flat ∷ short ∷ short ∷ long ∷ flat ∷ []))
     × (cells_of (triple_line 1 2 3) (prices (pos 3 ∷ pos 3 ∷ pos 3 ∷ pos 3 ∷ [])) ≡ (flat ∷ flat ∷ flat ∷ flat ∷ []))
     × (cells_of (triple_line 1 2 3) (prices (pos 0 ∷ pos 0 ∷ pos 0 ∷ pos 0 ∷ [])) ≡ (flat ∷ flat ∷ flat ∷ flat ∷ []))

@@ -35,4 +35,5 @@ triple_answer s m1 m2 m3 output work =
 -- what a call of `triple_sma_positions` promises
 abbrev pub TripleCall : List Float → ℕ → ℕ → ℕ → List ℤ → List Float → Answer → List ℤ → List Float → Type 0
 TripleCall s m1 m2 m3 out₀ work₀ =
-    WorkCall (triple_answer s m1 m2 m3 (length out₀) (length work₀)) (triple_line m1 m2 m3 (line s)) out₀ (length s) work₀
+    WorkCall (triple_answer s m1 m2 m3 (length out₀) (length work₀)) (triple_line m1 m2 m3 (line s)) out₀ (length s)
+    work₀

@@ -10,7 +10,7 @@ use lib.ListN.{length, take, get_or}
 use lib.Seq.{slice, length-slice}
 use Rattle.sheet_lines.specs.declared.reasons.Reason.{Reason}
 use Rattle.sheet_lines.specs.declared.reasons.Reason.TheVariants.{LineLength}
-use Rattle.sheet_lines.specs.Reason.{no_feed, clean, cut_short, line_reason}
+use Rattle.sheet_lines.specs.Reason.{no_feed, clean, line_reason}
 use Rattle.sheet_lines.proofs.Places.{columns_at, is_columned, not_columned}
 
 -- ---- a test for a line feed

@@ -88,7 +88,8 @@ number_below (b ∷ rest) v k w h e =
     (go (leb 48 b) (leb b 57) (leb-true b 57)
     (λ l f. number_below rest _ (k + 1) w (digit_more v (b - 48) k h (omega arith)) f) e)
   where
-    go : {A : Type 0} (s t : Bool) → (t ≡ true → b ≤ 57) → (b ≤ 57 → number_after (10 * v + (b - 48)) rest ≡ Value w → A)
+    go : {A : Type 0} (s t : Bool) → (t ≡ true → b ≤ 57)
+        → (b ≤ 57 → number_after (10 * v + (b - 48)) rest ≡ Value w → A)
         → cond (s && t) (number_after (10 * v + (b - 48)) rest) Broken ≡ Value w → A
     go true true l next f = next (l refl) f
     go true false l next f = let z : ◌≡◌ {A = ℕ} 0 1 = cc in absurd (omega arith)

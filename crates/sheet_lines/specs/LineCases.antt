@@ -70,7 +70,8 @@ unfolding header_reason field_reason read_field number
 header_reasons = refl
 
 price_reasons :
-    map (λ line. price_reason (bytes line)) ("           x\n" ∷ "          1\n" ∷ "          12" ∷ "           123" ∷ [])
+    map (λ line. price_reason (bytes line)) ("           x\n" ∷ "          1\n" ∷ "          12" ∷ "           123"
+    ∷ [])
     ≡ PriceField ∷ LineLength ∷ InputEnds ∷ LineLength ∷ []
 unfolding price_reason
 price_reasons = refl

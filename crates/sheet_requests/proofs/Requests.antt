@@ -1,5 +1,5 @@
 -- The sheet of an input is made of the answers to its requests, and of the counts of the desks. Assumes nothing.
-use mathlib.Core.Path.{◌≡◌, refl, sym, ap, ◌∙◌}
+use mathlib.Core.Path.{◌≡◌, refl, sym, ◌∙◌}
 use mathlib.Core.Bool.{Bool, true, false, cond, ◌&&◌, true≢false}
 use mathlib.Core.List.{List, [], ◌∷◌, ◌++◌, append_assoc}
 use Prim.Native.Nat.{ℕ, zero, suc, ◌+◌, ◌-◌, ◌<◌, ◌≤◌, min}
@@ -7,7 +7,7 @@ use native.Mathlib.Nat.{min-eq_left, min-eq_right}
 use native.Mathlib.Omega.{arith}
 use borrow.Author.Tests.{leb-true, leb-false, le-leb, eqb-true, eqb-false}
 use lib.Dec.{leb, eqb}
-use lib.ListN.{length, get_or, set, replicate, length-set}
+use lib.ListN.{length, get_or, replicate, length-set}
 use lib.Seq.{get_or-set_same, get_or-set_other}
 use lib.Ieee.{Float}
 use Rattle.calls.specs.declared.Answer.{Answer}
@@ -34,28 +34,7 @@ use Rattle.sheet_requests.specs.Counts.{
   after_lines,
   count_lines,
 }
-use Rattle.sheet_requests.specs.Sheet.{
-  State,
-  waiting,
-  collecting,
-  stopped,
-  Complete,
-  Step,
-  quiet,
-  broken,
-  answer_of,
-  counted_after,
-  completed,
-  with_prices,
-  begun,
-  priced,
-  lines,
-  ending,
-  outcome,
-  whole,
-  sheet,
-  broken_at,
-}
+use Rattle.sheet_requests.specs.Sheet.{State, waiting, collecting, stopped, Complete, Step, quiet, broken, counted_after, completed, with_prices, begun, priced, lines, ending, outcome, whole, sheet, broken_at}
 use Rattle.sheet_requests.specs.inner.Place.{finally}
 use Rattle.sheet_requests.specs.ByDesk.{
   requests_from,

@@ -1,5 +1,5 @@
 -- A line feed among bytes that are too few for a line breaks the line, whatever follows. Assumes nothing.
-use mathlib.Core.Path.{◌≡◌, refl, sym}
+use mathlib.Core.Path.{◌≡◌, refl}
 use mathlib.Core.Bool.{Bool, true, false, not, ◌&&◌, true≢false}
 use mathlib.Core.List.{List, [], ◌∷◌, ◌++◌}
 use Prim.Native.Nat.{ℕ, ◌+◌, ◌<◌, ◌≤◌}
@@ -12,7 +12,7 @@ use Rattle.sheet_lines.specs.declared.reasons.Reason.TheVariants.{LineLength}
 use Rattle.sheet_lines.specs.Reason.{no_feed}
 use Rattle.sheet_lines.specs.Printed.{head_bytes}
 use Rattle.sheet_requests.specs.declared.Counts.{Counts}
-use Rattle.sheet_requests.specs.Sheet.{lengthen, lines, State, broken, outcome}
+use Rattle.sheet_requests.specs.Sheet.{lines, State, broken, outcome}
 use Rattle.sheet_requests.specs.inner.Place.{state_of, next_line_bytes, text_owed, finally}
 use Rattle.sheet_requests.specs.declared.blocks.Stage.{Stage}
 use Rattle.sheet_requests.specs.declared.blocks.Stage.TheVariants.{Waiting, Collecting, Stopped}

@@ -136,7 +136,8 @@ header_strict line e =
 
 price_strict : (line : List ℕ) → clean 12 line ≡ false → read_price_line line ≡ Unpriced
 unfolding read_price_line
-price_strict line e = unclean_read (columned 12 line) (no_feed (take 12 line)) _ Unpriced e (price_fed (slice 0 12 line))
+price_strict line e =
+    unclean_read (columned 12 line) (no_feed (take 12 line)) _ Unpriced e (price_fed (slice 0 12 line))
 
 -- ---- the two states that read
 

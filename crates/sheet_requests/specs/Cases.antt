@@ -44,12 +44,10 @@ zeros =
 example :
     sheet (bytes "   7   2     1     2     4\n          10\n          12\n          12\n          11\n")
     ≡ bytes "   7   2   0     4\n   0\n   1\n   1\n  -1\n" ++ zeros
-unfolding whole outcome lines with_prices ending
-    read_header request_of read_price_line read_field read_price signed number
-    answer_text head_line position_lines count_lines count_line print_field
-    rule_answer rule_line answered double_answer slices checked windowed accepted
-    single_line double_line mid_line mean window_sum extreme pick_from running_mean running_sum recur sum_from from_bar sign_of
-    add sub div of_int lt eq le to_bits
+unfolding whole outcome lines with_prices ending read_header request_of read_price_line read_field read_price signed
+    number answer_text head_line position_lines count_lines count_line print_field rule_answer rule_line answered
+    double_answer slices checked windowed accepted single_line double_line mid_line mean window_sum extreme pick_from
+    running_mean running_sum recur sum_from from_bar sign_of add sub div of_int lt eq le to_bits
 example = refl
 
 -- no input; windows out of order and then a good request of one bar; an input that ends
@@ -68,12 +66,10 @@ sheets :
     ∷ (bytes "   0   0  10     0\n" ++ zeros)
     ∷ (bytes "   3   3   0     1\n   0\n   0   0  10     0\n" ++ zeros)
     ∷ []
-unfolding whole outcome lines with_prices ending
-    read_header request_of read_price_line read_field read_price signed number
-    answer_text head_line position_lines count_lines count_line print_field
-    rule_answer rule_line answered double_answer slices checked windowed accepted
-    single_line double_line mid_line mean window_sum extreme pick_from running_mean running_sum recur sum_from from_bar sign_of
-    add sub div of_int lt eq le to_bits
+unfolding whole outcome lines with_prices ending read_header request_of read_price_line read_field read_price signed
+    number answer_text head_line position_lines count_lines count_line print_field rule_answer rule_line answered
+    double_answer slices checked windowed accepted single_line double_line mid_line mean window_sum extreme pick_from
+    running_mean running_sum recur sum_from from_bar sign_of add sub div of_int lt eq le to_bits
 sheets = refl
 
 -- desks 0 and 17: no bars, and a window that the library refuses; a price that is none;
@@ -93,12 +89,10 @@ desk_cases :
     ∷ (bytes "  16   1   7     0\n  17   1  15     0\n  16   1   7     0\n"
     ++ count_lines desks (λ d. cond (eqb d 16) 2 0))
     ∷ []
-unfolding whole outcome lines with_prices ending
-    read_header request_of read_price_line read_field read_price signed number
-    answer_text head_line position_lines count_lines count_line print_field
-    rule_answer rule_line answered double_answer slices checked windowed accepted
-    single_line double_line mid_line mean window_sum extreme pick_from running_mean running_sum recur sum_from from_bar sign_of
-    add sub div of_int lt eq le to_bits
+unfolding whole outcome lines with_prices ending read_header request_of read_price_line read_field read_price signed
+    number answer_text head_line position_lines count_lines count_line print_field rule_answer rule_line answered
+    double_answer slices checked windowed accepted single_line double_line mid_line mean window_sum extreme pick_from
+    running_mean running_sum recur sum_from from_bar sign_of add sub div of_int lt eq le to_bits
 desk_cases = refl
 
 -- of these two requests of desk 16 and one of desk 17 the first alone is refused

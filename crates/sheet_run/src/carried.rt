@@ -9,7 +9,7 @@ use sheet_requests::status::Status;
 
 // What is carried from turn to turn: the sheet and its place in the
 // block, where the bytes in the block end, and what was answered last.
-#[derive(Drop)]
+#[derive(Clone, Copy)]
 pub struct Carried {
     pub place: Place,
     pub end: usize,

@@ -1,16 +1,18 @@
 // Standard input and standard output: a block of input read, and a text written.
 //
-// No contract of the kit says which bytes a call of C's reads or writes. That the block
+// No contract of std says which bytes a call of the system's reads or writes. That the block
 // holds what came, and that the bytes handed over are written, is assumed here, and
 // tested by tools/sheet_compare; what is done with the bytes in the buffers is proved.
 ghost use Rattle.std.specs.Prelude.{◌≡◌, ◌≤◌, ◌+◌, length, take};
 ghost use Rattle.sheet_run.specs.Run.{input_of, bytes_read};
 ghost use Rattle.sheet_run.specs.inner.Refills.{Refills};
 
-use libc::{STDIN_FILENO, STDOUT_FILENO};
+use crate::streams;
+use crate::streams::Streams;
+use std::io::{Error, ErrorKind, Read, Stdout, Write};
 
 // What a read answered: so many bytes came, the input has ended, or it could not be read.
-#[derive(Drop)]
+#[derive(Clone, Copy)]
 pub enum Input {
     Bytes(usize),
     Ended,
@@ -18,14 +20,14 @@ pub enum Input {
 }
 
 // What became of a text: how many bytes were handed over to be written, and whether all were taken.
-#[derive(Drop)]
+#[derive(Clone, Copy)]
 pub struct Output {
     pub bytes: usize,
     pub taken: bool,
 }
 
 // The bytes that are in the block after a read: where they end, and what the read answered.
-#[derive(Drop)]
+#[derive(Clone, Copy)]
 pub struct Refilled {
     pub end: usize,
     pub input: Input,
@@ -47,23 +49,27 @@ fn input_of(got: isize, room: &[u8]) -> Input
 }
 
 // Reads once. The reason why a read failed goes to standard error.
-fn read_some(room: &mut [u8]) -> Input
+fn read_some(streams: Streams, room: &mut [u8]) -> Input
     ensures { bytes_read result ≤ length room.old }
 {
-    let got = libc::read(STDIN_FILENO, room);
-    if got < 0 {
-        os::fail(b"sheet: reading");
-    }
+    let mut input = streams.input;
+    let got = match input.read(room) {
+        Ok(count) => count as isize,
+        Err(why) => {
+            streams::tell(streams.errors, "reading", why);
+            -1
+        }
+    };
     input_of(got, room)
 }
 
 // Reads once behind the first `kept` bytes of the block, which stay.
-fn read_on(block: &mut [u8], kept: usize) -> Input
+fn read_on(streams: Streams, block: &mut [u8], kept: usize) -> Input
     requires { kept ≤ length block.old }
     ensures { (kept + bytes_read result ≤ length block.old)
         × (take kept block.new ≡ take kept block.old) }
 {
-    read_some(&mut block[kept..])
+    read_some(streams, &mut block[kept..])
 }
 
 // How many bytes came.
@@ -78,28 +84,46 @@ fn count_of(input: Input) -> usize
 }
 
 // Moves the bytes from `at` to `end`, which are left, to the front of the block, and reads once behind them.
-pub fn refill(block: &mut [u8], at: usize, end: usize) -> Refilled
+pub fn refill(streams: Streams, block: &mut [u8], at: usize, end: usize) -> Refilled
     requires { (at ≤ end) × (end ≤ length block.old) }
     ensures { Refills at end block.old result block.new }
 {
     let kept = cells::keep(block, at, end);
-    let input = read_on(block, kept);
+    let input = read_on(streams, block, kept);
     Refilled {
         end: kept + count_of(input),
         input: input,
     }
 }
 
+// Writes all of the bytes, or stops at the first write that takes nothing or fails. A write that a signal
+// interrupts is one that failed.
+fn write_all(output: Stdout, bytes: &[u8]) -> Result<(), Error> {
+    let mut output = output;
+    let mut done = 0;
+    while done < bytes.len() {
+        let count = output.write(&bytes[done..])?;
+        if count == 0 {
+            return Err(Error::new(ErrorKind::WriteZero, "failed to write whole buffer"));
+        }
+        done += count;
+    }
+    Ok(())
+}
+
 // Writes the first `filled` bytes of the text. The reason why a write failed goes to standard error.
-pub fn write_text(text: &[u8], filled: usize) -> Output
+pub fn write_text(streams: Streams, text: &[u8], filled: usize) -> Output
     requires { filled ≤ length text.now }
     ensures { result.bytes ≡ filled }
 {
     let bytes = &text[..filled];
-    let taken = io::write_all(STDOUT_FILENO, bytes);
-    if !taken {
-        os::fail(b"sheet: writing");
-    }
+    let taken = match write_all(streams.output, bytes) {
+        Ok(()) => true,
+        Err(why) => {
+            streams::tell(streams.errors, "writing", why);
+            false
+        }
+    };
     Output {
         bytes: bytes.len(),
         taken: taken,

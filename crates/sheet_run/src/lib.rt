@@ -1,9 +1,11 @@
 // A run of the sheet: its buffers, a turn that reads a block and writes its answers, the end, the loop over the turns,
-// and the run as a C function that answers the numbers with which it ends; tools/sheet/main.c calls that.
+// and the run that answers the numbers with which it ends. The crate sheet_run_c has that as a C function, which
+// tools/sheet/main.c calls.
 #![tactic(auto)]
 
 pub mod carried;
 pub mod input;
+pub mod streams;
 
 ghost use Rattle.std.specs.Prelude.{◌≡◌, ◌≤◌, length};
 ghost use Rattle.sheet_requests.specs.Whole.{end_of};
@@ -18,6 +20,8 @@ use sheet_lines::MOST_BARS;
 use sheet_requests::WORK_CELLS;
 use sheet_requests::blocks::TEXT_ROOM;
 use sheet_requests::status::{End, Fault};
+use std::io::{Stderr, Stdin, Stdout};
+use streams::Streams;
 
 // The most bytes that are in the block, and the bytes that it may print.
 const BLOCK_BYTES: usize = 65536;
@@ -25,7 +29,7 @@ const BLOCK_BYTES: usize = 65536;
 const TEXT_BYTES: usize = BLOCK_BYTES + TEXT_ROOM;
 
 // The end of a run: what became of the text that is printed last, and where the input breaks.
-#[derive(Drop)]
+#[derive(Clone, Copy)]
 pub struct Closed {
     pub output: Output,
     pub fault: Fault,
@@ -34,6 +38,7 @@ pub struct Closed {
 // Moves the bytes that are left to the front of the block, reads
 // once behind them, feeds them all, and writes the answers.
 pub fn turn(
+    streams: Streams,
     carried: Carried,
     block: &mut [u8],
     series: &mut [f64],
@@ -47,11 +52,11 @@ pub fn turn(
         × (work.new ≡ work.old) }
 {
     let place = carried.place;
-    let read = input::refill(block, place.at, carried.end);
+    let read = input::refill(streams, block, place.at, carried.end);
     let end = read.end;
     let input = read.input;
     let next = sheet_text::feed(place.sheet, &block[..end], series, out, work, text);
-    let output = input::write_text(text, next.filled);
+    let output = input::write_text(streams, text, next.filled);
     Carried {
         place: next,
         end: end,
@@ -61,7 +66,7 @@ pub fn turn(
 }
 
 // Writes what is printed last, nothing where not all was read and written, and says where the input breaks.
-pub fn close(carried: Carried, text: &mut [u8]) -> Closed
+pub fn close(streams: Streams, carried: Carried, text: &mut [u8]) -> Closed
     requires { Carrying carried × (cut_bytes ≤ length text.old) }
     ensures { Closes carried result text.new }
 {
@@ -69,7 +74,7 @@ pub fn close(carried: Carried, text: &mut [u8]) -> Closed
     let sheet = place.sheet;
     let kept = carried.end - place.at;
     let count = sheet_requests::closing::finish(carried::status(carried), sheet, kept, text);
-    let output = input::write_text(text, count);
+    let output = input::write_text(streams, text, count);
     let fault = sheet_requests::closing::fault_at_end(sheet, kept);
     Closed {
         output: output,
@@ -89,6 +94,7 @@ pub fn end_of(carried: Carried, closed: Closed) -> End
 // Turns until the end of the input, or until a line breaks its columns.
 // They are counted down, from a number that no run uses up.
 fn run(
+    streams: Streams,
     block: &mut [u8],
     series: &mut [f64],
     out: &mut [f64],
@@ -101,21 +107,32 @@ fn run(
     let mut carried = carried::first();
     let mut turns = u64::MAX;
     while turns > 0 && sheet_requests::status::goes_on(carried::status(carried)) {
-        carried = turn(carried, block, series, out, work, text);
+        carried = turn(streams, carried, block, series, out, work, text);
         turns -= 1;
     }
-    end_of(carried, close(carried, text))
+    end_of(carried, close(streams, carried, text))
 }
 
 // A run with buffers of its own.
-#[unsafe(no_mangle)]
-pub extern "C" fn tegbalowu_sheet() -> End
+pub fn tegbalowu_sheet(input: Stdin, output: Stdout, errors: Stderr) -> End
     ensures { Ends result }
 {
+    let streams = Streams {
+        input: input,
+        output: output,
+        errors: errors,
+    };
     let mut block = [0u8; BLOCK_BYTES];
     let mut series = [0.0; MOST_BARS];
     let mut out = [0.0; MOST_BARS];
     let mut work = [0.0; WORK_CELLS];
     let mut text = [0u8; TEXT_BYTES];
-    run(&mut block, &mut series, &mut out, &mut work, &mut text)
+    run(
+        streams,
+        &mut block,
+        &mut series,
+        &mut out,
+        &mut work,
+        &mut text,
+    )
 }

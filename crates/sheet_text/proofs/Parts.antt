@@ -15,7 +15,6 @@ use Rattle.sheet_requests.specs.declared.blocks.Place.{Place}
 use Rattle.sheet_requests.specs.declared.blocks.Stage.{Stage}
 use Rattle.sheet_requests.specs.declared.blocks.Stage.TheVariants.{Waiting, Collecting, Stopped}
 use Rattle.sheet_requests.specs.inner.Place.{state_of, beginning, next_line_bytes}
-use Rattle.sheet_requests.specs.inner.Taken.{text_room}
 use Rattle.sheet_requests.specs.inner.Finished.{Finished}
 use Rattle.sheet_requests.specs.declared.status.Status.TheVariants.{Done}
 use Rattle.sheet_text.specs.inner.Block.{Fed}

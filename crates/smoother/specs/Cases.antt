@@ -62,5 +62,6 @@ smoother_cases : (cells 7 (smooth (coefficients 1) (line prices))
     × (cells 7 (smooth (coefficients 512) (line prices))
     ≡ after (0x402811b1260fa8f8 ∷ 0x402fe9bb19a15441 ∷ 0x4033a0ecc365586c ∷ []))
     × (cells 5 (smooth (coefficients 0) (line prices)) ≡ num 1 ∷ num 2 ∷ num 4 ∷ num 8 ∷ nan ∷ [])
-unfolding smooth formula coefficients of_pair a1_of b1_of a1_table b1_table a1_bits b1_bits of_bits of_int neg add sub mul div
+unfolding smooth formula coefficients of_pair a1_of b1_of a1_table b1_table a1_bits b1_bits of_bits of_int neg add sub
+    mul div
 smoother_cases = (refl, refl, refl, refl)

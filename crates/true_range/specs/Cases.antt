@@ -57,7 +57,8 @@ abbrev one_bar : CloseBefore → Answer
 one_bar first = true_range_answer (plus_zero ∷ []) (plus_zero ∷ []) (plus_zero ∷ []) first 1
 
 -- unknown; 2 ^ 30, and the whole number above it; -0.0; a NaN; then a refusal that comes first, and no bars
-range_answers : one_bar Unknown ∷ one_bar (Known (fin false 1 (pos 30))) ∷ one_bar (Known (fin false 1073741825 (pos 0)))
+range_answers : one_bar Unknown ∷ one_bar (Known (fin false 1 (pos 30)))
+    ∷ one_bar (Known (fin false 1073741825 (pos 0)))
     ∷ one_bar (Known minus_zero)
     ∷ one_bar (Known nan)
     ∷ true_range_answer (plus_zero ∷ []) [] (plus_zero ∷ []) (Known nan) 1

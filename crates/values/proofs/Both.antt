@@ -1,5 +1,5 @@
 -- A test in two parts: one that is true of a good number, and bits of which a good number has none. Assumes nothing.
-use Rattle.std.proofs.Common.{◌≡◌, ℕ, zero, suc, ◌+◌, Bool, true, false, ◌&&◌, eqb, refl, ◌∙◌, arith, ne_eqb}
+use Rattle.std.proofs.Common.{◌≡◌, ℕ, zero, suc, ◌+◌, Bool, true, ◌&&◌, eqb, refl, ◌∙◌, arith, ne_eqb}
 use lib.Bits.{bit_or, or_add_and, and_le_r}
 use lib.Ieee.{Float}
 use Rattle.cells.specs.Line.{Line}

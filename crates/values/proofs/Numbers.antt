@@ -1,5 +1,5 @@
 -- Accepted values are numbers, and so are their differences. Assumes nothing.
-use Rattle.std.proofs.Common.{◌≡◌, ℕ, ◌<◌, Bool, true, false, T, List, length, get_or, sym, refl, subst, true≢false}
+use Rattle.std.proofs.Common.{◌≡◌, ℕ, ◌<◌, true, false, T, List, length, get_or, sym, refl, subst, true≢false}
 use lib.Ieee.{Float, nan, inf, fin, binary64, sub, lt, eq, le, is_nan}
 use lib.Ieee.Scale.{finite}
 use Rattle.rounding.proofs.Signs.{difference_number}

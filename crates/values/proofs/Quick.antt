@@ -1,5 +1,5 @@
 -- Why the quick test is right: a number whose bits are at most those of 2 ^ k lies from 0.0 to 2 ^ k. Assumes nothing.
-use Rattle.std.proofs.Common.{◌≡◌, ℕ, zero, suc, ◌+◌, ◌-◌, ◌*◌, ◌/◌, ◌%◌, ◌^◌, ◌<◌, ◌≤◌, Bool, true, false, cond, not, T, ltb, List, [], ◌∷◌, length, get_or, pos, sym, refl, ◌∙◌, subst, true≢false, zero-le, le_trans, le_of_eq, lt_of_lt_of_le, le_of_lt, mod-lt, mod-eq_of_lt, mul-pos, one-mul, div-add-mod', mul-one, arith, pow_pos, pow_mono, pow-add, shl_lt, ltb-false, ltb-true, lt-ltb, ne_eqb}
+use Rattle.std.proofs.Common.{◌≡◌, ℕ, zero, suc, ◌+◌, ◌*◌, ◌/◌, ◌%◌, ◌^◌, ◌<◌, ◌≤◌, Bool, true, false, cond, not, T, ltb, List, length, get_or, pos, sym, refl, ◌∙◌, subst, true≢false, le_trans, le_of_eq, le_of_lt, mod-lt, mod-eq_of_lt, mul-pos, one-mul, div-add-mod', mul-one, arith, pow_pos, pow_mono, pow-add, shl_lt, ltb-false, ltb-true, lt-ltb, ne_eqb}
 use borrow.Author.Tests.{lt-leb}
 use lib.Bits.{bit_or, or_add_and, and_le_l, and_le_r}
 use lib.Ieee.{Float, nan, inf, fin, binary64, up, down, lt, eq, le, fits, is_nan, of_fields, of_bits, to_bits}
@@ -86,7 +86,8 @@ small k t l = rw (mul-one t) (le_trans (le_of_lt l) (pow_mono (more k)))
     more : (k : ℕ) → 52 ≤ k + 1074
     more k = omega arith
 
-of_fields_lem : (k x t : ℕ) → k ≤ 30 → t < 2 ^ 52 → x * 2 ^ 52 + t ≤ power_bits k → UpTo k (of_fields binary64 false x t)
+of_fields_lem : (k x t : ℕ) → k ≤ 30 → t < 2 ^ 52 → x * 2 ^ 52 + t ≤ power_bits k
+    → UpTo k (of_fields binary64 false x t)
 unfolding of_fields
 of_fields_lem k zero t n l h = record { count = t * 2 ^ 0; value = odd_sign 53 false t 0 1074; at_most = small k t l }
 of_fields_lem k (suc x) t n l h =
@@ -139,7 +140,8 @@ own_bits : (k : ℕ) (x : Float) → k ≤ 30 → to_bits binary64 (capped x) �
 unfolding capped
 own_bits k x n h = go (lt x (fin false 1 (pos 31))) h
   where
-    go : (t : Bool) → to_bits binary64 (cond t x (fin false 1 (pos 31))) ≤ power_bits k → to_bits binary64 x ≤ power_bits k
+    go : (t : Bool) → to_bits binary64 (cond t x (fin false 1 (pos 31))) ≤ power_bits k
+        → to_bits binary64 x ≤ power_bits k
     go true h = h
     go false h = absurd (omega (arith, limit))
 

@@ -146,9 +146,11 @@ pub record TickTests (x : Float) : Type 0 where
   pub high : T (lt (magnitude_of x) (fin false 1 (pos 64)))
   pub back : T (in_float binary64 (pos (to_unsigned 64 (magnitude_of x))))
   pub broken : eq (of_int binary64 (pos (to_unsigned 64 (magnitude_of x)))) (magnitude_of x) ≡ false → tick x ≡ false
-  pub zeros : eq (of_int binary64 (pos (to_unsigned 64 (magnitude_of x)))) (magnitude_of x) ≡ true → eq x plus_zero ≡ true
+  pub zeros : eq (of_int binary64 (pos (to_unsigned 64 (magnitude_of x)))) (magnitude_of x) ≡ true
+      → eq x plus_zero ≡ true
       → tick x ≡ lt plus_zero (sign_of x)
-  pub kept : eq (of_int binary64 (pos (to_unsigned 64 (magnitude_of x)))) (magnitude_of x) ≡ true → eq x plus_zero ≡ false
+  pub kept : eq (of_int binary64 (pos (to_unsigned 64 (magnitude_of x)))) (magnitude_of x) ≡ true
+      → eq x plus_zero ≡ false
       → tick x ≡ true
 
 module _ (s : Bool) (m : ℕ) (e : ℤ) (w : le (fin false m e) (fin false 1 (pos 24)) ≡ true) where
@@ -214,7 +216,8 @@ below_either false q h = lt-ltb q (2 ^ 63) (omega arith)
 
 pub ticked : (x : Float) → tick x ≡ true → Ticked x
 unfolding tick in_signed whole magnitude_of
-ticked nan e = let broken = (and_parts (within 24 nan) false e).1 in let z : ◌≡◌ {A = ℕ} 0 1 = cc in absurd (omega arith)
+ticked nan e =
+    let broken = (and_parts (within 24 nan) false e).1 in let z : ◌≡◌ {A = ℕ} 0 1 = cc in absurd (omega arith)
 ticked (inf s) e = let broken = (and_parts (within 24 (inf s)) false e).1 in let z : ◌≡◌ {A = ℕ} 0 1 = cc in absurd
     (omega arith)
 ticked (fin s m e) t =

@@ -32,7 +32,8 @@ unfolding eq of_bits
 closed = refl
 
 -- the bits of -0.0 are those of a number equal to 0
-pub of_other : (x : Float) → T (fits binary64 x) → eq x plus_zero ≡ false → true ≡ not (eqb (to_bits binary64 x) (2 ^ 63))
+pub of_other : (x : Float) → T (fits binary64 x) → eq x plus_zero ≡ false
+    → true ≡ not (eqb (to_bits binary64 x) (2 ^ 63))
 of_other x f e = go (eqb (to_bits binary64 x) (2 ^ 63)) refl
   where
     is : to_bits binary64 x ≡ 2 ^ 63 → eq x plus_zero ≡ true

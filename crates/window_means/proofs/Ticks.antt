@@ -22,7 +22,8 @@ use Rattle.exact_ticks.proofs.RunningSums.{running_sum_exact}
 use Rattle.exact_ticks.proofs.TickMeans.{tick_line}
 
 -- the mean at every bar is the running sum there over n
-pub running_mean_lem : (s : List Float) (n i : ℕ) → ((j : ℕ) → T (fits binary64 (line s j))) → all tick s ≡ true → Window n
+pub running_mean_lem : (s : List Float) (n i : ℕ) → ((j : ℕ) → T (fits binary64 (line s j))) → all tick s ≡ true
+    → Window n
     → i < length s
     → running_means n (line s) i ≡ mean n (line s) i
 unfolding running_sums mean

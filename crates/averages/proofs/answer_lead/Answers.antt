@@ -3,7 +3,6 @@
 use mathlib.Core.List.{[], ◌∷◌}
 use Prim.Native.Nat.{◌<◌}
 use native.Mathlib.Omega.{arith}
-use borrow.Author.Rules.{rules}
 use lib.ListN.{length}
 use Rattle.calls.specs.Answer.{count_of}
 use Rattle.calls.proofs.Call.{some_cells, no_cells, all_called, none_called}
@@ -33,7 +32,8 @@ returns-then-has_cells c f =
     let w = (answered_windows _ _ (a.n ∷ []) _ _ answer (due (goal.at.returns-then-has_cells c).Then-has_cells)).0 in
     let none : length a.series.now < a.n = none_fits (length a.series.now) a.n _ c.requires w
     r.short r.out_long in
-    all_called (all_bars _ _ _ _ _) answer (due (goal.at.returns-then-has_cells c).Then-has_cells) (lead_only c.fill_nan.ensures f (omega arith))
+    all_called (all_bars _ _ _ _ _) answer (due (goal.at.returns-then-has_cells c).Then-has_cells)
+    (lead_only c.fill_nan.ensures f (omega arith))
 
 pub returns-else-has_cells : goal.returns-else-has_cells
 returns-else-has_cells c f =

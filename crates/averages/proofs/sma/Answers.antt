@@ -2,7 +2,6 @@
 use mathlib.Core.Path.{◌≡◌, refl, sym, ◌∙◌}
 use mathlib.Core.Bool.{true, ◌&&◌}
 use native.Mathlib.Omega.{arith}
-use borrow.Author.Rules.{rules}
 use lib.ListN.{length}
 use Rattle.values.specs.Accepted.{accepted, all}
 use Rattle.values.proofs.Part.{both_passing, all_passing}
@@ -48,15 +47,19 @@ answer_lead-requires c = sym c.window_fits.ensures ∙ c.if-window_fits.false
 pub returns-then-sum-accepted_from : goal.returns-then-sum-accepted_from
 returns-then-sum-accepted_from c =
     let a = c.args in
-    rw (fits_answered accepted a.series.now a.n (length a.out.now) (told (goal.at.returns-then-sum-accepted_from c).Then-window_fits))
-    (values_pass a.series.now (tests (goal.at.returns-then-sum-accepted_from c).After-accepted_from) c.if-sum-accepted_from.true
+    rw (fits_answered accepted a.series.now a.n (length a.out.now)
+    (told (goal.at.returns-then-sum-accepted_from c).Then-window_fits))
+    (values_pass a.series.now (tests (goal.at.returns-then-sum-accepted_from c).After-accepted_from)
+    c.if-sum-accepted_from.true
     c.write_means.ensures)
 
 pub returns-else-sum-accepted_from : goal.returns-else-sum-accepted_from
 returns-else-sum-accepted_from c =
     let a = c.args in
-    rw (fits_answered accepted a.series.now a.n (length a.out.now) (told (goal.at.returns-else-sum-accepted_from c).Then-window_fits))
-    (values_fail a.series.now (tests (goal.at.returns-else-sum-accepted_from c).After-accepted_from) c.if-sum-accepted_from.false)
+    rw (fits_answered accepted a.series.now a.n (length a.out.now)
+    (told (goal.at.returns-else-sum-accepted_from c).Then-window_fits))
+    (values_fail a.series.now (tests (goal.at.returns-else-sum-accepted_from c).After-accepted_from)
+    c.if-sum-accepted_from.false)
 
 pub returns-else-window_fits : goal.returns-else-window_fits
 unfolding sma_line

@@ -1,7 +1,6 @@
 -- `write_means` meets its contract: the lead, the first mean, and the running means after it. Assumes nothing.
 use mathlib.Core.Path.{◌∙◌}
 use native.Mathlib.Omega.{arith}
-use borrow.Author.Rules.{rules}
 use lib.ListN.{length-set}
 use Rattle.windows.proofs.Window.{count_is_float}
 use Rattle.windows.proofs.Means.{led_means}

@@ -1,7 +1,6 @@
 -- `half_even` meets its contract: a half up that is a tie goes down to the even one. Assumes nothing.
 use mathlib.Core.Path.{sym}
 use native.Mathlib.Omega.{arith}
-use borrow.Author.Rules.{rules}
 use Rattle.averages_ticks.proofs.Even.{up_parts, tied, untied}
 use Rattle.averages_ticks.proofs.Share.{sum_near}
 use Rattle.averages_ticks.proofs.half_even.Goals as goal

@@ -1,6 +1,5 @@
 -- `half_up` meets its contract: the product is the whole share, or one too many. Assumes nothing.
 use native.Mathlib.Omega.{arith}
-use borrow.Author.Rules.{rules}
 use Rattle.averages_ticks.proofs.Share.{product_fits, back_fits, one_too_many, whole_already}
 use Rattle.averages_ticks.proofs.half_up.Goals as goal
 

@@ -2,7 +2,6 @@
 use Prim.Native.Nat.{◌*◌}
 use native.Mathlib.Nat.{div-le_self}
 use native.Mathlib.Omega.{arith}
-use borrow.Author.Rules.{rules}
 use Rattle.averages_ticks.proofs.share_of.Goals as goal
 
 pub overflow_add-result : goal.overflow_add-result

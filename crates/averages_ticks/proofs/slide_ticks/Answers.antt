@@ -1,20 +1,16 @@
 -- `slide_ticks` meets its contract: each turn takes a tick in, writes the mean, and lets the oldest tick go. Assumes
 -- nothing.
-use Prim.Native.Nat.{◌+◌, ◌-◌, ◌≤◌}
+use Prim.Native.Nat.{◌+◌, ◌-◌}
 use native.Mathlib.Omega.{arith}
-use borrow.Author.Rules.{rules, sfits_of}
+use borrow.Author.Rules.{sfits_of}
 use lib.IntN.{◌+ℤ◌, ◌-ℤ◌}
-use lib.ListN.{length}
 use lib.Ieee.{to_signed}
 use mir.Syntax.{w64}
 use mir.Val.{to_z}
 use mir.ValLaws.{to_z-of_z}
 use Rattle.cells.specs.Line.{line}
-use Rattle.cells.specs.Written.{Writing}
 use Rattle.cells.proofs.Written.{one_more, ends}
-use Rattle.averages_ticks.specs.TickMean.{tick_mean_line}
 use Rattle.averages_ticks.proofs.Whole.{held}
-use Rattle.averages_ticks.specs.inner.Ticks.{TickSum}
 use Rattle.averages_ticks.proofs.Ticks.{
   HeldSum,
   castable_at,
@@ -47,8 +43,8 @@ rest c =
     let a = c.args in
     let s = a.series.now in
     let window_held : HeldSum s (c.loop-i.i + 1 - a.n) a.n
-        (to_z w64 c.loop-i.rest-bits +ℤ held (to_signed 63 (line s c.loop-i.i))) =
-        hold_in c.requires.ticks c.loop-i.i c.loop-i.invariant.3 (omega arith) in
+    (to_z w64 c.loop-i.rest-bits +ℤ held (to_signed 63 (line s c.loop-i.i))) =
+    hold_in c.requires.ticks c.loop-i.i c.loop-i.invariant.3 (omega arith) in
     hold_out c.requires.ticks window_held.sum (omega arith)
 
 pub loop-i-init : goal.loop-i-init

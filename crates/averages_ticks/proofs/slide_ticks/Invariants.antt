@@ -1,30 +1,11 @@
 -- `slide_ticks` meets its contract: each turn takes a tick in, writes the mean, and lets the oldest tick go. Assumes
 -- nothing.
 use Prim.Native.Nat.{◌+◌, ◌-◌, ◌≤◌}
-use native.Mathlib.Omega.{arith}
-use borrow.Author.Rules.{rules, sfits_of}
-use lib.IntN.{◌+ℤ◌, ◌-ℤ◌}
 use lib.ListN.{length}
-use lib.Ieee.{to_signed}
-use mir.Syntax.{w64}
-use mir.Val.{to_z}
-use mir.ValLaws.{to_z-of_z}
 use Rattle.cells.specs.Line.{line}
 use Rattle.cells.specs.Written.{Writing}
-use Rattle.cells.proofs.Written.{one_more, ends}
 use Rattle.averages_ticks.specs.TickMean.{tick_mean_line}
-use Rattle.averages_ticks.proofs.Whole.{held}
 use Rattle.averages_ticks.specs.inner.Ticks.{TickSum}
-use Rattle.averages_ticks.proofs.Ticks.{
-  HeldSum,
-  castable_at,
-  sum_small,
-  hold,
-  hold_in,
-  hold_out,
-  ticks_same,
-  tick_cell,
-}
 use Rattle.averages_ticks.proofs.slide_ticks.Given as goal
 
 abbrev pub invariant-loop-i : goal.invariant-loop-i

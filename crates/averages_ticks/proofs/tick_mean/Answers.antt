@@ -1,7 +1,6 @@
 -- `tick_mean` meets its contract: the answer is that of the table, and where it has cells they are written. Assumes
 -- nothing.
 use Prim.Native.Nat.{◌<◌}
-use borrow.Author.Rules.{rules}
 use Rattle.calls.specs.Answer.{count_of}
 use Rattle.calls.proofs.Call.{some_cells, no_cells, all_called, none_called}
 use Rattle.calls.proofs.Room.{all_bars}
@@ -18,7 +17,8 @@ write_tick_means-requires c =
 
 pub returns-then-has_cells : goal.returns-then-has_cells
 returns-then-has_cells c =
-    all_called (all_bars _ _ _ _ _) c.answer_tick_window-due.ensures (due (goal.at.returns-then-has_cells c).Then-has_cells)
+    all_called (all_bars _ _ _ _ _) c.answer_tick_window-due.ensures
+    (due (goal.at.returns-then-has_cells c).Then-has_cells)
     c.write_tick_means.ensures
 
 pub returns-else-has_cells : goal.returns-else-has_cells

@@ -1,6 +1,5 @@
 -- `write_tick_means` meets its contract: the lead, and the means after it. Assumes nothing.
 use native.Mathlib.Omega.{arith}
-use borrow.Author.Rules.{rules}
 use Rattle.cells.proofs.Written.{stands, then_written}
 use Rattle.averages_ticks.proofs.Ticks.{hold, lead_cells}
 use Rattle.averages_ticks.proofs.write_tick_means.Goals as goal

@@ -1,6 +1,6 @@
 -- Division by a product: a number times 2^38 / (2 * n), rounded up, over 2^38, is its whole part by 2 * n, or one too
 -- many. Assumes nothing.
-use Rattle.std.specs.Prelude.{◌≡◌, ℕ, ◌+◌, ◌*◌, ◌/◌, ◌<◌, ◌≤◌, ◌^◌}
+use Rattle.std.specs.Prelude.{◌≡◌, ℕ, ◌+◌, ◌*◌, ◌/◌, ◌≤◌, ◌^◌}
 use Rattle.limits.specs.Limits.{Window, tick_power}
 
 -- 2^38 / (2 * n), rounded up

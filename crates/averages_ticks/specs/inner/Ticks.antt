@@ -1,6 +1,6 @@
 -- Sums of whole ticks, as the loops of `tick_mean` make them: one tick in, one out, and an i64 holds them. Assumes
 -- nothing.
-use Rattle.std.specs.Prelude.{◌≡◌, true, List, ℕ, ◌-◌, ◌<◌, ◌≤◌, ℤ, pos, length, Float}
+use Rattle.std.specs.Prelude.{◌≡◌, true, List, ℕ, ◌-◌, ◌≤◌, ℤ, pos, length, Float}
 use Rattle.values.specs.Accepted.{tick, all}
 use Rattle.cells.specs.Line.{line}
 use Rattle.cells.specs.Written.{Writing}

@@ -1,5 +1,4 @@
 -- `cell` meets its contract: its tests are those of `wilder_cell`. Assumes nothing.
-use borrow.Author.Rules.{rules}
 use lib.Ieee.{of_bits}
 use Rattle.averages_wilder.proofs.cell.Goals as goal
 

@@ -1,13 +1,7 @@
 -- `first_mean` meets its contract: the loop sums the first n cells. Assumes nothing.
 use Prim.Native.Nat.{◌-◌, ◌≤◌}
-use native.Mathlib.Nat.{zero-add}
-use native.Mathlib.Omega.{arith}
-use borrow.Author.Rules.{rules}
-use lib.Ieee.{of_bits}
 use Rattle.cells.specs.Line.{line, plus_zero}
 use Rattle.windows.specs.inner.Sums.{Summing}
-use Rattle.windows.proofs.Window.{none_summed, count_is_float}
-use Rattle.averages_wilder.proofs.Stages.{summed, seed_of}
 use Rattle.averages_wilder.proofs.first_mean.Given as goal
 
 abbrev pub invariant-loop-k : goal.invariant-loop-k

@@ -1,7 +1,6 @@
 -- `next` meets its contract: each average takes one step, with the bar's own gain or loss. Assumes nothing.
 use mathlib.Core.Path.{◌∙◌}
 use native.Mathlib.Omega.{arith}
-use borrow.Author.Rules.{rules}
 use Rattle.changes.proofs.Bars.{gain_is, loss_is}
 use Rattle.averages_wilder.proofs.Stages.{next_of}
 use Rattle.averages_wilder.proofs.next.Goals as goal

@@ -1,13 +1,8 @@
 -- `seed` meets its contract: the loop sums the gains and the losses of the bars 1 to n. Assumes nothing.
-use mathlib.Core.Path.{◌∙◌}
-use Prim.Native.Nat.{◌-◌, ◌≤◌}
+use Prim.Native.Nat.{◌-◌}
 use native.Mathlib.Omega.{arith}
-use borrow.Author.Rules.{rules}
 use lib.Ieee.{of_bits}
-use Rattle.cells.specs.Line.{line, plus_zero}
-use Rattle.windows.specs.inner.Sums.{Summing}
 use Rattle.windows.proofs.Window.{none_summed, count_is_float}
-use Rattle.changes.specs.Changes.{gains, losses}
 use Rattle.changes.proofs.Bars.{gain_is, loss_is}
 use Rattle.averages_wilder.proofs.Stages.{summed, seed_of}
 use Rattle.averages_wilder.proofs.seed.Goals as goal

@@ -1,6 +1,5 @@
 -- `step` meets its contract: the same operations in the same order. Assumes nothing.
 use native.Mathlib.Omega.{arith}
-use borrow.Author.Rules.{rules}
 use Rattle.windows.proofs.Window.{count_is_float}
 use Rattle.averages_wilder.proofs.step.Goals as goal
 

@@ -6,7 +6,8 @@ use Rattle.averages_wilder.specs.Wilder.{wilder}
 use Rattle.averages_wilder.proofs.write_average.Goals as goal
 
 pub write_from_mean-requires : goal.write_from_mean-requires
-write_from_mean-requires c = unfold wilder carried in (record { window = search rules; writing = search (rules, up_to_bar) })
+write_from_mean-requires c =
+    unfold wilder carried in (record { window = search rules; writing = search (rules, up_to_bar) })
 
 pub returns-then-first-series : goal.returns-then-first-series
 returns-then-first-series c = search (rules, lead_then)

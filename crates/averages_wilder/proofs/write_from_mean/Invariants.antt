@@ -1,14 +1,10 @@
 -- `write_from_mean` meets its contract: each turn writes the average, which takes a step. Assumes nothing.
-use mathlib.Core.Path.{◌≡◌, refl, ◌∙◌}
+use mathlib.Core.Path.{◌≡◌}
 use Prim.Native.Nat.{◌+◌, ◌-◌, ◌<◌, ◌≤◌}
-use native.Mathlib.Omega.{arith}
-use borrow.Author.Rules.{rules}
 use lib.ListN.{length}
 use Rattle.cells.specs.Line.{line}
 use Rattle.cells.specs.Written.{Writing}
-use Rattle.cells.proofs.Written.{one_more, ends}
 use Rattle.averages_wilder.specs.Wilder.{wilder}
-use Rattle.averages_wilder.proofs.Stages.{next_of}
 use Rattle.averages_wilder.proofs.write_from_mean.Given as goal
 
 abbrev pub invariant-loop-i : goal.invariant-loop-i

@@ -7,7 +7,10 @@ use Rattle.averages_wilder.proofs.write_wilder_rsi.Goals as goal
 pub write_from_seed-requires : goal.write_from_seed-requires
 write_from_seed-requires c =
     let s = c.args.series.now in
-    (record { room = search rules; indexed = lead_indexed s c.fill_nan-first.ensures c.clear_bars.ensures (omega arith) })
+    (record {
+      room = search rules;
+      indexed = lead_indexed s c.fill_nan-first.ensures c.clear_bars.ensures (omega arith);
+    })
 
 pub returns-then-first-bars : goal.returns-then-first-bars
 returns-then-first-bars c =

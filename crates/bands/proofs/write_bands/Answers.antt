@@ -1,6 +1,5 @@
 -- `write_bands` meets its contract: the outer lines are made of the middle and the widths, or are NaN. Assumes nothing.
 use native.Mathlib.Omega.{arith}
-use borrow.Author.Rules.{rules}
 use Rattle.cells.specs.Line.{line}
 use Rattle.cells.proofs.Touched.{written_over_all}
 use Rattle.outer_lines.proofs.Lines.{upper_of, lower_of, filled_upper, filled_lower}

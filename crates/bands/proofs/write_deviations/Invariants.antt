@@ -1,12 +1,8 @@
 -- `write_deviations` meets its contract: the lead, and a few bars with each turn. Assumes nothing.
 use Prim.Native.Nat.{◌-◌, ◌≤◌, min}
-use native.Mathlib.Omega.{arith}
-use borrow.Author.Rules.{rules}
 use lib.ListN.{length}
 use Rattle.cells.specs.Line.{line, plus_zero}
 use Rattle.cells.specs.Written.{Writing}
-use Rattle.cells.proofs.Leads.{lead_stands, lead_then}
-use Rattle.cells.proofs.Written.{stands, then_written}
 use Rattle.deviations.specs.Deviation.{deviation}
 use Rattle.bands.proofs.write_deviations.Given as goal
 

@@ -2,15 +2,13 @@
 use mathlib.Core.Path.{sym}
 use Prim.Native.Nat.{◌≤◌}
 use native.Mathlib.Omega.{arith}
-use borrow.Author.Rules.{rules}
 use lib.ListN.{length}
 use lib.Ieee.{div, of_bits}
-use Rattle.values.specs.Accepted.{accepted}
 use Rattle.cells.specs.Line.{line}
 use Rattle.cells.proofs.Touched.{touched_more}
 use Rattle.bands.specs.Bands.{bands_width}
 use Rattle.bands.proofs.Lines.{causal_bands_width, nan_from_bar_4}
-use Rattle.bands.proofs.First.{all_first, first_long, of_first, nan_then}
+use Rattle.bands.proofs.First.{first_long, of_first, nan_then}
 use Rattle.bands.proofs.write_first_widths.Goals as goal
 use Rattle.bands.proofs.write_first_widths.Goals.{After-smaller-some}
 

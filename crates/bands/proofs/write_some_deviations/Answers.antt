@@ -1,7 +1,6 @@
 -- `write_some_deviations` meets its contract: the roots of the variances are written from bar i on. Assumes nothing.
 use Prim.Native.Nat.{◌+◌}
 use native.Mathlib.Omega.{arith}
-use borrow.Author.Rules.{rules}
 use lib.Ieee.{nan}
 use Rattle.cells.proofs.Written.{read_back}
 use Rattle.bands.proofs.Deviation.{deviation_at}

@@ -1,6 +1,5 @@
 -- `write_spread` meets its contract: of one close the deviation is 0.0. Assumes nothing.
 use native.Mathlib.Omega.{arith}
-use borrow.Author.Rules.{rules}
 use Rattle.cells.specs.Line.{line}
 use Rattle.bands.proofs.Lines.{deviation_of_some, deviation_of_one}
 use Rattle.bands.proofs.write_spread.Goals as goal

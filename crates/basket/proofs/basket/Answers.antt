@@ -1,7 +1,6 @@
 -- `basket` meets its contract: the answer is the table's, and where it has cells they are written and the work slice is
 -- cleared. Assumes nothing.
 use Prim.Native.Nat.{◌<◌}
-use native.Mathlib.Omega.{arith}
 use borrow.Author.Rules.{rules}
 use lib.ListN.{length, get_or}
 use Rattle.calls.specs.Answer.{count_of}
@@ -50,7 +49,8 @@ clear-requires c =
 
 pub returns-then-has_cells : goal.returns-then-has_cells
 returns-then-has_cells c =
-    basket_written _ _ _ _ _ c.answer_basket-due.ensures (some (goal.at.returns-then-has_cells c).Then-has_cells) c.write_nets.ensures.0
+    basket_written _ _ _ _ _ c.answer_basket-due.ensures (some (goal.at.returns-then-has_cells c).Then-has_cells)
+    c.write_nets.ensures.0
     c.write_nets.ensures.1 c.clear.ensures
 
 pub returns-else-has_cells : goal.returns-else-has_cells

@@ -16,9 +16,8 @@ add_contracts-requires c =
     (rw flat.long c.requires.0, stands flat, omega arith, c.requires.1)
 
 pub returns : goal.returns
-returns c =
-    (
-      then_written c.fill_flat.ensures c.add_contracts.ensures.0
-          (omega arith),
-      c.add_contracts.ensures.1,
-    )
+returns c = (
+  then_written c.fill_flat.ensures c.add_contracts.ensures.0
+      (omega arith),
+  c.add_contracts.ensures.1,
+)

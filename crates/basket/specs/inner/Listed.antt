@@ -1,5 +1,5 @@
 -- The tests of a basket's slices, contract by contract. Assumes nothing.
-use Rattle.std.specs.Prelude.{◌≡◌, Bool, ◌&&◌, List, ℕ, ◌+◌, ◌*◌, ◌<◌, ◌≤◌, leb, eqb, ℤ, pos, nat_abs, length, get_or, Float}
+use Rattle.std.specs.Prelude.{◌≡◌, Bool, ◌&&◌, List, ℕ, ◌+◌, ◌*◌, ◌<◌, ◌≤◌, leb, eqb, ℤ, nat_abs, length, get_or, Float}
 use Rattle.values.specs.Accepted.{all}
 use Rattle.calls.specs.declared.Refusal.TheVariants.{LengthsDiffer, OutputTooShort, WorkTooShort, WeightTooLarge}
 use Rattle.calls.specs.declared.Answer.{Answer}

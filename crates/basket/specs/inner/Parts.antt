@@ -1,5 +1,5 @@
 -- Positions that are made part by part. Assumes nothing.
-use Rattle.std.specs.Prelude.{◌≡◌, true, cond, List, ℕ, ◌*◌, ◌<◌, ◌≤◌, eqb, ℤ, pos, nat_abs, ◌*ℤ◌, length, Float}
+use Rattle.std.specs.Prelude.{◌≡◌, true, cond, List, ℕ, ◌*◌, ◌<◌, ◌≤◌, eqb, ℤ, nat_abs, ◌*ℤ◌, length, Float}
 use Rattle.limits.specs.Limits.{longest_series, Window}
 use Rattle.values.specs.Accepted.{accepted, all}
 use Rattle.cells.specs.Line.{Line, line}

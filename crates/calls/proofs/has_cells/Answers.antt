@@ -1,5 +1,4 @@
 -- `has_cells` meets its contract. Assumes nothing.
-use borrow.Author.Rules.{rules}
 use Rattle.calls.proofs.has_cells.Goals as goal
 
 pub returns : goal.returns

@@ -1,5 +1,4 @@
 -- `tegbalowu_true_range` meets its contract: it is the library's `true_range`, in numbers. Assumes nothing.
-use borrow.Author.Rules.{rules}
 use Rattle.calls.proofs.InNumbers.{told}
 use Rattle.capi.proofs.tegbalowu_true_range.Goals as goal
 

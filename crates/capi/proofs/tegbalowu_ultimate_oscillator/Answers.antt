@@ -1,5 +1,4 @@
 -- `tegbalowu_ultimate_oscillator` meets its contract: it is the library's own function, in numbers. Assumes nothing.
-use borrow.Author.Rules.{rules}
 use Rattle.calls.proofs.InNumbers.{told}
 use Rattle.capi.proofs.tegbalowu_ultimate_oscillator.Goals as goal
 

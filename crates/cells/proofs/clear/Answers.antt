@@ -1,5 +1,4 @@
 -- `clear` meets its contract: 0.0 is the number with no bit set. Assumes nothing.
-use borrow.Author.Rules.{rules}
 use lib.Ieee.{of_bits}
 use Rattle.cells.proofs.clear.Goals as goal
 

@@ -1,9 +1,7 @@
 -- `fill` meets its contract: the loop writes cell after cell. Assumes nothing.
 use mathlib.Core.Path.{refl}
-use Prim.Native.Nat.{◌-◌, ◌≤◌}
 use native.Mathlib.Omega.{arith}
 use borrow.Author.Rules.{rules}
-use Rattle.cells.specs.Written.{Writing}
 use Rattle.cells.proofs.Written.{none_written, one_more, ends}
 use Rattle.cells.proofs.fill.Goals as goal
 

@@ -1,9 +1,7 @@
 -- `keep` meets its contract: the bytes before i are moved, and those after i are as they were. Assumes nothing.
-use Prim.Native.Nat.{◌+◌, ◌-◌, ◌≤◌}
+use Prim.Native.Nat.{◌-◌}
 use native.Mathlib.Omega.{arith}
-use borrow.Author.Rules.{rules}
-use lib.ListN.{length}
-use Rattle.cells.proofs.Kept.{Moved, none_moved, one_moved, all_moved}
+use Rattle.cells.proofs.Kept.{none_moved, one_moved, all_moved}
 use Rattle.cells.proofs.keep.Goals as goal
 
 pub loop-i-init : goal.loop-i-init

@@ -1,6 +1,5 @@
 -- `change_at` meets its contract: the same difference. Assumes nothing.
 use native.Mathlib.Omega.{arith}
-use borrow.Author.Rules.{rules}
 use Rattle.changes.proofs.Bars.{change_is}
 use Rattle.changes.proofs.change_at.Goals as goal
 

@@ -1,5 +1,4 @@
 -- `strength_index` meets its contract: its test is that of `rsi`. Assumes nothing.
-use borrow.Author.Rules.{rules}
 use lib.Ieee.{of_bits}
 use Rattle.changes.specs.Changes.{rsi}
 use Rattle.changes.proofs.strength_index.Goals as goal

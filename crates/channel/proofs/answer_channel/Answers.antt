@@ -1,5 +1,4 @@
 -- `answer_channel` meets its contract: the tests together are the table's. Assumes nothing.
-use borrow.Author.Rules.{rules}
 use Rattle.values.proofs.All.{and_true}
 use Rattle.calls.proofs.Room.{or_false}
 use Rattle.channel.specs.Channel.{channel_answer}

@@ -2,7 +2,6 @@
 -- are NaN. Assumes nothing.
 use native.Mathlib.Omega.{arith}
 use lib.ListN.{length}
-use borrow.Author.Rules.{rules}
 use Rattle.cells.proofs.Touched.{written_over_all}
 use Rattle.cells.proofs.Written.{ends}
 use Rattle.outer_lines.proofs.Lines.{upper_of, lower_of, filled_upper, filled_lower}

@@ -1,5 +1,4 @@
 -- `answer_numbers_and_window` meets its contract: the table from the top. Assumes nothing.
-use borrow.Author.Rules.{rules}
 use Rattle.calls.specs.Answer.{windowed, answered_with}
 use Rattle.checks.proofs.answer_numbers_and_window.Goals as goal
 

@@ -1,5 +1,4 @@
 -- `answer_window` meets its contract: the slices and values, then the window. Assumes nothing.
-use borrow.Author.Rules.{rules}
 use Rattle.calls.specs.Answer.{answered}
 use Rattle.checks.proofs.answer_window.Goals as goal
 

@@ -1,5 +1,4 @@
 -- `check_channel` meets its contract: the shortest output is tested for all three. Assumes nothing.
-use borrow.Author.Rules.{rules}
 use Rattle.checks.proofs.Three.{three_outputs}
 use Rattle.checks.proofs.check_channel.Goals as goal
 

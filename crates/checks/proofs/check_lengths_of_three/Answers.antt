@@ -48,7 +48,11 @@ returns-then-second-bars c =
 
 pub returns-then-third-bars : goal.returns-then-third-bars
 returns-then-third-bars c =
-    rw (short (goal.at.returns-then-third-bars c).Else-third-gt-LONGEST_SERIES, eq-eqb _ _ c.if-second-bars.false, ne_eqb _ _ c.if-third-bars.true)
+    rw (
+      short (goal.at.returns-then-third-bars c).Else-third-gt-LONGEST_SERIES,
+      eq-eqb _ _ c.if-second-bars.false,
+      ne_eqb _ _ c.if-third-bars.true,
+    )
 
 pub returns-then-out-bars : goal.returns-then-out-bars
 returns-then-out-bars c =

@@ -1,5 +1,4 @@
 -- `check_lengths_of_two` meets its contract: the table is read from its end. Assumes nothing.
-use borrow.Author.Rules.{rules}
 use Rattle.checks.proofs.Two.{slices_two}
 use Rattle.checks.proofs.check_lengths_of_two.Goals as goal
 

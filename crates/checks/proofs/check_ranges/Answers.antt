@@ -1,6 +1,5 @@
 -- `check_ranges` meets its contract: the lengths, the values of each series, and the order of every bar. Assumes
 -- nothing.
-use borrow.Author.Rules.{rules}
 use Rattle.checks.proofs.Two.{checked_two, ranged_both}
 use Rattle.checks.proofs.check_ranges.Goals as goal
 

@@ -1,5 +1,4 @@
 -- `check_three` meets its contract: the lengths, then the values of each series. Assumes nothing.
-use borrow.Author.Rules.{rules}
 use Rattle.checks.proofs.Three.{checked_three}
 use Rattle.checks.proofs.check_three.Goals as goal
 

@@ -1,6 +1,5 @@
 -- `check_three_with_work` meets its contract: the lengths, the work slice last, then the values of each series.
 -- Assumes nothing.
-use borrow.Author.Rules.{rules}
 use Rattle.calls.proofs.Room.{slices_work}
 use Rattle.checks.proofs.Three.{checked_three}
 use Rattle.checks.proofs.check_three_with_work.Goals as goal

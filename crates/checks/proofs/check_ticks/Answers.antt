@@ -1,5 +1,4 @@
 -- `check_ticks` meets its contract: lengths, then values. Assumes nothing.
-use borrow.Author.Rules.{rules}
 use Rattle.calls.proofs.Room.{checked_one}
 use Rattle.checks.proofs.check_ticks.Goals as goal
 

@@ -1,5 +1,4 @@
 -- `check_two_windows` meets its contract: the tests together are the table's. Assumes nothing.
-use borrow.Author.Rules.{rules}
 use Rattle.values.proofs.All.{and_true}
 use Rattle.calls.specs.Answer.{windowed}
 use Rattle.calls.proofs.Room.{or_false}

@@ -1,5 +1,4 @@
 -- `check_with_work` meets its contract: the work slice is the last of the lengths. Assumes nothing.
-use borrow.Author.Rules.{rules}
 use Rattle.calls.proofs.Room.{checked_one, slices_work}
 use Rattle.checks.proofs.check_with_work.Goals as goal
 

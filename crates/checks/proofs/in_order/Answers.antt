@@ -1,10 +1,7 @@
 -- `in_order` meets its contract: each turn looks at one bar. Assumes nothing.
 use mathlib.Core.Path.{◌≡◌, refl}
-use Prim.Native.Nat.{◌-◌, ◌≤◌}
 use native.Mathlib.Numerals.{add-one}
 use native.Mathlib.Omega.{arith}
-use borrow.Author.Rules.{rules}
-use Rattle.cells.specs.Line.{line}
 use Rattle.cells.specs.Search.{every_bar}
 use Rattle.calls.specs.Answer.{in_order}
 use Rattle.checks.proofs.in_order.Goals as goal

@@ -1,12 +1,9 @@
 -- `squares_at` meets its contract: the loop sums the squares of its window. Assumes nothing.
-use Prim.Native.Nat.{◌-◌, ◌≤◌}
+use Prim.Native.Nat.{◌-◌}
 use native.Mathlib.Omega.{arith}
-use borrow.Author.Rules.{rules}
 use lib.Ieee.{of_bits, neg}
-use Rattle.cells.specs.Line.{line, minus_zero}
-use Rattle.windows.specs.inner.Sums.{Summing}
 use Rattle.windows.proofs.Window.{none_summed, one_added}
-use Rattle.deviations.proofs.Squares.{from_middle, squares_from}
+use Rattle.deviations.proofs.Squares.{squares_from}
 use Rattle.deviations.proofs.squares_at.Goals as goal
 
 pub loop-k-init : goal.loop-k-init

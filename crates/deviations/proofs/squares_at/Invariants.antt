@@ -1,12 +1,8 @@
 -- `squares_at` meets its contract: the loop sums the squares of its window. Assumes nothing.
 use Prim.Native.Nat.{◌-◌, ◌≤◌}
-use native.Mathlib.Omega.{arith}
-use borrow.Author.Rules.{rules}
-use lib.Ieee.{of_bits, neg}
 use Rattle.cells.specs.Line.{line, minus_zero}
 use Rattle.windows.specs.inner.Sums.{Summing}
-use Rattle.windows.proofs.Window.{none_summed, one_added}
-use Rattle.deviations.proofs.Squares.{from_middle, squares_from}
+use Rattle.deviations.proofs.Squares.{from_middle}
 use Rattle.deviations.proofs.squares_at.Given as goal
 
 abbrev pub invariant-loop-k : goal.invariant-loop-k

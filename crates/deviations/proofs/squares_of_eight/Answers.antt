@@ -1,10 +1,8 @@
 -- `squares_of_eight` meets its contract: each lane sums the squares of its own window. Assumes nothing.
-use Prim.Native.Nat.{◌-◌, ◌≤◌}
+use Prim.Native.Nat.{◌-◌}
 use native.Mathlib.Omega.{arith}
-use borrow.Author.Rules.{rules}
 use lib.Ieee.{of_bits, neg}
-use Rattle.cells.specs.Line.{line}
-use Rattle.deviations.proofs.Squares.{Squared, none_squared, each_squared, eight_squares}
+use Rattle.deviations.proofs.Squares.{none_squared, each_squared, eight_squares}
 use Rattle.deviations.proofs.squares_of_eight.Goals as goal
 
 pub loop-k-init : goal.loop-k-init

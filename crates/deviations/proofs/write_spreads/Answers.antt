@@ -1,7 +1,6 @@
 -- `write_spreads` meets its contract: eight bars side by side where there are so many, and else one. Assumes nothing.
 use native.Mathlib.Nat.{add-zero}
 use native.Mathlib.Omega.{arith}
-use borrow.Author.Rules.{rules}
 use Rattle.cells.proofs.Written.{none_written, one_more}
 use Rattle.windows.proofs.Window.{count_is_float}
 use Rattle.window_means.proofs.Storing.{eight_stored}

@@ -1,5 +1,4 @@
 -- `answer_holt_winters` meets its contract: the tests together are the table's. Assumes nothing.
-use borrow.Author.Rules.{rules}
 use Rattle.values.proofs.All.{and_true}
 use Rattle.calls.specs.Answer.{windowed}
 use Rattle.holt_winters.specs.HoltWinters.{holt_winters_answer}

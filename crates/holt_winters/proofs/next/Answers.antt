@@ -1,5 +1,4 @@
 -- `next` meets its contract: three blends, in the order of `next_fit`. Assumes nothing.
-use borrow.Author.Rules.{rules}
 use Rattle.holt_winters.specs.HoltWinters.{next_fit}
 use Rattle.holt_winters.proofs.next.Goals as goal
 

@@ -1,13 +1,8 @@
 -- `write_first` meets its contract: each turn copies a price and keeps its seasonal part. Assumes nothing.
 use Prim.Native.Nat.{◌-◌, ◌≤◌}
-use native.Mathlib.Omega.{arith}
 use lib.ListN.{length}
 use Rattle.cells.specs.Line.{line}
-use Rattle.cells.proofs.Written.{none_written, ends}
-use Rattle.cells.proofs.Scratch.{unused, all_put}
 use Rattle.holt_winters.specs.inner.Stages.{First}
-use Rattle.holt_winters.proofs.Stages.{one_first}
-use borrow.Author.Rules.{rules}
 use Rattle.holt_winters.proofs.write_first.Given as goal
 
 abbrev pub invariant-loop-i : goal.invariant-loop-i

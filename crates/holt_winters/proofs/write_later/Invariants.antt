@@ -1,17 +1,11 @@
 -- `write_later` meets its contract: each turn makes a bar from the bar before it and from the seasonal part one season
 -- before it, which the last row of work cells has. Assumes nothing.
-use mathlib.Core.Path.{◌≡◌, ◌∙◌}
-use Prim.Native.Nat.{◌+◌, ◌-◌, ◌≤◌}
-use native.Mathlib.Omega.{arith}
+use mathlib.Core.Path.{◌≡◌}
+use Prim.Native.Nat.{◌-◌, ◌≤◌}
 use lib.ListN.{length}
-use lib.Ieee.{of_bits}
 use Rattle.cells.specs.Line.{line}
-use Rattle.cells.proofs.Written.{ends}
-use Rattle.cells.proofs.Scratch.{all_put}
 use Rattle.holt_winters.specs.HoltWinters.{fit_line}
 use Rattle.holt_winters.specs.inner.Stages.{Smoothed}
-use Rattle.holt_winters.proofs.Stages.{next_is, first_is, first_smoothed, one_smoothed}
-use borrow.Author.Rules.{rules}
 use Rattle.holt_winters.proofs.write_later.Given as goal
 
 abbrev pub invariant-loop-i : goal.invariant-loop-i

@@ -1,5 +1,5 @@
 -- What the stages of Holt-Winters smoothing ask of each other. Assumes nothing.
-use Rattle.std.specs.Prelude.{◌≡◌, List, ℕ, ◌*◌, ◌≤◌, length, Float}
+use Rattle.std.specs.Prelude.{List, ℕ, ◌*◌, ◌≤◌, length, Float}
 use Rattle.limits.specs.Limits.{Window}
 use Rattle.cells.specs.Line.{Line}
 use Rattle.cells.specs.Written.{Writing}

@@ -1,19 +1,13 @@
 -- `average_twice` meets its contract: each turn blends the bar's size into one average, and that into the other.
 -- Assumes nothing.
-use mathlib.Core.Path.{◌≡◌, sym}
-use mathlib.Core.Bool.{true, true≢false}
+use mathlib.Core.Path.{◌≡◌}
+use mathlib.Core.Bool.{true}
 use Prim.Native.Nat.{◌-◌, ◌≤◌}
-use native.Mathlib.Omega.{arith}
-use borrow.Author.Rules.{rules}
-use lib.Ieee.{of_bits}
 use lib.ListN.{length}
 use Rattle.cells.specs.Line.{line}
 use Rattle.cells.specs.Written.{Writing}
-use Rattle.cells.proofs.Written.{one_more}
-use Rattle.cells.proofs.Leads.{lead_stands, lead_then}
 use Rattle.jurik.specs.Jurik.{price_change, jv}
 use Rattle.jurik.specs.inner.Passes.{Other, blended_once, blended_twice}
-use Rattle.jurik.proofs.Fused.{begun, begun_twice, at_last, next_blend, jv_later, other_more}
 use Rattle.jurik.proofs.average_twice.Given as goal
 
 abbrev pub invariant-loop-i : goal.invariant-loop-i

@@ -1,12 +1,6 @@
 -- `changes_differ` meets its contract: the loop ends at the first change that differs. Assumes nothing.
-use mathlib.Core.Path.{sym, ◌∙◌}
-use mathlib.Core.Bool.{true≢false}
 use Prim.Native.Nat.{◌-◌, ◌≤◌}
-use native.Mathlib.Omega.{arith}
-use borrow.Author.Rules.{rules}
 use lib.ListN.{length}
-use Rattle.values.proofs.All.{and_parts}
-use Rattle.jurik.proofs.Fused.{differing_found}
 use Rattle.jurik.proofs.changes_differ.Given as goal
 
 abbrev pub invariant-loop-i : goal.invariant-loop-i

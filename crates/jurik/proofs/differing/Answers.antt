@@ -1,5 +1,4 @@
 -- `differing` meets its contract: the two tests. Assumes nothing.
-use borrow.Author.Rules.{rules}
 use lib.Ieee.{ne}
 use Rattle.jurik.proofs.differing.Goals as goal
 

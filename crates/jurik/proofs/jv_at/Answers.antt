@@ -1,5 +1,4 @@
 -- `jv_at` meets its contract: by the bar. Assumes nothing.
-use borrow.Author.Rules.{rules}
 use borrow.Author.Tests.{lt-ltb, le-ltb}
 use lib.Ieee.{of_bits}
 use Rattle.jurik.proofs.jv_at.Goals as goal

@@ -1,6 +1,5 @@
 -- `price_change_at` meets its contract: the size of the change. Assumes nothing.
 use native.Mathlib.Omega.{arith}
-use borrow.Author.Rules.{rules}
 use Rattle.jurik.proofs.Stages.{price_change_is}
 use Rattle.jurik.proofs.price_change_at.Goals as goal
 

@@ -1,7 +1,6 @@
 -- `write_averaged_jv` meets its contract: both passes average where the price changes differ, and their averages too.
 -- Assumes nothing.
 use native.Mathlib.Omega.{arith}
-use borrow.Author.Rules.{rules}
 use lib.ListN.{length}
 use lib.Ieee.{of_bits}
 use Rattle.cells.specs.Line.{line}

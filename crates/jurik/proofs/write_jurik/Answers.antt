@@ -1,7 +1,6 @@
 -- `write_jurik` meets its contract: the third pass after the first two, or all of them one by one. Assumes nothing.
 use Prim.Native.Nat.{◌/◌}
 use native.Mathlib.Omega.{arith}
-use borrow.Author.Rules.{rules}
 use lib.ListN.{length}
 use Rattle.cells.specs.Line.{line, plus_zero}
 use Rattle.cells.specs.Search.{non_zero}

@@ -1,17 +1,13 @@
 -- `write_jv` meets its contract: each turn writes a cell over its own value, and keeps that for the next one. Assumes
 -- nothing.
-use mathlib.Core.Path.{◌≡◌, refl}
-use Prim.Native.Nat.{◌-◌, ◌≤◌}
+use mathlib.Core.Path.{refl}
+use Prim.Native.Nat.{◌-◌}
 use native.Mathlib.Omega.{arith}
-use borrow.Author.Rules.{rules}
 use native.Mathlib.Numerals.{add-one}
 use lib.Ieee.{of_bits}
-use Rattle.cells.specs.Line.{line, plus_zero}
-use Rattle.cells.specs.Written.{Writing}
 use Rattle.cells.proofs.Written.{none_written, one_more, ends}
 use Rattle.cells.proofs.Leads.{not_yet}
 use Rattle.changes.specs.Changes.{earlier}
-use Rattle.jurik.specs.Jurik.{jv}
 use Rattle.jurik.proofs.Stages.{jv_is}
 use Rattle.jurik.proofs.write_jv.Goals as goal
 

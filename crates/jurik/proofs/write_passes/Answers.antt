@@ -1,7 +1,6 @@
 -- `write_passes` meets its contract: the stages one after the other in the output. Assumes nothing.
 use Prim.Native.Nat.{◌/◌}
 use native.Mathlib.Omega.{arith}
-use borrow.Author.Rules.{rules}
 use lib.ListN.{length}
 use lib.Ieee.{nan, of_bits}
 use Rattle.cells.specs.Line.{plus_zero}

@@ -1,10 +1,6 @@
 -- `write_price_changes` meets its contract: NaN at bar 0, and then the size of each change. Assumes nothing.
-use Prim.Native.Nat.{◌-◌, ◌≤◌, min}
+use Prim.Native.Nat.{◌-◌}
 use native.Mathlib.Omega.{arith}
-use borrow.Author.Rules.{rules}
-use lib.ListN.{length}
-use Rattle.cells.specs.Line.{line}
-use Rattle.cells.specs.Written.{Writing}
 use Rattle.cells.proofs.Written.{one_more}
 use Rattle.cells.proofs.Leads.{lead_stands, lead_then}
 use Rattle.jurik.specs.Jurik.{price_change}

@@ -1,10 +1,5 @@
 -- `all_far` meets its contract: each turn looks at one more bar. Assumes nothing.
-use Prim.Native.Nat.{◌-◌, ◌≤◌, max}
 use native.Mathlib.Omega.{arith}
-use borrow.Author.Rules.{rules}
-use lib.ListN.{length}
-use Rattle.cells.specs.Line.{line}
-use Rattle.margins.specs.inner.Margin.{far, AllFar}
 use Rattle.margins.proofs.Far.{none_looked_at, one_more_far, all_looked_at}
 use Rattle.margins.proofs.all_far.Goals as goal
 

@@ -1,5 +1,4 @@
 -- `is_far` meets its contract: its tests are those of `far`. Assumes nothing.
-use borrow.Author.Rules.{rules}
 use Rattle.margins.proofs.is_far.Goals as goal
 
 pub returns-then-d-magnitude : goal.returns-then-d-magnitude

@@ -1,5 +1,4 @@
 -- `margin` meets its contract: its constants are 2^-31 and 2^-1000. Assumes nothing.
-use borrow.Author.Rules.{rules}
 use lib.Ieee.{of_bits}
 use Rattle.margins.proofs.margin.Goals as goal
 

@@ -1,5 +1,4 @@
 -- `answer_oscillator` meets its contract: the tests together are the table's. Assumes nothing.
-use borrow.Author.Rules.{rules}
 use Rattle.oscillator.specs.Oscillator.{oscillator_answer}
 use Rattle.oscillator.proofs.answer_oscillator.Goals as goal
 

@@ -1,11 +1,7 @@
 -- `cells_by_sixteen` meets its contract: each turn writes sixteen cells. Assumes nothing.
-use Prim.Native.Nat.{◌-◌, ◌≤◌}
+use Prim.Native.Nat.{◌-◌}
 use native.Mathlib.Omega.{arith}
-use borrow.Author.Rules.{rules}
-use lib.ListN.{length}
-use Rattle.cells.specs.Written.{Writing}
 use Rattle.window_means.proofs.Storing.{sixteen_stored}
-use Rattle.oscillator.specs.inner.Begun.{afresh}
 use Rattle.oscillator.proofs.cells_by_sixteen.Goals as goal
 
 pub loop-i-preserved : goal.loop-i-preserved

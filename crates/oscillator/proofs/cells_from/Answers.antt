@@ -1,6 +1,5 @@
 -- `cells_from` meets its contract: by running sums where both rows are whole ticks, and else afresh. Assumes nothing.
 use native.Mathlib.Omega.{arith}
-use borrow.Author.Rules.{rules}
 use Rattle.window_means.proofs.Ticks.{known_ticks}
 use Rattle.oscillator.proofs.cells_from.Goals as goal
 

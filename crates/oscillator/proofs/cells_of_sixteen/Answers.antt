@@ -1,6 +1,5 @@
 -- `cells_of_sixteen` meets its contract: three shares of each bar, weighed. Assumes nothing.
 use native.Mathlib.Omega.{arith}
-use borrow.Author.Rules.{rules}
 use Rattle.cells.specs.Line.{minus_zero}
 use Rattle.oscillator.proofs.Oscillator.{eight_cells}
 use Rattle.oscillator.proofs.cells_of_sixteen.Goals as goal

@@ -1,5 +1,4 @@
 -- `share_at` meets its contract: a sum over another. Assumes nothing.
-use borrow.Author.Rules.{rules}
 use Rattle.windows.specs.Window.{window_sum}
 use Rattle.oscillator.specs.Oscillator.{share}
 use Rattle.oscillator.proofs.share_at.Goals as goal

@@ -1,5 +1,4 @@
 -- `shares_of_sixteen` meets its contract: sums over others, side by side. Assumes nothing.
-use borrow.Author.Rules.{rules}
 use Rattle.oscillator.proofs.Oscillator.{eight_shares}
 use Rattle.oscillator.proofs.shares_of_sixteen.Goals as goal
 

@@ -35,6 +35,7 @@ returns c =
     let rows = lent_on (ends c.write_pressures.ensures pre.closes) c.write_ranges.ensures
     (omega arith) in (
       oscillator_cells _ _ _ _ pre c.shared_slice_known-1.given c.shared_slice_known-2-1.given
-          c.shared_slice_known-3-1.given (fit_first (goal.at.returns c).Start) rows (omega arith) c.write_from_rows.ensures,
+          c.shared_slice_known-3-1.given (fit_first (goal.at.returns c).Start) rows (omega arith)
+          c.write_from_rows.ensures,
       touched_more (touched rows) (omega arith),
     )

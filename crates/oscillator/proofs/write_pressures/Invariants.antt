@@ -1,13 +1,9 @@
 -- `write_pressures` meets its contract: each turn writes the pressure of its bar. Assumes nothing.
 use Prim.Native.Nat.{◌-◌, ◌≤◌}
-use native.Mathlib.Omega.{arith}
 use lib.ListN.{length}
-use borrow.Author.Rules.{rules}
 use Rattle.cells.specs.Line.{line}
 use Rattle.cells.specs.Written.{Writing}
-use Rattle.cells.proofs.Written.{none_written, one_more, ends}
 use Rattle.oscillator.specs.Oscillator.{pressures}
-use Rattle.oscillator.proofs.Oscillator.{pressure_at}
 use Rattle.oscillator.proofs.write_pressures.Given as goal
 
 abbrev pub invariant-loop-i : goal.invariant-loop-i

@@ -1,5 +1,5 @@
 -- What the functions under `ultimate_oscillator` ask of each other. Assumes nothing.
-use Rattle.std.specs.Prelude.{◌≡◌, true, List, [], ◌∷◌, ℕ, ◌+◌, ◌*◌, ◌≤◌, max, length, Float}
+use Rattle.std.specs.Prelude.{◌≡◌, true, List, ℕ, ◌+◌, ◌*◌, ◌≤◌, max, length, Float}
 use Rattle.limits.specs.Limits.{Window}
 use Rattle.checks.specs.inner.Three.{ValuesOfThree}
 use Rattle.cells.specs.Written.{Writing}

@@ -1,5 +1,4 @@
 -- `fill_outer_lines` meets its contract: 0 over 0 is NaN. Assumes nothing.
-use borrow.Author.Rules.{rules}
 use lib.Ieee.{div, of_bits}
 use Rattle.outer_lines.proofs.fill_outer_lines.Goals as goal
 

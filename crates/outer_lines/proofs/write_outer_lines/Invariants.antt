@@ -1,11 +1,7 @@
 -- `write_outer_lines` meets its contract: each turn reads a width before it writes over it. Assumes nothing.
 use Prim.Native.Nat.{◌-◌, ◌≤◌}
-use native.Mathlib.Omega.{arith}
-use borrow.Author.Rules.{rules}
 use Rattle.cells.specs.Line.{line}
 use Rattle.cells.specs.Written.{Writing}
-use Rattle.cells.proofs.Leads.{not_yet}
-use Rattle.cells.proofs.Written.{none_written, one_more, ends}
 use Rattle.outer_lines.specs.OuterLines.{upper_line, lower_line}
 use Rattle.outer_lines.proofs.write_outer_lines.Given as goal
 

@@ -1,11 +1,8 @@
 -- `count_below` meets its contract: the loop counts the cells one by one. Assumes nothing.
 use Prim.Native.Nat.{◌-◌, ◌≤◌}
-use native.Mathlib.Omega.{arith}
-use borrow.Author.Rules.{rules}
 use Rattle.cells.specs.Line.{line}
 use Rattle.ranks.specs.Counted.{below}
 use Rattle.ranks.specs.inner.Counting.{Counting}
-use Rattle.ranks.proofs.Counted.{none_counted, one_counted, all_counted}
 use Rattle.ranks.proofs.count_below.Given as goal
 
 abbrev pub invariant-loop-k : goal.invariant-loop-k

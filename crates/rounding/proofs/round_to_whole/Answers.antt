@@ -1,6 +1,6 @@
 -- `round_to_whole` meets its contract: below 2 ^ 52 one more than the whole part of twice the magnitude is halved,
 -- and the sign put back by a product with it. Assumes nothing.
-use Rattle.std.proofs.Common.{◌≡◌, ◌+◌, ◌/◌, ◌^◌, T, sym, subst, arith, le→leb, rules}
+use Rattle.std.proofs.Common.{◌≡◌, ◌+◌, ◌/◌, ◌^◌, T, sym, subst, arith, le→leb}
 use lib.Ieee.{of_bits, in_float, of_int, to_unsigned}
 use Rattle.rounding.proofs.ToWhole.{doubled, Halves, halves, whole_already}
 use Rattle.rounding.proofs.round_to_whole.Goals as goal
@@ -21,7 +21,8 @@ part c = rw (c.truncating_f64_to_u64-halves.ensures, c.magnitude-size.ensures)
 
 pub truncating_f64_to_u64-halves-requires : goal.truncating_f64_to_u64-halves-requires
 unfolding of_bits
-truncating_f64_to_u64-halves-requires c = rw c.magnitude-size.ensures (record { lower_bound = (below c).above; upper_bound = (below c).below })
+truncating_f64_to_u64-halves-requires c =
+    rw c.magnitude-size.ensures (record { lower_bound = (below c).above; upper_bound = (below c).below })
 
 pub overflow_add-whole : goal.overflow_add-whole
 overflow_add-whole c = omega (arith, part c, (below c.before).small)

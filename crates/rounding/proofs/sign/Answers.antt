@@ -1,5 +1,5 @@
 -- `sign` meets its contract: a NaN is its own sign, and any other x is a number. Assumes nothing.
-use Rattle.std.proofs.Common.{sym, ◌∙◌, rules}
+use Rattle.std.proofs.Common.{sym, ◌∙◌}
 use Rattle.rounding.proofs.Signs.{sign_of_nan}
 use Rattle.rounding.proofs.sign.Goals as goal
 

@@ -1,6 +1,5 @@
 -- `guess` meets its contract: no bits on the way are a NaN's. Assumes nothing.
 use native.Mathlib.Omega.{arith}
-use borrow.Author.Rules.{rules}
 use Rattle.rounding_root.proofs.Patterns.{no_nan}
 use Rattle.rounding_root.proofs.guess.Goals as goal
 

@@ -2,7 +2,6 @@
 -- apart. Assumes nothing.
 use mathlib.Core.Path.{sym, ◌∙◌, subst}
 use native.Mathlib.Omega.{arith}
-use borrow.Author.Rules.{rules}
 use lib.Dec.{T}
 use lib.Ieee.{binary64, fits}
 use Rattle.rounding_root.proofs.Above.{above_is_number}
@@ -18,7 +17,8 @@ pub float_to_bits-bits : goal.float_to_bits-bits
 float_to_bits-bits c = above_is_number c.args.x c.requires
 
 pub returns-then-field-eq2047 : goal.returns-then-field-eq2047
-returns-then-field-eq2047 c = infinite _ (held (goal.at.returns-then-field-eq2047 c).Start) c.requires c.if-field-eq2047.true
+returns-then-field-eq2047 c =
+    infinite _ (held (goal.at.returns-then-field-eq2047 c).Start) c.requires c.if-field-eq2047.true
 
 pub root_of_subnormal-requires : goal.root_of_subnormal-requires
 root_of_subnormal-requires c =
@@ -26,8 +26,10 @@ root_of_subnormal-requires c =
 
 pub returns-then-field-eq0 : goal.returns-then-field-eq0
 returns-then-field-eq0 c =
-    c.root_of_subnormal.ensures ∙ sym (subnormal _ (held (goal.at.returns-then-field-eq0 c).Start) c.requires c.if-field-eq0.true).1
+    c.root_of_subnormal.ensures ∙ sym (subnormal _ (held (goal.at.returns-then-field-eq0 c).Start) c.requires
+    c.if-field-eq0.true).1
 
 pub returns : goal.returns
 returns c =
-    c.root_of.ensures ∙ sym (normal _ (held (goal.at.returns c).Start) c.requires c.if-field-eq0.false c.if-field-eq2047.false)
+    c.root_of.ensures ∙ sym (normal _ (held (goal.at.returns c).Start) c.requires c.if-field-eq0.false
+    c.if-field-eq2047.false)

@@ -1,5 +1,4 @@
 -- `root_by` meets its contract: what is not above zero is a zero or has no root. Assumes nothing.
-use borrow.Author.Rules.{rules}
 use lib.Ieee.{of_bits, div}
 use Rattle.rounding_root.proofs.Patterns.{of_zero, of_none}
 use Rattle.rounding_root.proofs.root_by.Goals as goal

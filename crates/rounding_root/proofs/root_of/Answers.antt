@@ -2,7 +2,6 @@
 -- field. Assumes nothing.
 use mathlib.Core.Path.{sym, ◌∙◌}
 use native.Mathlib.Omega.{arith}
-use borrow.Author.Rules.{rules}
 use Rattle.rounding_root.proofs.Patterns.{no_nan, written}
 use Rattle.rounding_root.proofs.Shifts.{evened}
 use Rattle.rounding_root.proofs.Nearest.{nearest_is}

@@ -1,10 +1,6 @@
 -- `write_guesses` meets its contract: each turn sets one of the first cells. Assumes nothing.
 use Prim.Native.Nat.{◌-◌, ◌≤◌}
-use native.Mathlib.Omega.{arith}
-use borrow.Author.Rules.{rules}
-use lib.ListN.{length-set}
 use Rattle.cells.specs.inner.Touched.{Touched}
-use Rattle.cells.proofs.Touched.{untouched, touched_set}
 use Rattle.rounding_root.proofs.write_guesses.Given as goal
 
 abbrev pub invariant-loop-i : goal.invariant-loop-i

@@ -1,13 +1,7 @@
 -- `write_roots` meets its contract: each turn takes a root by the guess that stands in its cell. Assumes nothing.
-use Prim.Native.Nat.{◌-◌, ◌≤◌}
 use native.Mathlib.Omega.{arith}
-use borrow.Author.Rules.{rules}
-use lib.Ieee.{binary64}
-use Rattle.cells.specs.Line.{line}
-use Rattle.cells.specs.Written.{Writing}
 use Rattle.cells.proofs.Written.{none_written, one_more, ends}
 use Rattle.cells.proofs.Touched.{written_over_all}
-use Rattle.rounding_root.specs.Root.{sqrt_of}
 use Rattle.rounding_root.proofs.write_roots.Goals as goal
 
 pub loop-i-init : goal.loop-i-init

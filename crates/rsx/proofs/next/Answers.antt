@@ -1,7 +1,6 @@
 -- `next` meets its contract: each average blends its last cell with the bar's own gain or loss. Assumes nothing.
 use mathlib.Core.Path.{◌∙◌}
 use native.Mathlib.Omega.{arith}
-use borrow.Author.Rules.{rules}
 use Rattle.cells.specs.Line.{line}
 use Rattle.changes.specs.Changes.{gains, losses}
 use Rattle.changes.proofs.Bars.{gain_is, loss_is}

@@ -1,19 +1,13 @@
 -- `write_index` meets its contract: NaN at bar 0, and then a step of both averages and their index. Assumes nothing.
 use mathlib.Core.Path.{◌∙◌}
-use Prim.Native.Nat.{◌-◌, ◌<◌, ◌≤◌}
+use Prim.Native.Nat.{◌-◌}
 use native.Mathlib.Omega.{arith}
 use borrow.Author.Rules.{rules}
-use lib.ListN.{length}
 use lib.Ieee.{of_bits}
-use Rattle.rounding.specs.Leaves.{plus_one}
-use Rattle.cells.specs.Line.{line}
-use Rattle.cells.specs.Written.{Writing}
 use Rattle.cells.proofs.Written.{one_more}
 use Rattle.cells.proofs.Leads.{lead_stands, lead_then}
-use Rattle.windows.specs.Window.{over}
 use Rattle.windows.proofs.Window.{count_is_float}
 use Rattle.rsx.specs.Rsx.{rsx_unsmoothed}
-use Rattle.rsx.specs.inner.Averaged.{Averaged}
 use Rattle.rsx.proofs.Stages.{none_averaged, index_at, same_bar}
 use Rattle.rsx.proofs.write_index.Goals as goal
 
@@ -32,8 +26,13 @@ pub loop-i-preserved : goal.loop-i-preserved
 unfolding of_bits
 loop-i-preserved c =
     let at = c.loop-i in
-    let cell = c.strength_index.ensures ∙ index_at _ _ _ _ c.next-averages.ensures (omega arith) in
-    (omega arith, omega arith, same_bar c.next-averages.ensures (omega arith), one_more at.invariant.3 cell (omega arith))
+    let cell = c.strength_index.ensures ∙ index_at _ _ _ _ c.next-averages.ensures (omega arith) in (
+      omega arith,
+      omega arith,
+      same_bar c.next-averages.ensures (omega arith),
+      one_more at.invariant.3 cell
+          (omega arith),
+    )
 
 pub returns : goal.returns
 returns c = lead_then c.fill_nan-i.ensures c.loop-i.invariant.3 (omega arith)

@@ -1,7 +1,6 @@
 -- `write_rsx` meets its contract: the smoother reads the index from the first row. Assumes nothing.
 use mathlib.Core.Path.{sym}
 use native.Mathlib.Omega.{arith}
-use borrow.Author.Rules.{rules}
 use Rattle.cells.proofs.Parts.{part_long, through}
 use Rattle.cells.proofs.Touched.{touched}
 use Rattle.smoother_table.specs.Coefficients.{coefficients}

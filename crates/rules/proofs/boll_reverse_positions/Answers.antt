@@ -1,5 +1,4 @@
 -- `boll_reverse_positions` meets its contract: it is `band_positions`. Assumes nothing.
-use borrow.Author.Rules.{rules}
 use Rattle.rules.proofs.boll_reverse_positions.Goals as goal
 
 pub returns : goal.returns

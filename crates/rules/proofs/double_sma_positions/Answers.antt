@@ -3,7 +3,6 @@
 use mathlib.Core.Path.{◌≡◌, sym, ◌∙◌}
 use mathlib.Core.Bool.{true}
 use Prim.Native.Nat.{◌<◌}
-use borrow.Author.Rules.{rules}
 use lib.ListN.{length}
 use Rattle.calls.specs.Answer.{count_of}
 use Rattle.calls.proofs.Call.{some_cells, no_cells, all_called, none_called, counted}
@@ -20,11 +19,13 @@ due : (c : Then-has_cells) → 0 < count_of c.answer_double-due.result
 due c = some_cells c.answer_double-due.result c.has_cells.ensures c.if-has_cells.true
 
 pub write_double_of_ticks-requires : goal.write_double_of_ticks-requires
-write_double_of_ticks-requires c = tick_room _ _ _ _ (told (goal.at.write_double_of_ticks-requires c).Then-has_tick_cells)
+write_double_of_ticks-requires c =
+    tick_room _ _ _ _ (told (goal.at.write_double_of_ticks-requires c).Then-has_tick_cells)
 
 pub returns-then-has_tick_cells : goal.returns-then-has_tick_cells
 returns-then-has_tick_cells c =
-    counted (tick_answer _ _ _ _ (told (goal.at.returns-then-has_tick_cells c).Then-has_tick_cells) c.shared_slice_known-1.given)
+    counted (tick_answer _ _ _ _ (told (goal.at.returns-then-has_tick_cells c).Then-has_tick_cells)
+    c.shared_slice_known-1.given)
     c.write_double_of_ticks.ensures
 
 pub write_double-requires : goal.write_double-requires

@@ -1,7 +1,6 @@
 -- `double_sma_ranges` meets its contract: the answer is that of the table, and where it has cells they are written.
 -- Assumes nothing.
 use Prim.Native.Nat.{◌<◌}
-use borrow.Author.Rules.{rules}
 use Rattle.calls.specs.Answer.{count_of}
 use Rattle.calls.proofs.Call.{some_cells, no_cells, all_called, none_called}
 use Rattle.rules_double_ranges.proofs.Open.{ranges_bars, ranges_room}
@@ -17,7 +16,8 @@ write_ranges-requires c =
 
 pub returns-then-has_cells : goal.returns-then-has_cells
 returns-then-has_cells c =
-    all_called (ranges_bars _ _ _ _ _) c.answer_ranges-due.ensures (due (goal.at.returns-then-has_cells c).Then-has_cells)
+    all_called (ranges_bars _ _ _ _ _) c.answer_ranges-due.ensures
+    (due (goal.at.returns-then-has_cells c).Then-has_cells)
     c.write_ranges.ensures
 
 pub returns-else-has_cells : goal.returns-else-has_cells

@@ -27,7 +27,9 @@ cells_due-requires c = clearable _ _ _ _ c.answer_mms-due.ensures
 
 pub write_mms-requires : goal.write_mms-requires
 write_mms-requires c =
-    let o = opened (goal.at.write_mms-requires c).Then-cells_due in (record { priced = fewer_rows o.0 (omega arith); window = o.1 })
+    let o =
+    opened (goal.at.write_mms-requires c).Then-cells_due in
+    (record { priced = fewer_rows o.0 (omega arith); window = o.1 })
 
 pub overflow_mul-series : goal.overflow_mul-series
 overflow_mul-series c = let o = opened (goal.at.overflow_mul-series c).Then-cells_due in search rules

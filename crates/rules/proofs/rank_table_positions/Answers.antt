@@ -26,7 +26,9 @@ cells_due-requires c = rank_table_clearable _ _ _ _ _ c.answer_rank_table-due.en
 
 pub write_rank_table-requires : goal.write_rank_table-requires
 write_rank_table-requires c =
-    let o = opened (goal.at.write_rank_table-requires c).Then-cells_due in (record { priced = fewer_rows o.0 (omega arith); known = o.1 })
+    let o =
+    opened (goal.at.write_rank_table-requires c).Then-cells_due in
+    (record { priced = fewer_rows o.0 (omega arith); known = o.1 })
 
 pub overflow_mul-series : goal.overflow_mul-series
 overflow_mul-series c = let o = opened (goal.at.overflow_mul-series c).Then-cells_due in search rules

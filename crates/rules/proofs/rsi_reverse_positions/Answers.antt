@@ -26,7 +26,9 @@ cells_due-requires c = with_clearable _ _ _ _ _ c.answer_numbers_and_window-due.
 
 pub write_rsi_reverse-requires : goal.write_rsi_reverse-requires
 write_rsi_reverse-requires c =
-    let (priced, some) = opened (goal.at.write_rsi_reverse-requires c).Then-cells_due in (record { priced = fewer_rows priced (omega arith); series_nonzero = some })
+    let (priced, some) =
+    opened (goal.at.write_rsi_reverse-requires c).Then-cells_due in
+    (record { priced = fewer_rows priced (omega arith); series_nonzero = some })
 
 pub overflow_mul-series : goal.overflow_mul-series
 overflow_mul-series c = let o = opened (goal.at.overflow_mul-series c).Then-cells_due in search rules

@@ -24,7 +24,9 @@ cells_due-requires c = triple_clearable _ _ _ _ _ _ c.answer_triple-due.ensures
 
 pub write_triple-requires : goal.write_triple-requires
 write_triple-requires c =
-    let o = opened (goal.at.write_triple-requires c).Then-cells_due in (record { priced = fewer_rows o.0 (omega arith); rising = o.1 })
+    let o =
+    opened (goal.at.write_triple-requires c).Then-cells_due in
+    (record { priced = fewer_rows o.0 (omega arith); rising = o.1 })
 
 pub overflow_mul-series : goal.overflow_mul-series
 overflow_mul-series c = let o = opened (goal.at.overflow_mul-series c).Then-cells_due in search rules

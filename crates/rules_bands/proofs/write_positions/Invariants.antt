@@ -1,14 +1,9 @@
 -- `write_positions` meets its contract: the lead, and a few bars with each turn. Assumes nothing.
 use Prim.Native.Nat.{◌-◌, ◌*◌, ◌≤◌, min}
-use native.Mathlib.Omega.{arith}
-use borrow.Author.Rules.{rules}
 use lib.ListN.{length}
 use Rattle.cells.specs.Line.{line}
 use Rattle.cells.specs.Written.{Writing}
-use Rattle.cells.proofs.Leads.{lead_then}
-use Rattle.cells.proofs.Written.{stands, then_written}
 use Rattle.rules_bands.specs.inner.Stages.{band_positions}
-use Rattle.rules_bands.proofs.Stages.{flat_lead}
 use Rattle.rules_bands.proofs.write_positions.Given as goal
 
 abbrev pub invariant-loop-i : goal.invariant-loop-i

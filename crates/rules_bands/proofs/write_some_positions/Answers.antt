@@ -2,19 +2,13 @@
 -- position of the one before it, and writes that. Assumes nothing.
 use mathlib.Core.Path.{◌∙◌}
 use native.Mathlib.Nat.{add-zero}
-use Prim.Native.Nat.{◌+◌, ◌-◌, ◌≤◌}
+use Prim.Native.Nat.{◌+◌, ◌-◌}
 use native.Mathlib.Omega.{arith}
 use borrow.Author.Rules.{rules, sfits_of}
 use lib.Ieee.{nan}
 use mir.Syntax.{w32}
-use mir.Val.{to_z}
 use mir.ValLaws.{to_z-of_z}
-use Rattle.cells.specs.Line.{line}
-use Rattle.cells.specs.Written.{Writing}
-use Rattle.cells.specs.inner.Recurring.{Recurring}
 use Rattle.cells.proofs.Written.{step, ends, read_back}
-use Rattle.rules_held.specs.Held.{flat}
-use Rattle.rules_bands.specs.inner.Stages.{position_step, band_positions}
 use Rattle.rules_bands.proofs.Stages.{divisor_most, step_at, recurring_before, recurring_on}
 use Rattle.rules_bands.proofs.write_some_positions.Goals as goal
 

@@ -1,5 +1,4 @@
 -- `answer_double` meets its contract: the table is read from the top. Assumes nothing.
-use borrow.Author.Rules.{rules}
 use Rattle.rules_double.specs.Double.{double_answer}
 use Rattle.rules_double.proofs.answer_double.Goals as goal
 

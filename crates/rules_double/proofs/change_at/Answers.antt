@@ -1,6 +1,5 @@
 -- `change_at` meets its contract: three products, and their sum, of whole numbers. Assumes nothing.
 use native.Mathlib.Omega.{arith}
-use borrow.Author.Rules.{rules}
 use Rattle.windows.proofs.Window.{count_is_float}
 use Rattle.rules_double.proofs.Spread.{change_exact}
 use Rattle.rules_double.proofs.change_at.Goals as goal

@@ -1,6 +1,5 @@
 -- `cross` meets its contract: it computes what `crossing` says. Assumes nothing.
 use native.Mathlib.Omega.{arith}
-use borrow.Author.Rules.{rules}
 use Rattle.windows.proofs.Window.{count_is_float}
 use Rattle.rules_double.proofs.cross.Goals as goal
 

@@ -1,6 +1,5 @@
 -- `first_spread` meets its contract: two sums, and their products, of whole numbers. Assumes nothing.
 use native.Mathlib.Omega.{arith}
-use borrow.Author.Rules.{rules}
 use Rattle.windows.proofs.Window.{count_is_float}
 use Rattle.rules_double.proofs.Spread.{first_exact}
 use Rattle.rules_double.proofs.first_spread.Goals as goal

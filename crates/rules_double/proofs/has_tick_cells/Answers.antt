@@ -5,7 +5,6 @@ use mathlib.Core.List.{List, [], ◌∷◌}
 use Prim.Native.Nat.{ℕ, zero, suc, ◌-◌}
 use native.Mathlib.Nat.{le_of_eq}
 use native.Mathlib.Omega.{arith}
-use borrow.Author.Rules.{rules}
 use lib.ListN.{length, take, drop, length-drop}
 use lib.Seq.{take_all, length-take-le}
 use lib.Ieee.{Float}
@@ -35,7 +34,8 @@ returns-then-all_ticks c =
       ← c.all_ticks.ensures,
       c.if-all_ticks.true,
     )
-    (c.all_ticks-then-all_ticks.ensures ∙ ap (all tick) (take_all (length s - k) (drop k s) (le_of_eq (length-drop k s))))
+    (c.all_ticks-then-all_ticks.ensures ∙ ap (all tick)
+    (take_all (length s - k) (drop k s) (le_of_eq (length-drop k s))))
 
 pub returns-else-all_ticks : goal.returns-else-all_ticks
 unfolding tick_cells

@@ -1,12 +1,8 @@
 -- `running_sum` meets its contract: it begins with a window summed afresh, and each turn slides it. Assumes nothing.
 use mathlib.Core.Path.{◌≡◌}
-use Prim.Native.Nat.{◌-◌, ◌≤◌}
+use Prim.Native.Nat.{◌-◌}
 use native.Mathlib.Omega.{arith}
-use borrow.Author.Rules.{rules}
-use Rattle.cells.specs.Line.{line}
-use Rattle.windows.specs.inner.Sums.{Running}
 use Rattle.windows.proofs.Window.{first_running, next_running}
-use Rattle.windows.specs.Window.{add_then_subtract}
 use Rattle.rules_double.proofs.running_sum.Goals as goal
 
 pub loop-j-init : goal.loop-j-init

@@ -1,26 +1,13 @@
 -- `slide_spreads` meets its contract: each turn moves both sums on by two bars and writes their signs; then at most one
 -- bar is left. Assumes nothing.
-use mathlib.Core.Path.{◌≡◌, ◌∙◌}
-use Prim.Native.Nat.{◌+◌, ◌-◌, ◌≤◌}
+use mathlib.Core.Path.{◌∙◌}
+use Prim.Native.Nat.{◌+◌, ◌-◌}
 use native.Mathlib.Omega.{arith}
-use borrow.Author.Rules.{rules}
-use lib.ListN.{length, length-set}
-use lib.Ieee.{binary64, of_bits, of_int}
-use Rattle.cells.specs.Line.{line}
-use Rattle.cells.specs.Written.{Writing}
+use lib.ListN.{length-set}
+use lib.Ieee.{of_bits}
 use Rattle.cells.proofs.Written.{one_more, step, ends}
-use Rattle.rules_double.specs.Double.{double_line}
-use Rattle.rules_double.specs.inner.Ticks.{ticks_of, spread}
-use Rattle.rules_double.proofs.Spread.{
-  InParts,
-  after_one,
-  after_two,
-  decided,
-  first_parts,
-  next_parts,
-  parts_next,
-  spread_number,
-}
+use Rattle.rules_double.specs.inner.Ticks.{spread}
+use Rattle.rules_double.proofs.Spread.{after_one, after_two, decided, first_parts, next_parts, parts_next, spread_number}
 use Rattle.rules_double.proofs.slide_spreads.Goals as goal
 
 pub loop-i-init : goal.loop-i-init
@@ -78,7 +65,8 @@ returns-then-i-series c =
     let o = c.requires.over_ticks in
     let i = c.loop-i.i in
     let next = after_one o i (omega arith) (omega arith) c.loop-i.invariant.3 c.change_at.ensures in
-    ends (one_more c.loop-i.invariant.4 (c.sign_of_number-then-i-series.ensures ∙ decided o i (i + 1) (omega arith) next)
+    ends (one_more c.loop-i.invariant.4 (c.sign_of_number-then-i-series.ensures
+    ∙ decided o i (i + 1) (omega arith) next)
     (omega arith))
     (omega arith)
 

@@ -1,26 +1,14 @@
 -- `slide_spreads` meets its contract: each turn moves both sums on by two bars and writes their signs; then at most one
 -- bar is left. Assumes nothing.
-use mathlib.Core.Path.{◌≡◌, ◌∙◌}
-use Prim.Native.Nat.{◌+◌, ◌-◌, ◌≤◌}
-use native.Mathlib.Omega.{arith}
-use borrow.Author.Rules.{rules}
-use lib.ListN.{length, length-set}
-use lib.Ieee.{binary64, of_bits, of_int}
+use mathlib.Core.Path.{◌≡◌}
+use Prim.Native.Nat.{◌-◌, ◌≤◌}
+use lib.ListN.{length}
+use lib.Ieee.{binary64, of_int}
 use Rattle.cells.specs.Line.{line}
 use Rattle.cells.specs.Written.{Writing}
-use Rattle.cells.proofs.Written.{one_more, step, ends}
 use Rattle.rules_double.specs.Double.{double_line}
 use Rattle.rules_double.specs.inner.Ticks.{ticks_of, spread}
-use Rattle.rules_double.proofs.Spread.{
-  InParts,
-  after_one,
-  after_two,
-  decided,
-  first_parts,
-  next_parts,
-  parts_next,
-  spread_number,
-}
+use Rattle.rules_double.proofs.Spread.{InParts}
 use Rattle.rules_double.proofs.slide_spreads.Given as goal
 
 abbrev pub invariant-loop-i : goal.invariant-loop-i

@@ -1,15 +1,11 @@
 -- `write_crossings` meets its contract: each turn writes a cell from the two sums and slides them. Assumes nothing.
 use mathlib.Core.Path.{◌≡◌, ◌∙◌}
-use Prim.Native.Nat.{◌+◌, ◌-◌, ◌≤◌, ◌<◌}
+use Prim.Native.Nat.{◌+◌, ◌-◌}
 use native.Mathlib.Omega.{arith}
 use borrow.Author.Rules.{rules}
-use lib.ListN.{length}
-use Rattle.cells.specs.Line.{line}
-use Rattle.cells.specs.Written.{Writing}
 use Rattle.cells.proofs.Written.{one_more, ends}
-use Rattle.rules_double.specs.Double.{double_line}
 use Rattle.windows.proofs.Window.{next_running}
-use Rattle.rules_double.proofs.Double.{Sum, double_at}
+use Rattle.rules_double.proofs.Double.{double_at}
 use Rattle.rules_double.proofs.write_crossings.Goals as goal
 
 pub loop-i-init : goal.loop-i-init

@@ -1,7 +1,6 @@
 -- `write_double_of_ticks` meets its contract: the lead, the first position, and those after it. Assumes nothing.
 use mathlib.Core.Path.{◌∙◌}
 use native.Mathlib.Omega.{arith}
-use borrow.Author.Rules.{rules}
 use lib.ListN.{length-set}
 use lib.Ieee.{of_bits}
 use Rattle.cells.proofs.Leads.{lead_then}
@@ -30,19 +29,23 @@ first_spread-first-requires c = over (goal.at.first_spread-first-requires c).Aft
 pub sign_of_number-requires : goal.sign_of_number-requires
 sign_of_number-requires c =
     let p = c.requires in
-    spread_number (over (goal.at.sign_of_number-requires c).After-shared_slice_known-1) c.args.m (omega arith) p.full c.first_spread-first.ensures
+    spread_number (over (goal.at.sign_of_number-requires c).After-shared_slice_known-1) c.args.m (omega arith) p.full
+    c.first_spread-first.ensures
 
 pub slide_spreads-requires : goal.slide_spreads-requires
 unfolding of_bits
 slide_spreads-requires c =
     let o = over (goal.at.slide_spreads-requires c).After-shared_slice_known-1 in
     let first = c.first_spread-first.ensures in
-    let long = c.fill_lead.ensures.lead.long in (record { over_ticks = o; spread = record {
+    let long = c.fill_lead.ensures.lead.long in (record {
+      over_ticks = o;
+      spread = record {
         is = first;
         room = simp length-set (omega arith);
         before = stands (first_position o c.fill_lead.ensures (omega arith) first
             c.sign_of_number.ensures);
-      } })
+      };
+    })
 
 pub shape_of-out : goal.shape_of-out
 shape_of-out c = c.slide_spreads.ensures.long ∙ simp length-set c.fill_lead.ensures.lead.long
@@ -53,7 +56,8 @@ returns c =
     let p = c.requires in
     let long = c.fill_lead.ensures.lead.long in
     let first =
-    first_position (over (goal.at.returns c).After-shared_slice_known-1) c.fill_lead.ensures (omega (arith, long, p.room))
+    first_position (over (goal.at.returns c).After-shared_slice_known-1) c.fill_lead.ensures
+    (omega (arith, long, p.room))
     c.first_spread-first.ensures
     c.sign_of_number.ensures in
     lead_then c.fill_lead.ensures (then_written first c.slide_spreads.ensures p.full) (omega arith)

@@ -1,5 +1,4 @@
 -- `answer_ranges` meets its contract: the table is read from the top. Assumes nothing.
-use borrow.Author.Rules.{rules}
 use Rattle.rules_double_ranges.specs.Ranges.{ranges_answer}
 use Rattle.rules_double_ranges.proofs.answer_ranges.Goals as goal
 

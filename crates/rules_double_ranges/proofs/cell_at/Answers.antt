@@ -1,5 +1,5 @@
 -- `cell_at` meets its contract: the two comparisons, and the cell of their results. Assumes nothing.
-use borrow.Author.Rules.{rules, sfits_of}
+use borrow.Author.Rules.{sfits_of}
 use mir.Syntax.{w32}
 use mir.ValLaws.{to_z-of_z}
 use Rattle.rules_double_ranges.proofs.cell_at.Goals as goal

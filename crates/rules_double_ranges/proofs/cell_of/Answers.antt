@@ -1,6 +1,5 @@
 -- `cell_of` meets its contract: the arithmetic is the cell for the pairs of results that can occur. Assumes nothing.
 use native.Mathlib.Omega.{arith}
-use borrow.Author.Rules.{rules}
 use Rattle.rules_double_ranges.proofs.Pairs.{product_fits, less_fits, cell_fits, cell_picked}
 use Rattle.rules_double_ranges.proofs.cell_of.Goals as goal
 

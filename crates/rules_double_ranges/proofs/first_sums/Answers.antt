@@ -1,5 +1,4 @@
 -- `first_sums` meets its contract: two windows summed afresh. Assumes nothing.
-use borrow.Author.Rules.{rules}
 use Rattle.rules_double_ranges.proofs.Bars.{first_sums}
 use Rattle.rules_double_ranges.proofs.first_sums.Goals as goal
 

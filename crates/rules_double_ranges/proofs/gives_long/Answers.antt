@@ -1,6 +1,5 @@
 -- `gives_long` meets its contract: two products, and their order. Assumes nothing.
 use native.Mathlib.Omega.{arith}
-use borrow.Author.Rules.{rules}
 use Rattle.windows.proofs.Window.{count_is_float}
 use Rattle.rules_double_ranges.proofs.gives_long.Goals as goal
 

@@ -1,5 +1,4 @@
 -- `next_sums` meets its contract: one price comes into each sum, and one leaves it. Assumes nothing.
-use borrow.Author.Rules.{rules}
 use Rattle.rules_double_ranges.proofs.Bars.{next_sums}
 use Rattle.rules_double_ranges.proofs.next_sums.Goals as goal
 

@@ -1,19 +1,17 @@
 -- `slide_ranges` meets its contract: the first cell, and then each turn moves the sums on and writes one. Assumes
 -- nothing.
 use mathlib.Core.Path.{◌≡◌, ◌∙◌}
-use Prim.Native.Nat.{◌+◌, ◌-◌, ◌≤◌}
+use Prim.Native.Nat.{◌+◌, ◌-◌}
 use native.Mathlib.Omega.{arith}
-use borrow.Author.Rules.{rules, sfits_of}
-use lib.ListN.{length, set, length-set}
+use borrow.Author.Rules.{sfits_of}
+use lib.ListN.{set, length-set}
 use mir.Syntax.{w32}
 use mir.Val.{of_z, to_z}
 use mir.ValLaws.{to_z-of_z}
 use Rattle.cells.specs.Line.{line}
 use Rattle.cells.specs.Written.{Writing}
 use Rattle.cells.proofs.Written.{step, one_more, ends, stands, then_written}
-use Rattle.rules_double.specs.inner.Ticks.{ticks_of}
 use Rattle.rules_double_ranges.specs.Ranges.{ranges_line}
-use Rattle.rules_double_ranges.specs.inner.Stages.{SumsAt}
 use Rattle.rules_double_ranges.proofs.Bars.{cell_asks, cell_is}
 use Rattle.rules_double_ranges.proofs.slide_ranges.Goals as goal
 use Rattle.rules_double_ranges.proofs.slide_ranges.Goals.{After-cell_at}
@@ -44,8 +42,11 @@ pub cell_at-requires : goal.cell_at-requires
 cell_at-requires c =
     let r = c.requires in
     let some = r.lows.long.some in
-    let full = r.lows.full in (record { window = (r.lows.long, r.lows.order); implies = cell_asks r.lows r.highs r.same r.ranged (c.args.m - 1) (omega arith) (omega arith)
-          c.first_sums-lows.ensures c.first_sums-highs.ensures })
+    let full = r.lows.full in (record {
+      window = (r.lows.long, r.lows.order);
+      implies = cell_asks r.lows r.highs r.same r.ranged (c.args.m - 1) (omega arith) (omega arith)
+          c.first_sums-lows.ensures c.first_sums-highs.ensures;
+    })
 
 pub loop-i-init : goal.loop-i-init
 loop-i-init c =
@@ -71,8 +72,11 @@ next_sums-highs-requires c =
 
 pub cell_at-requires-in-loop-i : goal.cell_at-requires-in-loop-i
 cell_at-requires-in-loop-i c =
-    let r = c.requires in (record { window = (r.lows.long, r.lows.order); implies = cell_asks r.lows r.highs r.same r.ranged c.loop-i.i (omega arith) (omega arith)
-          c.next_sums-lows.ensures c.next_sums-highs.ensures })
+    let r = c.requires in (record {
+      window = (r.lows.long, r.lows.order);
+      implies = cell_asks r.lows r.highs r.same r.ranged c.loop-i.i (omega arith) (omega arith)
+          c.next_sums-lows.ensures c.next_sums-highs.ensures;
+    })
 
 pub loop-i-preserved : goal.loop-i-preserved
 loop-i-preserved c =
@@ -89,7 +93,10 @@ loop-i-preserved c =
       omega arith,
       simp length-set room,
       one_more c.loop-i.invariant.3
-          (rw (to_z-of_z w32 c.cell_at-in-loop-i.result (sfits_of c.cell_at-in-loop-i.type_inv), c.cell_at-in-loop-i.ensures) cell)
+          (rw (
+            to_z-of_z w32 c.cell_at-in-loop-i.result (sfits_of c.cell_at-in-loop-i.type_inv),
+            c.cell_at-in-loop-i.ensures,
+          ) cell)
           (omega arith),
       rw bar c.next_sums-lows.ensures,
       rw bar c.next_sums-highs.ensures,

@@ -1,25 +1,18 @@
 -- `slide_ranges` meets its contract: the first cell, and then each turn moves the sums on and writes one. Assumes
 -- nothing.
-use mathlib.Core.Path.{◌≡◌, ◌∙◌}
-use Prim.Native.Nat.{◌+◌, ◌-◌, ◌≤◌}
-use native.Mathlib.Omega.{arith}
-use borrow.Author.Rules.{rules, sfits_of}
-use lib.ListN.{length, set, length-set}
-use mir.Syntax.{w32}
-use mir.Val.{of_z, to_z}
-use mir.ValLaws.{to_z-of_z}
+use Prim.Native.Nat.{◌-◌, ◌≤◌}
+use lib.ListN.{length}
 use Rattle.cells.specs.Line.{line}
 use Rattle.cells.specs.Written.{Writing}
-use Rattle.cells.proofs.Written.{step, one_more, ends, stands, then_written}
 use Rattle.rules_double.specs.inner.Ticks.{ticks_of}
 use Rattle.rules_double_ranges.specs.Ranges.{ranges_line}
 use Rattle.rules_double_ranges.specs.inner.Stages.{SumsAt}
-use Rattle.rules_double_ranges.proofs.Bars.{cell_asks, cell_is}
 use Rattle.rules_double_ranges.proofs.slide_ranges.Given as goal
 
 abbrev pub invariant-loop-i : goal.invariant-loop-i
 invariant-loop-i l =
-    (l.m ≤ l.i) × (l.i ≤ length l.low) × (length l.low ≤ length l.out) × Writing l.i (ranges_line l.n l.m (line l.low) (line l.high)) l.initial.out l.out
+    (l.m ≤ l.i) × (l.i ≤ length l.low) × (length l.low ≤ length l.out)
+    × Writing l.i (ranges_line l.n l.m (line l.low) (line l.high)) l.initial.out l.out
     × SumsAt l.n l.m (ticks_of l.low) (l.i - 1) l.lows.short l.lows.old
     × SumsAt l.n l.m (ticks_of l.high) (l.i - 1) l.highs.short l.highs.old
 

@@ -18,7 +18,8 @@ pub record SumsAt (n m : ℕ) (t : ℕ → ℤ) (i : ℕ) (short old : Float) : 
 
 -- the test of two such sums: m - n times the first is at least n times the second
 abbrev pub wins : ℕ → ℕ → Float → Float → Bool
-wins n m short old = le (mul binary64 old (of_int binary64 (pos n))) (mul binary64 short (of_int binary64 (pos (m - n))))
+wins n m short old =
+    le (mul binary64 old (of_int binary64 (pos n))) (mul binary64 short (of_int binary64 (pos (m - n))))
 
 -- where the worst series gives +1, so does the best one
 pub record Implies (worst best : Bool) : Type 0 where

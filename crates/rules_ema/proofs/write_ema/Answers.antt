@@ -1,6 +1,5 @@
 -- `write_ema` meets its contract: each way of writing the positions does, and where the running sums do not decide, the
 -- means write over what they wrote. Assumes nothing.
-use borrow.Author.Rules.{rules}
 use Rattle.cells.proofs.Finished.{then_finished}
 use Rattle.rules_ema.proofs.write_ema.Goals as goal
 

@@ -1,14 +1,9 @@
 -- `write_from` meets its contract: each turn writes a position and blends the next bar's mean, which still stands,
 -- into the average. Assumes nothing.
-use mathlib.Core.Path.{◌≡◌, refl}
-use Prim.Native.Nat.{◌+◌, ◌-◌, ◌≤◌, ◌<◌}
+use mathlib.Core.Path.{refl}
+use Prim.Native.Nat.{◌+◌, ◌-◌}
 use native.Mathlib.Omega.{arith}
-use lib.ListN.{length}
-use borrow.Author.Rules.{rules}
-use Rattle.cells.specs.Line.{line}
 use Rattle.cells.proofs.Leads.{still}
-use Rattle.cells.specs.inner.Finished.{Finished}
-use Rattle.rules_ema.specs.SingleEma.{ema_of_means, single_ema_from}
 use Rattle.rules_ema.proofs.SingleEma.{
   first_average,
   next_average,
@@ -20,13 +15,12 @@ use Rattle.rules_ema.proofs.SingleEma.{
 use Rattle.rules_ema.proofs.write_from.Goals as goal
 
 pub loop-i-init : goal.loop-i-init
-loop-i-init c =
-    (
-      omega arith,
-      omega arith,
-      starts_finished _ _ _ c.clear_lead.ensures,
-      first_average _ _ _ c.requires.first,
-    )
+loop-i-init c = (
+  omega arith,
+  omega arith,
+  starts_finished _ _ _ c.clear_lead.ensures,
+  first_average _ _ _ c.requires.first,
+)
 
 pub loop-i-preserved : goal.loop-i-preserved
 loop-i-preserved c =

@@ -1,28 +1,18 @@
 -- `write_from` meets its contract: each turn writes a position and blends the next bar's mean, which still stands,
 -- into the average. Assumes nothing.
-use mathlib.Core.Path.{◌≡◌, refl}
-use Prim.Native.Nat.{◌+◌, ◌-◌, ◌≤◌, ◌<◌}
-use native.Mathlib.Omega.{arith}
+use mathlib.Core.Path.{◌≡◌}
+use Prim.Native.Nat.{◌-◌, ◌≤◌, ◌<◌}
 use lib.ListN.{length}
-use borrow.Author.Rules.{rules}
 use Rattle.cells.specs.Line.{line}
-use Rattle.cells.proofs.Leads.{still}
 use Rattle.cells.specs.inner.Finished.{Finished}
 use Rattle.rules_ema.specs.SingleEma.{ema_of_means, single_ema_from}
-use Rattle.rules_ema.proofs.SingleEma.{
-  first_average,
-  next_average,
-  position_at,
-  starts_finished,
-  position_finished,
-  rest_finished,
-}
 use Rattle.rules_ema.proofs.write_from.Given as goal
 
 abbrev pub invariant-loop-i : goal.invariant-loop-i
 invariant-loop-i l =
     (l.start ≤ l.i) × (l.i < length l.series)
-    × Finished (single_ema_from l.start l.n (line l.series)) (length l.series) l.i l.initial.out l.out l.initial.work l.work
+    × Finished (single_ema_from l.start l.n (line l.series)) (length l.series) l.i l.initial.out l.out l.initial.work
+    l.work
     × (l.average ≡ ema_of_means l.start l.n (line l.series) l.i)
 
 abbrev pub decreases-loop-i : goal.decreases-loop-i

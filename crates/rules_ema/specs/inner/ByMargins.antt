@@ -18,12 +18,14 @@ use Rattle.rules_ema.specs.inner.Far.{decided}
 
 -- the sum of n bars: at bar `start` summed afresh, then each bar adds its difference
 unfoldable pub slid_from : ℕ → ℕ → Line → Line
-slid_from start n f = carried plus_zero (add binary64) start (window_sum n f start) (λ i. sub binary64 (f i) (f (i - n)))
+slid_from start n f =
+    carried plus_zero (add binary64) start (window_sum n f start) (λ i. sub binary64 (f i) (f (i - n)))
 
 -- the average by such sums, which starts with the mean of the means by running sums
 unfoldable pub running_ema : ℕ → ℕ → Line → Line
 running_ema start n f =
-    carried plus_zero (blend (ema_alpha n)) start (mean n (running_means n f) start) (λ i. over n (slid_from start n f i))
+    carried plus_zero (blend (ema_alpha n)) start (mean n (running_means n f) start)
+    (λ i. over n (slid_from start n f i))
 
 -- of l bars: a price that is farther than d from that average is on the same side of it as of the rule's own
 pub record Decides (d : Float) (start n : ℕ) (f : Line) (l : ℕ) : Type 0 where

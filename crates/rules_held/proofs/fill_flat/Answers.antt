@@ -1,11 +1,9 @@
 -- `fill_flat` meets its contract: the loop writes cell after cell. Assumes nothing.
 use mathlib.Core.Path.{refl}
-use Prim.Native.Nat.{◌-◌, ◌≤◌}
+use Prim.Native.Nat.{◌-◌}
 use native.Mathlib.Omega.{arith}
 use borrow.Author.Rules.{rules}
-use Rattle.cells.specs.Written.{Writing}
 use Rattle.cells.proofs.Written.{none_written, one_more, ends}
-use Rattle.rules_held.specs.Held.{flat}
 use Rattle.rules_held.proofs.fill_flat.Goals as goal
 
 pub loop-i-init : goal.loop-i-init

@@ -18,19 +18,23 @@ returns-then-closes_long c =
 pub returns-else-closes_long : goal.returns-else-closes_long
 returns-else-closes_long c =
     rw (same c.before.before)
-    (sym (moved_long c.args.position _ (rw (same c.before.before) at c.if-position-gt0.true) ∙ rw c.if-closes_long.false))
+    (sym (moved_long c.args.position _ (rw (same c.before.before) at c.if-position-gt0.true)
+    ∙ rw c.if-closes_long.false))
 
 pub returns-then-closes_short : goal.returns-then-closes_short
 returns-then-closes_short c =
-    sym (moved_short c.args.position _ (rw (same c.before.before.before) at c.if-position-lt0.true) ∙ rw c.if-closes_short.true)
+    sym (moved_short c.args.position _ (rw (same c.before.before.before) at c.if-position-lt0.true)
+    ∙ rw c.if-closes_short.true)
 
 pub returns-else-closes_short : goal.returns-else-closes_short
 returns-else-closes_short c =
     rw (same c.before.before.before)
-    (sym (moved_short c.args.position _ (rw (same c.before.before.before) at c.if-position-lt0.true) ∙ rw c.if-closes_short.false))
+    (sym (moved_short c.args.position _ (rw (same c.before.before.before) at c.if-position-lt0.true)
+    ∙ rw c.if-closes_short.false))
 
 pub returns-else-position-lt0 : goal.returns-else-position-lt0
 returns-else-position-lt0 c =
     let z = c.args.position in
     to_z-of_z w32 c.args.opens c.ranges.opens
-    ∙ sym (moved_flat z _ (rw (same c.before.before) at c.if-position-gt0.false) (rw (same c.before.before) at c.if-position-lt0.false))
+    ∙ sym (moved_flat z _ (rw (same c.before.before) at c.if-position-gt0.false)
+    (rw (same c.before.before) at c.if-position-lt0.false))

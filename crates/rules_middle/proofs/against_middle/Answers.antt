@@ -1,5 +1,4 @@
 -- `against_middle` meets its contract: its tests are those of `against_middle`. Assumes nothing.
-use borrow.Author.Rules.{rules}
 use lib.Ieee.{of_bits}
 use Rattle.rules_middle.proofs.against_middle.Goals as goal
 

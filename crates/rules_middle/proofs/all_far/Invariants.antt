@@ -1,10 +1,7 @@
 -- `all_far` meets its contract: each turn looks at one more bar. Assumes nothing.
 use Prim.Native.Nat.{◌+◌, ◌-◌, ◌≤◌, max}
-use native.Mathlib.Omega.{arith}
-use borrow.Author.Rules.{rules}
 use Rattle.cells.specs.Line.{line}
 use Rattle.margins.specs.inner.Margin.{far_from_middle, AllFar}
-use Rattle.margins.proofs.Far.{none_looked_at, one_more_far, all_looked_at}
 use Rattle.rules_middle.proofs.all_far.Given as goal
 
 abbrev pub invariant-loop-i : goal.invariant-loop-i

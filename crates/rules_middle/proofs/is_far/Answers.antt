@@ -1,5 +1,4 @@
 -- `is_far` meets its contract: its tests are those of `far_from_middle`. Assumes nothing.
-use borrow.Author.Rules.{rules}
 use lib.Ieee.{of_bits}
 use Rattle.rules_middle.proofs.is_far.Goals as goal
 

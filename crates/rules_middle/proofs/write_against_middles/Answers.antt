@@ -1,16 +1,14 @@
 -- `write_against_middles` meets its contract: each turn reads a mean that still stands and its range, and writes the
 -- bar's cell. Assumes nothing.
 use mathlib.Core.Path.{refl, ◌∙◌}
-use Prim.Native.Nat.{◌-◌, ◌*◌, ◌≤◌, min}
+use Prim.Native.Nat.{◌-◌}
 use native.Mathlib.Omega.{arith}
 use borrow.Author.Rules.{rules}
 use lib.Ieee.{of_bits}
-use Rattle.cells.specs.Line.{line, plus_zero}
+use Rattle.cells.specs.Line.{plus_zero}
 use Rattle.cells.proofs.Carried.{from_same}
 use Rattle.cells.proofs.Leads.{lead_stands, lead_then, not_yet}
-use Rattle.cells.specs.Written.{Writing}
 use Rattle.cells.proofs.Written.{one_more, writing_same}
-use Rattle.rules_middle.specs.inner.Positions.{positions}
 use Rattle.rules_middle.proofs.Positions.{position_at}
 use Rattle.rules_middle.proofs.write_against_middles.Goals as goal
 

@@ -1,7 +1,6 @@
 -- `write_mid` meets its contract: by means where the prices are whole ticks and the window is long, else by running
 -- sums where they decide every bar, and else by means. Assumes nothing.
 use native.Mathlib.Omega.{arith}
-use borrow.Author.Rules.{rules}
 use Rattle.cells.proofs.Touched.{touched_then, written_over_all}
 use Rattle.rules_middle.proofs.write_mid.Goals as goal
 
@@ -14,13 +13,16 @@ pub write_mid_of_means-requires-2 : goal.write_mid_of_means-requires-2
 write_mid_of_means-requires-2 c =
     let pre = c.requires in
     let out = c.write_mid_by_margins.ensures.used.long in
-    let work = c.write_mid_by_margins.ensures.work.long in (record { priced = record {
+    let work = c.write_mid_by_margins.ensures.work.long in (record {
+      priced = record {
         window = pre.window;
         short = pre.short;
         out_long = omega (arith, pre.out_long);
         work_long = omega (arith, pre.work_long);
         values = pre.values;
-      }; ticks_value = c.are_long_ticks-ticks.ensures })
+      };
+      ticks_value = c.are_long_ticks-ticks.ensures;
+    })
 
 pub returns : goal.returns
 returns c =

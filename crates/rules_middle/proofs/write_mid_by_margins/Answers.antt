@@ -3,7 +3,6 @@
 use mathlib.Core.Path.{sym, ◌∙◌}
 use mathlib.Core.Bool.{true≢false}
 use native.Mathlib.Omega.{arith}
-use borrow.Author.Rules.{rules}
 use Rattle.cells.proofs.Parts.{part_long}
 use Rattle.cells.proofs.Touched.{untouched, touched, touched_more}
 use Rattle.cells.proofs.Written.{then_written, writing_same}
@@ -15,7 +14,8 @@ use Rattle.rules_middle.proofs.ByMargins.{running_means_room, by_margins}
 use Rattle.rules_middle.proofs.write_mid_by_margins.Goals as goal
 
 pub returns-then-n-lt-SHORTEST_BY_MARGINS : goal.returns-then-n-lt-SHORTEST_BY_MARGINS
-returns-then-n-lt-SHORTEST_BY_MARGINS c = record { used = untouched; work = untouched; cells = λ e. absurd (true≢false (sym e)) }
+returns-then-n-lt-SHORTEST_BY_MARGINS c =
+    record { used = untouched; work = untouched; cells = λ e. absurd (true≢false (sym e)) }
 
 pub slice_bounds-write_ranges-end-2 : goal.slice_bounds-write_ranges-end-2
 slice_bounds-write_ranges-end-2 c = sym (part_long c.write_running_means.ensures (omega arith))

@@ -1,7 +1,6 @@
 -- `write_mid_of_means` meets its contract: the means and their ranges, and the positions over the means. Assumes
 -- nothing.
 use native.Mathlib.Omega.{arith}
-use borrow.Author.Rules.{rules}
 use Rattle.cells.proofs.Touched.{touched, touched_more}
 use Rattle.cells.proofs.Written.{then_written, writing_same}
 use Rattle.rules_middle.specs.Middle.{mid_line}

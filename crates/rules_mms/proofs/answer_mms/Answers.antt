@@ -1,5 +1,4 @@
 -- `answer_mms` meets its contract: the slices and values, then the windows. Assumes nothing.
-use borrow.Author.Rules.{rules}
 use Rattle.calls.specs.Answer.{answered}
 use Rattle.rules_mms.proofs.answer_mms.Goals as goal
 

@@ -1,5 +1,4 @@
 -- `scaled_between` meets its contract: its test is that of `scaled_between`. Assumes nothing.
-use borrow.Author.Rules.{rules}
 use lib.Ieee.{of_bits, round}
 use Rattle.rounding.specs.Literals.{ten_to_minus}
 use Rattle.rules_mms.proofs.scaled_between.Goals as goal

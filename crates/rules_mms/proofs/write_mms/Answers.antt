@@ -7,7 +7,16 @@ use Rattle.rules_mms.proofs.write_mms.Goals as goal
 
 pub write_scaled-requires : goal.write_scaled-requires
 write_scaled-requires c =
-    let ranges = c.write_mean_ranges.ensures in (record { averaged = (record { window = search rules; room = search rules; means = stands ranges.0 }, search rules); series_in_bounds = (search rules, stands ranges.1) })
+    let ranges =
+    c.write_mean_ranges.ensures in
+    (record {
+      averaged = (
+        record { window = search rules; room = search rules; means = stands ranges.0 },
+        search
+            rules,
+      );
+      series_in_bounds = (search rules, stands ranges.1);
+    })
 
 pub returns : goal.returns
 returns c =

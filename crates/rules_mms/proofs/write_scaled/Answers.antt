@@ -1,15 +1,12 @@
 -- `write_scaled` meets its contract: each turn reads a mean that still stands and its range, and writes the bar's cell.
 -- Assumes nothing.
 use mathlib.Core.Path.{◌∙◌}
-use Prim.Native.Nat.{◌+◌, ◌-◌, ◌≤◌, min}
+use Prim.Native.Nat.{◌-◌}
 use native.Mathlib.Omega.{arith}
 use borrow.Author.Rules.{rules}
 use lib.Ieee.{nan, of_bits}
-use lib.ListN.{length}
-use Rattle.cells.specs.Line.{line}
 use Rattle.cells.proofs.Leads.{lead_stands, lead_then, still}
 use Rattle.cells.proofs.RowWrites.{beside_first, beside_second}
-use Rattle.cells.specs.Written.{Writing}
 use Rattle.cells.proofs.Written.{one_more, read_back}
 use Rattle.rules_mms.specs.Mms.{mms_line}
 use Rattle.rules_mms.proofs.Scaled.{mms_at}

@@ -1,23 +1,16 @@
 -- `write_scaled` meets its contract: each turn reads a mean that still stands and its range, and writes the bar's cell.
 -- Assumes nothing.
-use mathlib.Core.Path.{◌∙◌}
 use Prim.Native.Nat.{◌+◌, ◌-◌, ◌≤◌, min}
-use native.Mathlib.Omega.{arith}
-use borrow.Author.Rules.{rules}
-use lib.Ieee.{nan, of_bits}
 use lib.ListN.{length}
 use Rattle.cells.specs.Line.{line}
-use Rattle.cells.proofs.Leads.{lead_stands, lead_then, still}
-use Rattle.cells.proofs.RowWrites.{beside_first, beside_second}
 use Rattle.cells.specs.Written.{Writing}
-use Rattle.cells.proofs.Written.{one_more, read_back}
 use Rattle.rules_mms.specs.Mms.{mms_line}
-use Rattle.rules_mms.proofs.Scaled.{mms_at}
 use Rattle.rules_mms.proofs.write_scaled.Given as goal
 
 abbrev pub invariant-loop-i : goal.invariant-loop-i
 invariant-loop-i l =
-    (min (l.n + l.w - 2) (length l.series) ≤ l.i) × (l.i ≤ length l.series) × Writing l.i (mms_line l.n l.w (line l.series)) l.initial.out l.out
+    (min (l.n + l.w - 2) (length l.series) ≤ l.i) × (l.i ≤ length l.series)
+    × Writing l.i (mms_line l.n l.w (line l.series)) l.initial.out l.out
 
 abbrev pub decreases-loop-i : goal.decreases-loop-i
 decreases-loop-i l = length l.series - l.i

@@ -1,5 +1,4 @@
 -- `place_at` meets its contract: a count, and one more. Assumes nothing.
-use borrow.Author.Rules.{rules}
 use lib.Ieee.{of_bits, round}
 use Rattle.rounding.specs.Literals.{ten_to_minus}
 use Rattle.rules_rank.specs.inner.Place.{counted_place}

@@ -1,6 +1,5 @@
 -- `whole_rank` meets its contract. Assumes nothing.
 use native.Mathlib.Omega.{arith}
-use borrow.Author.Rules.{rules}
 use lib.Ieee.{of_bits}
 use Rattle.windows.proofs.Window.{count_is_float}
 use Rattle.rules_rank.specs.Rank.{whole_rank}

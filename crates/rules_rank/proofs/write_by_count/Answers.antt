@@ -1,13 +1,10 @@
 -- `write_by_count` meets its contract: each turn counts the means below and writes the position that the count picks.
 -- Assumes nothing.
-use Prim.Native.Nat.{◌-◌, ◌*◌, ◌≤◌, min}
+use Prim.Native.Nat.{◌-◌}
 use native.Mathlib.Omega.{arith}
 use borrow.Author.Rules.{rules}
 use lib.Ieee.{of_bits}
-use lib.ListN.{length}
-use Rattle.cells.specs.Line.{line}
 use Rattle.cells.proofs.Leads.{lead_stands, lead_then}
-use Rattle.cells.specs.Written.{Writing}
 use Rattle.cells.proofs.Written.{one_more}
 use Rattle.rules_rank.specs.Rank.{rank_line}
 use Rattle.rules_rank.proofs.Cells.{picked}

@@ -1,11 +1,9 @@
 -- `write_positions` meets its contract: each turn writes one position. Assumes nothing.
-use Prim.Native.Nat.{◌-◌, ◌≤◌}
+use Prim.Native.Nat.{◌-◌}
 use native.Mathlib.Omega.{arith}
 use borrow.Author.Rules.{rules}
 use lib.Ieee.{of_bits}
-use Rattle.cells.specs.Written.{Writing}
 use Rattle.cells.proofs.Written.{none_written, one_more, ends}
-use Rattle.rules_rank.specs.Rank.{rank_of}
 use Rattle.rules_rank.proofs.write_positions.Goals as goal
 
 pub loop-below-init : goal.loop-below-init

@@ -14,7 +14,10 @@ write_by_count-requires c =
     let pre = c.requires in
     let rows = lent_on c.write_means_of_prices.ensures c.write_positions.ensures (omega arith) in
     let long = rows.long in
-    (record { rank_rows = record { window = pre.window; due = omega arith; room = omega arith; rows = stands rows }; series_in_bounds = search rules })
+    (record {
+      rank_rows = record { window = pre.window; due = omega arith; room = omega arith; rows = stands rows };
+      series_in_bounds = search rules;
+    })
 
 pub returns-then-bars-n : goal.returns-then-bars-n
 returns-then-bars-n c =

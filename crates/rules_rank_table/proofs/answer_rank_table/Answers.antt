@@ -1,7 +1,6 @@
 -- `answer_rank_table` meets its contract: with cells to write the table decides, and else it is not asked.
 -- Assumes nothing.
 use mathlib.Core.Path.{◌∙◌}
-use borrow.Author.Rules.{rules}
 use Rattle.calls.proofs.Call.{some_cells, no_cells}
 use Rattle.rules_rank_table.proofs.Open.{table_asked, table_left}
 use Rattle.rules_rank_table.proofs.answer_rank_table.Goals as goal

@@ -1,5 +1,4 @@
 -- `index_of_eight` meets its contract, lane by lane. Assumes nothing.
-use borrow.Author.Rules.{rules}
 use Rattle.rules_rsi.proofs.index_of_eight.Goals as goal
 
 pub returns : goal.returns

@@ -1,5 +1,4 @@
 -- `part_of` meets its contract: its test is that of `part`. Assumes nothing.
-use borrow.Author.Rules.{rules}
 use Rattle.rules_rsi.proofs.part_of.Goals as goal
 
 pub returns-then-losing : goal.returns-then-losing

@@ -1,6 +1,5 @@
 -- `write_changes` meets its contract: three rows, one after the other. Assumes nothing.
 use native.Mathlib.Omega.{arith}
-use borrow.Author.Rules.{rules}
 use Rattle.rules_rsi.proofs.Rows.{three_rows}
 use Rattle.rules_rsi.proofs.write_changes.Goals as goal
 

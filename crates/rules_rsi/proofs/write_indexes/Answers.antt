@@ -1,13 +1,7 @@
 -- `write_indexes` meets its contract: a few bars with each turn. Assumes nothing.
-use Prim.Native.Nat.{◌-◌, ◌≤◌}
+use Prim.Native.Nat.{◌-◌}
 use native.Mathlib.Omega.{arith}
-use borrow.Author.Rules.{rules}
-use lib.ListN.{length}
-use Rattle.cells.specs.Line.{line}
-use Rattle.cells.specs.Written.{Writing}
 use Rattle.cells.proofs.Written.{none_written, stands, then_written, ends}
-use Rattle.windows.specs.Window.{mean}
-use Rattle.rules_rsi.specs.RsiReverse.{rsi_before}
 use Rattle.rules_rsi.proofs.Rows.{still_changed}
 use Rattle.rules_rsi.proofs.write_indexes.Goals as goal
 

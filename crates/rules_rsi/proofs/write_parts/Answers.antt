@@ -1,11 +1,9 @@
 -- `write_parts` meets its contract: each turn writes the part of a change. Assumes nothing.
 use mathlib.Core.Path.{ap, ◌∙◌}
-use Prim.Native.Nat.{◌+◌, ◌-◌, ◌<◌, ◌≤◌}
+use Prim.Native.Nat.{◌-◌}
 use native.Mathlib.Omega.{arith}
-use borrow.Author.Rules.{rules}
-use Rattle.cells.specs.Written.{Writing}
 use Rattle.cells.proofs.Written.{one_more, ends}
-use Rattle.rules_rsi.specs.inner.Stages.{part, with_parts}
+use Rattle.rules_rsi.specs.inner.Stages.{part}
 use Rattle.rules_rsi.proofs.Rows.{none_of_parts, next_part}
 use Rattle.rules_rsi.proofs.write_parts.Goals as goal
 

@@ -1,7 +1,6 @@
 -- `write_rsi_reverse` meets its contract: the positions are read from the indexes in the first row. Assumes nothing.
 use mathlib.Core.Path.{sym}
 use native.Mathlib.Omega.{arith}
-use borrow.Author.Rules.{rules}
 use Rattle.cells.proofs.Parts.{part_long, through}
 use Rattle.cells.proofs.Touched.{touched, touched_then, touched_more}
 use Rattle.rules_rsi.specs.RsiReverse.{turned, rsi_reverse_line}

@@ -1,7 +1,6 @@
 -- `write_some` meets its contract: sixteen bars where so many are left that have n changes, and else one. Assumes
 -- nothing.
 use native.Mathlib.Omega.{arith}
-use borrow.Author.Rules.{rules}
 use lib.ListN.{length}
 use Rattle.cells.proofs.Written.{one_more}
 use Rattle.rules_rsi.proofs.Rows.{whole_sixteen}

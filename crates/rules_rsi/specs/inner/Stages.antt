@@ -1,5 +1,5 @@
 -- What the stages of the rule ask of each other. Assumes nothing.
-use Rattle.std.specs.Prelude.{Bool, true, false, cond, List, ℕ, ◌+◌, ◌*◌, ◌<◌, ◌≤◌, length, Float}
+use Rattle.std.specs.Prelude.{Bool, cond, List, ℕ, ◌+◌, ◌*◌, ◌<◌, ◌≤◌, length, Float}
 use Rattle.std.specs.Float.{binary64}
 use Rattle.std.specs.Float.Ieee.{div, eq}
 use Rattle.limits.specs.Limits.{Window}
@@ -39,7 +39,8 @@ pub record Changed (n : ℕ) (s now : List Float) : Type 0 where
 
 -- the index of two sums of changes, with their count as a float
 abbrev pub index_by : Float → Float → Float → Float
-index_by count up down = cond (eq down plus_zero) hundred (rsi_formula (div binary64 up count) (div binary64 down count))
+index_by count up down =
+    cond (eq down plus_zero) hundred (rsi_formula (div binary64 up count) (div binary64 down count))
 
 -- of eight bars side by side
 abbrev pub each_index : Float → Eight → Eight → Eight

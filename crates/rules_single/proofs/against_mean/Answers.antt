@@ -1,5 +1,4 @@
 -- `against_mean` meets its contract: its test is that of `against_mean`. Assumes nothing.
-use borrow.Author.Rules.{rules}
 use lib.Ieee.{of_bits}
 use Rattle.rules_single.proofs.against_mean.Goals as goal
 

@@ -2,7 +2,6 @@
 use mathlib.Core.Path.{sym, ◌∙◌}
 use native.Mathlib.Nat.{mul-le-mul}
 use native.Mathlib.Omega.{arith}
-use borrow.Author.Rules.{rules}
 use lib.Ieee.{of_bits, neg}
 use Rattle.windows.proofs.Window.{count_is_float}
 use Rattle.rules_single.proofs.Ticks.{by_average, by_total}
@@ -27,11 +26,13 @@ unfolding of_bits neg
 returns-then-scaled-total c =
     let pre = c.requires in
     let none = sym c.is_tie.ensures ∙ c.if-is_tie.false in
-    sym (by_total pre.tick_rows c.shared_slice_known-1.given _ (omega arith) (omega arith) none ∙ rw c.if-scaled-total.true)
+    sym (by_total pre.tick_rows c.shared_slice_known-1.given _ (omega arith) (omega arith) none
+    ∙ rw c.if-scaled-total.true)
 
 pub returns-else-scaled-total : goal.returns-else-scaled-total
 unfolding of_bits
 returns-else-scaled-total c =
     let pre = c.requires in
     let none = sym c.is_tie.ensures ∙ c.if-is_tie.false in
-    sym (by_total pre.tick_rows c.shared_slice_known-1.given _ (omega arith) (omega arith) none ∙ rw c.if-scaled-total.false)
+    sym (by_total pre.tick_rows c.shared_slice_known-1.given _ (omega arith) (omega arith) none
+    ∙ rw c.if-scaled-total.false)

@@ -1,19 +1,10 @@
 -- `write_against_means` meets its contract: each turn reads an average that still stands and writes the bar's cell.
 -- Assumes nothing.
-use mathlib.Core.Path.{◌∙◌, ap}
 use Prim.Native.Nat.{◌-◌, ◌*◌, ◌≤◌, min}
-use native.Mathlib.Omega.{arith}
-use borrow.Author.Rules.{rules}
-use lib.Ieee.{of_bits}
 use lib.ListN.{length}
-use Rattle.cells.specs.Line.{line, plus_zero}
-use Rattle.cells.proofs.Carried.{from_same}
-use Rattle.cells.proofs.Leads.{lead_stands, lead_then, not_yet}
+use Rattle.cells.specs.Line.{line}
 use Rattle.cells.specs.Written.{Writing}
-use Rattle.cells.proofs.Written.{one_more, writing_same}
-use Rattle.rules_single.specs.Single.{against_mean}
 use Rattle.rules_single.specs.inner.Positions.{positions}
-use Rattle.rules_single.proofs.Positions.{position_at}
 use Rattle.rules_single.proofs.write_against_means.Given as goal
 
 abbrev pub invariant-loop-i : goal.invariant-loop-i

@@ -13,7 +13,8 @@ use Rattle.rules_single.proofs.ByMargins.{by_margins}
 use Rattle.rules_single.proofs.write_single_by_margins.Goals as goal
 
 pub returns-then-n-lt-SHORTEST_BY_MARGINS : goal.returns-then-n-lt-SHORTEST_BY_MARGINS
-returns-then-n-lt-SHORTEST_BY_MARGINS c = record { used = untouched; work = untouched; cells = λ e. absurd (true≢false (sym e)) }
+returns-then-n-lt-SHORTEST_BY_MARGINS c =
+    record { used = untouched; work = untouched; cells = λ e. absurd (true≢false (sym e)) }
 
 pub slice_bounds-write_running_means-end-2 : goal.slice_bounds-write_running_means-end-2
 slice_bounds-write_running_means-end-2 c = sym (part_long c.write_running_means.ensures (omega arith))

@@ -2,7 +2,6 @@
 -- rows, and the positions. Assumes nothing.
 use mathlib.Core.Path.{sym}
 use native.Mathlib.Omega.{arith}
-use borrow.Author.Rules.{rules}
 use lib.ListN.{length-take, length-drop}
 use Rattle.cells.proofs.RowWrites.{lent_on}
 use Rattle.cells.proofs.Touched.{touched, touched_more}
@@ -27,12 +26,15 @@ write_tick_positions-requires c =
     let second = through c.write_sums.ensures (omega arith) (running_sums _)
     (causal_running_sums _ pre.priced.window.some)
     c.write_sums-2.ensures in
-    let rows = lent_on c.write_means_of_ticks.ensures second (omega arith) in (record { tick_rows = record {
+    let rows = lent_on c.write_means_of_ticks.ensures second (omega arith) in (record {
+      tick_rows = record {
         window = pre.priced.window;
         ticks = pre.series_value;
         room = omega (arith, rows.long);
         rows = stands rows;
-      }; series_in_bounds = omega arith })
+      };
+      series_in_bounds = omega arith;
+    })
 
 pub returns : goal.returns
 returns c =

@@ -11,7 +11,8 @@ use Rattle.windows.specs.inner.RunningSums.{running_sums}
 -- the means of s, and the sums of its last n window sums, in two rows
 abbrev pub Totals : ℕ → List Float → List Float → List Float → Type 0
 Totals n s old now =
-    Writing (length s + length s) (beside (length s) (mean n (line s)) (running_sums n (running_sums n (line s)))) old now
+    Writing (length s + length s) (beside (length s) (mean n (line s)) (running_sums n (running_sums n (line s)))) old
+    now
 
 -- whole ticks, a window, and those rows in `now`
 pub record TickRows (n : ℕ) (s now : List Float) : Type 0 where

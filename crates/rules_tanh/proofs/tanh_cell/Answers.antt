@@ -1,7 +1,5 @@
 -- `tanh_cell` meets its contract: the constant has the recorded bits. Assumes nothing.
 use mathlib.Core.Path.{refl}
-use borrow.Author.Rules.{rules}
-use lib.Ieee.{of_bits}
 use Rattle.rules_tanh.specs.Recorded.{threshold_bits}
 use Rattle.rules_tanh.specs.Tanh.{thresholds}
 use Rattle.rules_tanh.proofs.tanh_cell.Goals as goal

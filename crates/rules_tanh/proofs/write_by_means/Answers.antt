@@ -1,12 +1,8 @@
 -- `write_by_means` meets its contract: the lead, and a few bars with each turn. Assumes nothing.
 use mathlib.Core.Path.{refl}
-use Prim.Native.Nat.{◌-◌, ◌*◌, ◌≤◌, min}
+use Prim.Native.Nat.{◌-◌}
 use native.Mathlib.Omega.{arith}
-use borrow.Author.Rules.{rules}
-use lib.ListN.{length}
 use lib.Ieee.{of_bits}
-use Rattle.cells.specs.Line.{line}
-use Rattle.cells.specs.Written.{Writing}
 use Rattle.cells.proofs.Leads.{lead_stands, lead_then}
 use Rattle.cells.proofs.Written.{stands, then_written}
 use Rattle.rules_tanh.specs.Recorded.{threshold_bits}

@@ -2,14 +2,11 @@
 -- nothing.
 use mathlib.Core.Path.{ap, ◌∙◌}
 use native.Mathlib.Nat.{add-zero}
-use Prim.Native.Nat.{◌+◌, ◌-◌, ◌≤◌}
+use Prim.Native.Nat.{◌+◌, ◌-◌}
 use native.Mathlib.Omega.{arith}
-use borrow.Author.Rules.{rules}
 use lib.Ieee.{nan}
-use Rattle.cells.specs.Line.{line}
-use Rattle.cells.specs.Written.{Writing}
 use Rattle.cells.proofs.Written.{step, ends, read_back}
-use Rattle.rules_tanh.specs.Tanh.{tanh_cell, tanh_of_means}
+use Rattle.rules_tanh.specs.Tanh.{tanh_cell}
 use Rattle.rules_tanh.proofs.Cells.{cell_at}
 use Rattle.rules_tanh.proofs.write_some.Goals as goal
 

@@ -1,16 +1,9 @@
 -- `write_some` meets its contract: each turn reads a bar's mean, middle and variance, and writes its cell. Assumes
 -- nothing.
-use mathlib.Core.Path.{ap, ◌∙◌}
-use native.Mathlib.Nat.{add-zero}
 use Prim.Native.Nat.{◌+◌, ◌-◌, ◌≤◌}
-use native.Mathlib.Omega.{arith}
-use borrow.Author.Rules.{rules}
-use lib.Ieee.{nan}
 use Rattle.cells.specs.Line.{line}
 use Rattle.cells.specs.Written.{Writing}
-use Rattle.cells.proofs.Written.{step, ends, read_back}
-use Rattle.rules_tanh.specs.Tanh.{tanh_cell, tanh_of_means}
-use Rattle.rules_tanh.proofs.Cells.{cell_at}
+use Rattle.rules_tanh.specs.Tanh.{tanh_of_means}
 use Rattle.rules_tanh.proofs.write_some.Given as goal
 
 abbrev pub invariant-loop-j : goal.invariant-loop-j

@@ -1,5 +1,4 @@
 -- `answer_triple` meets its contract: the table is read from the top. Assumes nothing.
-use borrow.Author.Rules.{rules}
 use Rattle.rules_triple.specs.Triple.{triple_answer}
 use Rattle.rules_triple.proofs.answer_triple.Goals as goal
 

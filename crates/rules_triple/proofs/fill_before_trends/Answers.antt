@@ -1,5 +1,4 @@
 -- `fill_before_trends` meets its contract: the lead ends where all averages are there. Assumes nothing.
-use borrow.Author.Rules.{rules}
 use Rattle.rules_triple.proofs.fill_before_trends.Goals as goal
 
 pub returns : goal.returns

@@ -1,6 +1,5 @@
 -- `write_averages` meets its contract: four rows, one after the other. Assumes nothing.
 use native.Mathlib.Omega.{arith}
-use borrow.Author.Rules.{rules}
 use Rattle.rules_triple.proofs.FourRows.{four_rows}
 use Rattle.rules_triple.proofs.write_averages.Goals as goal
 

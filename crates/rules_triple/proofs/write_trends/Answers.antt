@@ -1,15 +1,12 @@
 -- `write_trends` meets its contract: each turn reads a bar's four averages and writes its position. Assumes nothing.
 use mathlib.Core.Path.{◌∙◌}
-use Prim.Native.Nat.{◌+◌, ◌-◌, ◌≤◌, min}
+use Prim.Native.Nat.{◌-◌}
 use native.Mathlib.Nat.{zero-add}
 use native.Mathlib.Omega.{arith}
 use borrow.Author.Rules.{rules, sfits_of}
 use mir.Syntax.{w32}
 use mir.ValLaws.{to_z-of_z}
-use lib.ListN.{length}
-use Rattle.cells.specs.Line.{line}
 use Rattle.cells.proofs.Leads.{lead_stands, lead_then}
-use Rattle.cells.specs.Written.{Writing}
 use Rattle.cells.proofs.Written.{one_more}
 use Rattle.rules_triple.specs.Triple.{triple_line}
 use Rattle.rules_triple.proofs.Crossover.{triple_at}

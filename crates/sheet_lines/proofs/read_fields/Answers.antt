@@ -1,7 +1,6 @@
 -- `read_fields` meets its contract: each field is read from its own columns. Assumes nothing.
 use native.Mathlib.Nat.{add-zero}
 use native.Mathlib.Omega.{arith}
-use borrow.Author.Rules.{rules}
 use Rattle.sheet_lines.proofs.Places.{columns_at}
 use Rattle.sheet_lines.proofs.read_fields.Goals as goal
 

@@ -1,6 +1,5 @@
 -- `read_header` meets its contract: the line feed decides, and the fields make the request. Assumes nothing.
 use native.Mathlib.Omega.{arith}
-use borrow.Author.Rules.{rules}
 use Rattle.sheet_lines.specs.Header.{read_header}
 use Rattle.sheet_lines.proofs.Places.{is_columned, not_columned}
 use Rattle.sheet_lines.proofs.read_header.Goals as goal

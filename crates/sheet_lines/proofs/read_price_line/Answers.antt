@@ -2,7 +2,6 @@
 -- the price is read from the columns before it. Assumes nothing.
 use native.Mathlib.Nat.{add-zero}
 use native.Mathlib.Omega.{arith}
-use borrow.Author.Rules.{rules}
 use Rattle.sheet_lines.specs.Header.{read_price_line}
 use Rattle.sheet_lines.proofs.Places.{columns_at, is_columned, not_columned}
 use Rattle.sheet_lines.proofs.read_price_line.Goals as goal

@@ -1,7 +1,6 @@
 -- `many_more` meets its contract: they fit, or fill the count, or it is full. Assumes nothing.
 use mathlib.Core.Path.{sym}
 use native.Mathlib.Omega.{arith}
-use borrow.Author.Rules.{rules}
 use Rattle.sheet_requests.proofs.Counting.{more_fits, more_full, more_fill}
 use Rattle.sheet_requests.proofs.many_more.Goals as goal
 

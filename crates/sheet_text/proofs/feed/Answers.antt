@@ -6,7 +6,7 @@ use native.Mathlib.Omega.{arith}
 use borrow.Author.Rules.{rules}
 use lib.ListN.{length}
 use Rattle.sheet_requests.specs.inner.Place.{next_line_bytes}
-use Rattle.sheet_text.proofs.Feeding.{Feeding, onward, text_owed_few, fed_rest, unfed_rest, stopped}
+use Rattle.sheet_text.proofs.Feeding.{onward, text_owed_few, fed_rest, unfed_rest, stopped}
 use Rattle.sheet_text.proofs.feed.Goals as goal
 use Rattle.sheet_text.proofs.feed.Goals.{After-loop-place}
 

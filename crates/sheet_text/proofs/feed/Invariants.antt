@@ -1,12 +1,7 @@
 -- `feed` meets its contract: each step goes onward, and the last one leaves too few bytes for a line. Assumes nothing.
-use mathlib.Core.Path.{refl, ◌∙◌}
-use Prim.Native.Nat.{◌-◌, ◌<◌}
-use native.Mathlib.Nat.{zero-add}
-use native.Mathlib.Omega.{arith}
-use borrow.Author.Rules.{rules}
+use Prim.Native.Nat.{◌-◌}
 use lib.ListN.{length}
-use Rattle.sheet_requests.specs.inner.Place.{next_line_bytes}
-use Rattle.sheet_text.proofs.Feeding.{Feeding, onward, text_owed_few, fed_rest, unfed_rest, stopped}
+use Rattle.sheet_text.proofs.Feeding.{Feeding}
 use Rattle.sheet_text.proofs.feed.Given as goal
 
 abbrev pub invariant-loop-place : goal.invariant-loop-place

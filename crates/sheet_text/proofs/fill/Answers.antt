@@ -1,10 +1,9 @@
 -- `fill` meets its contract: the parts go onward, and what is printed last ends the sheet. Assumes nothing.
 use mathlib.Core.Path.{◌≡◌, refl, sym, ap, ◌∙◌}
-use Prim.Native.Nat.{◌≤◌, ◌+◌, ◌-◌}
+use Prim.Native.Nat.{◌≤◌, ◌-◌}
 use native.Mathlib.Omega.{arith}
 use borrow.Author.Rules.{rules}
 use lib.ListN.{length}
-use Rattle.sheet_requests.specs.inner.Lent.{Lent}
 use Rattle.sheet_text.specs.inner.Standing.{text_bytes, Standing}
 use Rattle.sheet_text.proofs.Parts.{
   stand_on,

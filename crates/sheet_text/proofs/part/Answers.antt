@@ -2,7 +2,6 @@
 use mathlib.Core.Path.{◌≡◌, ◌∙◌}
 use Prim.Native.Nat.{◌≤◌, ◌+◌}
 use native.Mathlib.Omega.{arith}
-use borrow.Author.Rules.{rules}
 use lib.ListN.{length}
 use Rattle.sheet_text.specs.inner.Standing.{part_bytes, text_bytes}
 use Rattle.sheet_text.proofs.Parts.{length_part, up_to, text_fits, out_fits, parted}

@@ -1,5 +1,5 @@
 -- `sheet_text` meets its contract: a short output is refused, and else the whole sheet is written. Assumes nothing.
-use mathlib.Core.Path.{◌≡◌, refl, sym, ap}
+use mathlib.Core.Path.{◌≡◌, refl, ap}
 use mathlib.Core.List.{List}
 use Prim.Native.Nat.{ℕ, ◌≤◌, ◌<◌, ◌+◌}
 use native.Mathlib.Omega.{arith}
@@ -40,15 +40,15 @@ room : (c : Else-out-input) →
 room c = omega (arith, c.if-out-input.false, c.if-out-lt-SHEET_ROOM.false)
 
 pub returns-then-out-lt-SHEET_ROOM : goal.returns-then-out-lt-SHEET_ROOM
-returns-then-out-lt-SHEET_ROOM c = too_short c.args.input.now c.args.out.now (omega (arith, c.if-out-lt-SHEET_ROOM.true))
+returns-then-out-lt-SHEET_ROOM c =
+    too_short c.args.input.now c.args.out.now (omega (arith, c.if-out-lt-SHEET_ROOM.true))
 
 pub returns-then-out-input : goal.returns-then-out-input
 returns-then-out-input c =
     too_short c.args.input.now c.args.out.now (omega (arith, c.if-out-input.true, c.if-out-lt-SHEET_ROOM.false))
 
 pub fill-requires : goal.fill-requires
-fill-requires c =
-    (
+fill-requires c = (
   record { series_long = search rules; out_long = search rules; work_clear = clear },
   search rules,
   room (goal.at.fill-requires c).Else-out-input,

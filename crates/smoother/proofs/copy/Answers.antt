@@ -1,7 +1,5 @@
 -- `copy` meets its contract: the loop copies cell after cell. Assumes nothing.
-use Rattle.std.proofs.Common.{◌-◌, ◌≤◌, refl, arith, rules}
-use Rattle.cells.specs.Line.{line}
-use Rattle.cells.specs.Written.{Writing}
+use Rattle.std.proofs.Common.{◌-◌, refl, arith, rules}
 use Rattle.cells.proofs.Written.{none_written, one_more, ends}
 use Rattle.smoother.proofs.copy.Goals as goal
 

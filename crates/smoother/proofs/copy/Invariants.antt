@@ -1,8 +1,7 @@
 -- `copy` meets its contract: the loop copies cell after cell. Assumes nothing.
-use Rattle.std.proofs.Common.{◌-◌, ◌≤◌, refl, arith, rules}
+use Rattle.std.proofs.Common.{◌-◌, ◌≤◌}
 use Rattle.cells.specs.Line.{line}
 use Rattle.cells.specs.Written.{Writing}
-use Rattle.cells.proofs.Written.{none_written, one_more, ends}
 use Rattle.smoother.proofs.copy.Given as goal
 
 abbrev pub invariant-loop-i : goal.invariant-loop-i

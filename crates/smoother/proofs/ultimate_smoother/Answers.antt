@@ -1,6 +1,6 @@
 -- `ultimate_smoother` meets its contract: each answer is a line of the table, and the cells are those of the period's
 -- line. Assumes nothing.
-use Rattle.std.proofs.Common.{◌≡◌, Bool, true, false, length, sym, refl, ◌∙◌, arith, rules}
+use Rattle.std.proofs.Common.{◌≡◌, Bool, true, false, length, sym, refl, ◌∙◌, arith}
 use Rattle.calls.specs.declared.Refusal.TheVariants.{ParameterNotFinite, WindowTooLong}
 use Rattle.calls.specs.declared.Answer.TheVariants.{Cells}
 use Rattle.values.specs.Accepted.{finite}
@@ -51,8 +51,14 @@ truncating_f64_to_u64-whole-requires c = let k = whole c in (record { lower_boun
 
 pub write_smooth-requires : goal.write_smooth-requires
 write_smooth-requires c =
-    let room = checked_room _ _ _ _ _ (sym c.check-due.ensures ∙ c.in_default.is) in
-    (omega (arith, c.truncating_f64_to_u64-whole.ensures, (whole (goal.at.write_smooth-requires c).Then-is_period).small), room.out_long)
+    let room = checked_room _ _ _ _ _ (sym c.check-due.ensures ∙ c.in_default.is) in (
+      omega (
+        arith,
+        c.truncating_f64_to_u64-whole.ensures,
+        (whole (goal.at.write_smooth-requires c).Then-is_period).small,
+      ),
+      room.out_long,
+    )
 
 pub returns-then-is_period : goal.returns-then-is_period
 returns-then-is_period c =

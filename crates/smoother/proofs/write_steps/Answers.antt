@@ -1,10 +1,7 @@
 -- `write_steps` meets its contract: each turn reads the last two cells back, and writes the next. Assumes nothing.
-use Rattle.std.proofs.Common.{◌-◌, ◌≤◌, length, arith, rules}
+use Rattle.std.proofs.Common.{◌-◌, arith, rules}
 use lib.Ieee.{nan}
-use Rattle.cells.specs.Line.{line}
-use Rattle.cells.specs.Written.{Writing}
 use Rattle.cells.proofs.Written.{one_more, ends, read_back}
-use Rattle.smoother.specs.Smoother.{smooth}
 use Rattle.smoother.proofs.Smoother.{smooth_next}
 use Rattle.smoother.proofs.write_steps.Goals as goal
 

@@ -1,8 +1,6 @@
 -- `entry_at` meets its contract: the loop copies the row, and the entry is read there. Assumes nothing.
-use Rattle.std.proofs.Common.{◌≡◌, ℕ, ◌+◌, ◌-◌, ◌*◌, ◌≤◌, List, length, refl, arith, rules}
-use lib.Ieee.{Float, nan}
-use Rattle.cells.specs.Line.{Line, line}
-use Rattle.cells.specs.Written.{Writing}
+use Rattle.std.proofs.Common.{◌-◌, refl, arith, rules}
+use lib.Ieee.{nan}
 use Rattle.cells.proofs.Written.{none_written, one_more, read_back}
 use Rattle.smoother_table.proofs.entry_at.Goals as goal
 

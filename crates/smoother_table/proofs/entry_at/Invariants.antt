@@ -1,9 +1,8 @@
 -- `entry_at` meets its contract: the loop copies the row, and the entry is read there. Assumes nothing.
-use Rattle.std.proofs.Common.{◌≡◌, ℕ, ◌+◌, ◌-◌, ◌*◌, ◌≤◌, List, length, refl, arith, rules}
-use lib.Ieee.{Float, nan}
+use Rattle.std.proofs.Common.{◌≡◌, ℕ, ◌+◌, ◌-◌, ◌*◌, ◌≤◌, List, length}
+use lib.Ieee.{Float}
 use Rattle.cells.specs.Line.{Line, line}
 use Rattle.cells.specs.Written.{Writing}
-use Rattle.cells.proofs.Written.{none_written, one_more, read_back}
 use Rattle.smoother_table.proofs.entry_at.Given as goal
 
 -- the entries of a row

@@ -1,5 +1,4 @@
 -- `close_before` meets its contract: bar 0 is told apart as the definition does. Assumes nothing.
-use borrow.Author.Rules.{rules}
 use Rattle.true_range.proofs.TrueRange.{before_first, before_next}
 use Rattle.true_range.proofs.close_before.Goals as goal
 

@@ -2,7 +2,6 @@
 use mathlib.Core.Path.{◌≡◌}
 use Prim.Native.Nat.{◌<◌}
 use native.Mathlib.Omega.{arith}
-use borrow.Author.Rules.{rules}
 use lib.ListN.{length}
 use Rattle.calls.specs.Answer.{count_of}
 use Rattle.calls.proofs.Call.{some_cells, no_cells, all_called, none_called}
@@ -25,12 +24,15 @@ due c = some_cells c.and_then-due.result c.has_cells.ensures c.if-has_cells.true
 
 pub write_ranges-requires : goal.write_ranges-requires
 write_ranges-requires c =
-    let ready = range_ready _ _ _ _ _ (answer (goal.at.write_ranges-requires c).After-and_then-due) (due (goal.at.write_ranges-requires c).Then-has_cells) in
+    let ready =
+    range_ready _ _ _ _ _ (answer (goal.at.write_ranges-requires c).After-and_then-due)
+    (due (goal.at.write_ranges-requires c).Then-has_cells) in
     (ready.0, omega arith, ready.1)
 
 pub returns-then-has_cells : goal.returns-then-has_cells
 returns-then-has_cells c =
-    all_called (range_bars _ _ _ _ _) (answer (goal.at.returns-then-has_cells c).After-and_then-due) (due (goal.at.returns-then-has_cells c).Then-has_cells)
+    all_called (range_bars _ _ _ _ _) (answer (goal.at.returns-then-has_cells c).After-and_then-due)
+    (due (goal.at.returns-then-has_cells c).Then-has_cells)
     (writing_same c.write_ranges.ensures (λ i l. at_the_bar _ _ _ _ i))
 
 pub returns-else-has_cells : goal.returns-else-has_cells

@@ -1,13 +1,8 @@
 -- `write_ranges` meets its contract: each turn writes the true range of its bar. Assumes nothing.
-use Prim.Native.Nat.{◌-◌, ◌≤◌}
+use Prim.Native.Nat.{◌-◌}
 use native.Mathlib.Omega.{arith}
-use lib.ListN.{length}
 use borrow.Author.Rules.{rules}
-use Rattle.cells.specs.Line.{line}
-use Rattle.cells.specs.Written.{Writing}
 use Rattle.cells.proofs.Written.{none_written, one_more, ends}
-use Rattle.true_range.specs.TrueRange.{true_ranges, given_before}
-use Rattle.true_range.specs.inner.Ranging.{back_by}
 use Rattle.true_range.proofs.TrueRange.{range_at, numbers_at}
 use Rattle.true_range.proofs.write_ranges.Goals as goal
 

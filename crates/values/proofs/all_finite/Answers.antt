@@ -1,7 +1,6 @@
 -- `all_finite` meets its contract: what is left to be tested decides. Assumes nothing.
-use Rattle.std.proofs.Common.{◌≡◌, ◌-◌, ◌≤◌, length, drop, sym, refl, ◌∙◌, arith, rules}
-use borrow.Author.Tests.{not-true, not-false}
-use Rattle.values.specs.Accepted.{finite, all}
+use Rattle.std.proofs.Common.{sym, refl, ◌∙◌, arith}
+use Rattle.values.specs.Accepted.{finite}
 use Rattle.values.proofs.All.{all_next, all_none}
 use Rattle.values.proofs.all_finite.Goals as goal
 

@@ -1,8 +1,6 @@
 -- `all_finite` meets its contract: what is left to be tested decides. Assumes nothing.
-use Rattle.std.proofs.Common.{◌≡◌, ◌-◌, ◌≤◌, length, drop, sym, refl, ◌∙◌, arith, rules}
-use borrow.Author.Tests.{not-true, not-false}
+use Rattle.std.proofs.Common.{◌≡◌, ◌-◌, ◌≤◌, length, drop}
 use Rattle.values.specs.Accepted.{finite, all}
-use Rattle.values.proofs.All.{all_next, all_none}
 use Rattle.values.proofs.all_finite.Given as goal
 
 abbrev pub invariant-loop-i : goal.invariant-loop-i

@@ -1,5 +1,4 @@
 -- `is_accepted` meets its contract: a value's two tests. Assumes nothing.
-use Rattle.std.proofs.Common.{rules}
 use Rattle.values.specs.Accepted.{accepted}
 use Rattle.values.proofs.is_accepted.Goals as goal
 

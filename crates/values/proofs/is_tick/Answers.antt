@@ -1,5 +1,5 @@
 -- `is_tick` meets its contract: within 2 ^ 24 a magnitude that is its own whole part is a tick's. Assumes nothing.
-use Rattle.std.proofs.Common.{◌≡◌, Bool, pos, sym, rules}
+use Rattle.std.proofs.Common.{◌≡◌, Bool, pos, sym}
 use lib.Ieee.{eq, of_bits, of_int, binary64, to_unsigned}
 use Rattle.rounding.specs.Leaves.{magnitude_of}
 use Rattle.values.proofs.Ticks.{TickTests, tick_tests, too_far}
@@ -29,7 +29,8 @@ truncating_f64_to_u64-whole-requires c =
 
 pub int_to_float-whole : goal.int_to_float-whole
 int_to_float-whole c =
-    rw (part (goal.at.int_to_float-whole c).After-truncating_f64_to_u64-whole) (within (goal.at.int_to_float-whole c).Then-size).back
+    rw (part (goal.at.int_to_float-whole c).After-truncating_f64_to_u64-whole)
+    (within (goal.at.int_to_float-whole c).Then-size).back
 
 pub returns-then-x : goal.returns-then-x
 unfolding of_bits
@@ -40,12 +41,14 @@ returns-then-x c =
 pub returns-then-whole-size : goal.returns-then-whole-size
 unfolding of_bits
 returns-then-whole-size c =
-    sym ((within (goal.at.returns-then-whole-size c).Then-size).kept (found (goal.at.returns-then-whole-size c).After-row_known-1 _ c.if-whole-size.true)
+    sym ((within (goal.at.returns-then-whole-size c).Then-size).kept
+    (found (goal.at.returns-then-whole-size c).After-row_known-1 _ c.if-whole-size.true)
     c.if-x.false)
 
 pub returns-else-whole-size : goal.returns-else-whole-size
 returns-else-whole-size c =
-    sym ((within (goal.at.returns-else-whole-size c).Then-size).broken (found (goal.at.returns-else-whole-size c).After-row_known-1 _ c.if-whole-size.false))
+    sym ((within (goal.at.returns-else-whole-size c).Then-size).broken
+    (found (goal.at.returns-else-whole-size c).After-row_known-1 _ c.if-whole-size.false))
 
 pub returns-else-size : goal.returns-else-size
 returns-else-size c = unfold of_bits in sym (too_far _ (rw c.magnitude-size.ensures at c.if-size.false))

@@ -1,5 +1,4 @@
 -- `is_tick_size` meets its contract: a magnitude within 2 ^ 24 is whole if it comes back. Assumes nothing.
-use Rattle.std.proofs.Common.{rules}
 use lib.Ieee.{of_bits}
 use Rattle.values.proofs.Fraction.{size_tick}
 use Rattle.values.proofs.is_tick_size.Goals as goal

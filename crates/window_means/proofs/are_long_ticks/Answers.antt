@@ -1,5 +1,4 @@
 -- `are_long_ticks` meets its contract. Assumes nothing.
-use borrow.Author.Rules.{rules}
 use borrow.Author.Tests.{lt-ltb, le-ltb}
 use Rattle.window_means.proofs.are_long_ticks.Goals as goal
 

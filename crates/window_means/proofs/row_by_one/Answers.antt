@@ -1,11 +1,7 @@
 -- `row_by_one` meets its contract: each turn writes one mean. Assumes nothing.
 use mathlib.Core.Path.{◌∙◌}
-use Prim.Native.Nat.{◌+◌, ◌-◌, ◌≤◌}
 use native.Mathlib.Omega.{arith}
-use borrow.Author.Rules.{rules}
-use Rattle.cells.specs.Written.{Writing}
 use Rattle.cells.proofs.Written.{one_more, ends}
-use Rattle.window_means.specs.inner.Row.{means_of_row}
 use Rattle.window_means.proofs.Row.{none_of_row, mean_for_row}
 use Rattle.window_means.proofs.row_by_one.Goals as goal
 

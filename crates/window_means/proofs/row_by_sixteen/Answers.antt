@@ -1,10 +1,6 @@
 -- `row_by_sixteen` meets its contract: each turn writes sixteen means. Assumes nothing.
-use Prim.Native.Nat.{◌+◌, ◌-◌, ◌≤◌}
 use native.Mathlib.Omega.{arith}
-use borrow.Author.Rules.{rules}
-use Rattle.cells.specs.Written.{Writing}
 use Rattle.cells.proofs.Written.{ends}
-use Rattle.window_means.specs.inner.Row.{means_of_row}
 use Rattle.window_means.proofs.Row.{none_of_row, for_row, sixteen_moved}
 use Rattle.window_means.proofs.Storing.{sixteen_stored}
 use Rattle.window_means.proofs.row_by_sixteen.Goals as goal

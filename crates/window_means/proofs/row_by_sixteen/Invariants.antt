@@ -1,17 +1,13 @@
 -- `row_by_sixteen` meets its contract: each turn writes sixteen means. Assumes nothing.
 use Prim.Native.Nat.{◌+◌, ◌-◌, ◌≤◌}
-use native.Mathlib.Omega.{arith}
-use borrow.Author.Rules.{rules}
 use Rattle.cells.specs.Written.{Writing}
-use Rattle.cells.proofs.Written.{ends}
 use Rattle.window_means.specs.inner.Row.{means_of_row}
-use Rattle.window_means.proofs.Row.{none_of_row, for_row, sixteen_moved}
-use Rattle.window_means.proofs.Storing.{sixteen_stored}
 use Rattle.window_means.proofs.row_by_sixteen.Given as goal
 
 abbrev pub invariant-loop-i : goal.invariant-loop-i
 invariant-loop-i l =
-    (l.first ≤ l.i) × (l.i ≤ l.bars) × Writing (l.to + l.i) (means_of_row l.from l.to l.n l.first l.initial.cells) l.initial.cells l.cells
+    (l.first ≤ l.i) × (l.i ≤ l.bars) × Writing (l.to + l.i) (means_of_row l.from l.to l.n l.first l.initial.cells)
+    l.initial.cells l.cells
 
 abbrev pub decreases-loop-i : goal.decreases-loop-i
 decreases-loop-i l = l.bars - l.i

@@ -1,6 +1,5 @@
 -- `row_of_eight` meets its contract: eight means are stored, or none. Assumes nothing.
 use native.Mathlib.Omega.{arith}
-use borrow.Author.Rules.{rules}
 use Rattle.cells.proofs.Written.{ends}
 use Rattle.window_means.proofs.Row.{none_of_row, for_row, eight_moved}
 use Rattle.window_means.proofs.Storing.{eight_stored}

@@ -1,6 +1,5 @@
 -- `store_eight` meets its contract: eight stores, side by side. Assumes nothing.
 use native.Mathlib.Omega.{arith}
-use borrow.Author.Rules.{rules}
 use lib.ListN.{length-set}
 use Rattle.window_means.proofs.store_eight.Goals as goal
 

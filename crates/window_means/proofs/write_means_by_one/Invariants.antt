@@ -1,11 +1,8 @@
 -- `write_means_by_one` meets its contract: each turn writes one mean. Assumes nothing.
 use Prim.Native.Nat.{◌-◌, ◌≤◌}
-use native.Mathlib.Omega.{arith}
-use borrow.Author.Rules.{rules}
 use lib.ListN.{length}
 use Rattle.cells.specs.Line.{line}
 use Rattle.cells.specs.Written.{Writing}
-use Rattle.cells.proofs.Written.{one_more, ends}
 use Rattle.windows.specs.Window.{mean}
 use Rattle.window_means.proofs.write_means_by_one.Given as goal
 

@@ -1,12 +1,9 @@
 -- `write_means_by_sixteen` meets its contract: each turn writes sixteen means. Assumes nothing.
 use Prim.Native.Nat.{◌-◌, ◌≤◌}
-use native.Mathlib.Omega.{arith}
-use borrow.Author.Rules.{rules}
 use lib.ListN.{length}
 use Rattle.cells.specs.Line.{line}
 use Rattle.cells.specs.Written.{Writing}
 use Rattle.windows.specs.Window.{mean}
-use Rattle.window_means.proofs.Storing.{sixteen_stored}
 use Rattle.window_means.proofs.write_means_by_sixteen.Given as goal
 
 abbrev pub invariant-loop-i : goal.invariant-loop-i

@@ -1,6 +1,5 @@
 -- `write_means_of_eight` meets its contract: eight means are stored, or none. Assumes nothing.
 use native.Mathlib.Omega.{arith}
-use borrow.Author.Rules.{rules}
 use Rattle.window_means.proofs.Storing.{eight_stored}
 use Rattle.window_means.proofs.write_means_of_eight.Goals as goal
 

@@ -1,6 +1,5 @@
 -- `write_means_of_row` meets its contract: each call writes on from where the one before it stopped. Assumes nothing.
 use native.Mathlib.Omega.{arith}
-use borrow.Author.Rules.{rules}
 use Rattle.window_means.proofs.Row.{row_goes_on, row_room}
 use Rattle.window_means.proofs.write_means_of_row.Goals as goal
 

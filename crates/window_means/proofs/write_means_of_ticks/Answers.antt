@@ -1,6 +1,5 @@
 -- `write_means_of_ticks` meets its contract: on whole ticks the means by running sums are those summed afresh. Assumes
 -- nothing.
-use borrow.Author.Rules.{rules}
 use Rattle.cells.proofs.Written.{writing_same}
 use Rattle.window_means.proofs.Ticks.{running_mean_lem}
 use Rattle.window_means.proofs.write_means_of_ticks.Goals as goal

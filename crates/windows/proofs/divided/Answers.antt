@@ -1,6 +1,5 @@
 -- `divided` meets its contract: each lane is divided by n. Assumes nothing.
 use native.Mathlib.Omega.{arith}
-use borrow.Author.Rules.{rules}
 use Rattle.windows.proofs.Window.{count_is_float}
 use Rattle.windows.proofs.divided.Goals as goal
 

@@ -1,6 +1,5 @@
 -- `mean_at` meets its contract. Assumes nothing.
 use native.Mathlib.Omega.{arith}
-use borrow.Author.Rules.{rules}
 use Rattle.windows.proofs.Window.{mean_of, count_is_float}
 use Rattle.windows.proofs.mean_at.Goals as goal
 

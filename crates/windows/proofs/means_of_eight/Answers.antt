@@ -1,6 +1,5 @@
 -- `means_of_eight` meets its contract: the sums, each divided by n. Assumes nothing.
 use native.Mathlib.Omega.{arith}
-use borrow.Author.Rules.{rules}
 use Rattle.windows.proofs.EightSums.{eight_means}
 use Rattle.windows.proofs.means_of_eight.Goals as goal
 

@@ -1,6 +1,5 @@
 -- `means_of_sixteen` meets its contract: the sums, divided by n. Assumes nothing.
 use native.Mathlib.Omega.{arith}
-use borrow.Author.Rules.{rules}
 use Rattle.windows.proofs.EightSums.{eight_means}
 use Rattle.windows.proofs.means_of_sixteen.Goals as goal
 

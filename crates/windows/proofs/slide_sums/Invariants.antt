@@ -1,16 +1,11 @@
 -- `slide_sums` meets its contract: each turn writes the sum and slides it. Assumes nothing.
 use Prim.Native.Nat.{◌+◌, ◌-◌, ◌≤◌, ◌<◌}
-use native.Mathlib.Omega.{arith}
-use borrow.Author.Rules.{rules}
 use lib.ListN.{length}
 use Rattle.cells.specs.Line.{line}
 use Rattle.cells.specs.Written.{Writing}
-use Rattle.cells.proofs.Written.{one_more, ends}
 use Rattle.windows.specs.Window.{add_difference}
 use Rattle.windows.specs.inner.Sums.{Running}
-use Rattle.windows.proofs.Window.{first_running, next_running, same_bar}
 use Rattle.windows.specs.inner.RunningSums.{running_sums}
-use Rattle.windows.proofs.RunningSums.{running_sum_at}
 use Rattle.windows.proofs.slide_sums.Given as goal
 
 abbrev pub invariant-loop-i : goal.invariant-loop-i

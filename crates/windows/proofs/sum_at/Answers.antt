@@ -1,5 +1,4 @@
 -- `sum_at` meets its contract: its window is summed from -0.0. Assumes nothing.
-use borrow.Author.Rules.{rules}
 use lib.Ieee.{of_bits, neg}
 use Rattle.windows.specs.Window.{window_sum}
 use Rattle.windows.proofs.sum_at.Goals as goal

@@ -1,10 +1,7 @@
 -- `sum_more` meets its contract: each turn adds one price. Assumes nothing.
 use mathlib.Core.Path.{◌≡◌}
-use Prim.Native.Nat.{◌-◌, ◌≤◌}
 use native.Mathlib.Omega.{arith}
 use borrow.Author.Rules.{rules}
-use Rattle.cells.specs.Line.{line}
-use Rattle.windows.specs.inner.Sums.{Summing}
 use Rattle.windows.proofs.Window.{none_summed, one_added}
 use Rattle.windows.proofs.sum_more.Goals as goal
 

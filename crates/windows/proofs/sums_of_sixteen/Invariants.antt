@@ -1,10 +1,7 @@
 -- `sums_of_sixteen` meets its contract: each lane sums its own window. Assumes nothing.
 use Prim.Native.Nat.{◌-◌, ◌≤◌}
-use native.Mathlib.Omega.{arith}
-use borrow.Author.Rules.{rules}
-use lib.Ieee.{of_bits, neg}
 use Rattle.cells.specs.Line.{line}
-use Rattle.windows.proofs.EightSums.{Summed, none_of_eight, each_added, eight_sums}
+use Rattle.windows.proofs.EightSums.{Summed}
 use Rattle.windows.proofs.sums_of_sixteen.Given as goal
 
 abbrev pub invariant-loop-k : goal.invariant-loop-k

@@ -1,5 +1,5 @@
 -- Running sums of every bar's window. Assumes nothing.
-use Rattle.std.specs.Prelude.{List, ℕ, ◌+◌, ◌-◌, ◌<◌, ◌≤◌, length, Float}
+use Rattle.std.specs.Prelude.{List, ℕ, ◌+◌, ◌-◌, ◌≤◌, length, Float}
 use Rattle.cells.specs.Line.{Line, line, plus_zero, from_bar}
 use Rattle.cells.specs.Written.{Writing}
 use Rattle.windows.specs.Window.{add_difference, running_sum}

@@ -1,11 +1,7 @@
 -- `blend_more` meets its contract: each turn blends one price. Assumes nothing.
-use mathlib.Core.Path.{◌≡◌, refl}
 use Prim.Native.Nat.{◌+◌, ◌-◌, ◌≤◌}
-use native.Mathlib.Omega.{arith}
-use borrow.Author.Rules.{rules}
 use Rattle.cells.specs.Line.{line}
 use Rattle.cells.specs.inner.Recurring.{Recurring}
-use Rattle.cells.proofs.Recur.{no_step, one_step}
 use Rattle.averages.specs.Blend.{blend}
 use Rattle.averages.proofs.blend.blend_more.Given as goal
 

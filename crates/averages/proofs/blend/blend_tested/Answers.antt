@@ -1,15 +1,11 @@
 -- `blend_tested` meets its contract: the loop blends the first half, and tests both. Assumes nothing.
 use mathlib.Core.Path.{refl}
-use Prim.Native.Nat.{◌+◌, ◌-◌, ◌*◌, ◌≤◌}
+use Prim.Native.Nat.{◌-◌}
 use native.Mathlib.Omega.{arith}
-use borrow.Author.Rules.{rules}
 use lib.ListN.{length}
-use Rattle.cells.specs.Line.{line}
-use Rattle.values.specs.Accepted.{accepted}
 use Rattle.values.proofs.Part.{all_passing}
-use Rattle.averages.specs.inner.Blending.{Blending}
 use Rattle.averages.proofs.Blending.{seeded, more_blended, at_bar}
-use Rattle.averages.proofs.TwoParts.{TwoParts, first_part, parts_on, parts_end}
+use Rattle.averages.proofs.TwoParts.{first_part, parts_on, parts_end}
 use Rattle.averages.proofs.blend.blend_tested.Goals as goal
 
 pub loop-k-init : goal.loop-k-init

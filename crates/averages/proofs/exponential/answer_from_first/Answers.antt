@@ -1,6 +1,5 @@
 -- `answer_from_first` meets its contract: the seed is the first price, which is tested as the others are.
 -- Assumes nothing.
-use borrow.Author.Rules.{rules}
 use Rattle.averages.proofs.exponential.answer_from_first.Goals as goal
 
 pub answer_smooth-requires : goal.answer_smooth-requires

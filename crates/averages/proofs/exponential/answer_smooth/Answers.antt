@@ -1,5 +1,4 @@
 -- `answer_smooth` meets its contract: the cells are written only where all prices are accepted. Assumes nothing.
-use borrow.Author.Rules.{rules}
 use Rattle.averages.proofs.Stages.{values_pass, values_fail}
 use Rattle.averages.proofs.exponential.answer_smooth.Goals as goal
 

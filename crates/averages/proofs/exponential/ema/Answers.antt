@@ -2,7 +2,6 @@
 -- cells are NaN. Assumes nothing.
 use mathlib.Core.Path.{◌≡◌, sym, ◌∙◌}
 use mathlib.Core.Bool.{true}
-use borrow.Author.Rules.{rules}
 use lib.ListN.{length}
 use Rattle.values.specs.Accepted.{accepted}
 use Rattle.calls.specs.inner.Fits.{window_fits}
@@ -25,7 +24,8 @@ answer_lead-requires c = sym c.window_fits.ensures ∙ c.if-window_fits.false
 pub returns-then-window_fits : goal.returns-then-window_fits
 returns-then-window_fits c =
     let a = c.args in
-    rw (fits_answered accepted a.series.now a.n (length a.out.now) (told (goal.at.returns-then-window_fits c).Then-window_fits))
+    rw (fits_answered accepted a.series.now a.n (length a.out.now)
+    (told (goal.at.returns-then-window_fits c).Then-window_fits))
     c.answer_from_mean.ensures
 
 pub returns-else-window_fits : goal.returns-else-window_fits

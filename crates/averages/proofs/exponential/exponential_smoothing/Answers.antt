@@ -3,7 +3,6 @@ use mathlib.Core.Path.{◌≡◌, refl, sym, ◌∙◌}
 use mathlib.Core.Bool.{Bool, true, false, ◌&&◌, true≢false}
 use Prim.Native.Nat.{◌<◌}
 use native.Mathlib.Omega.{arith}
-use borrow.Author.Rules.{rules}
 use lib.ListN.{length}
 use Rattle.calls.specs.declared.Refusal.TheVariants.{ParameterNotFinite}
 use Rattle.calls.specs.declared.Answer.TheVariants.{Cells}
@@ -37,7 +36,9 @@ first-false false u p q = refl
 
 pub answer_from_first-requires : goal.answer_from_first-requires
 answer_from_first-requires c =
-    let fits = fits_parts _ _ _ (told (goal.at.answer_from_first-requires c).Then-window_fits-is_finite) in (fits.inside, fits.room)
+    let fits =
+    fits_parts _ _ _ (told (goal.at.answer_from_first-requires c).Then-window_fits-is_finite) in
+    (fits.inside, fits.room)
 
 pub returns-then-window_fits-is_finite : goal.returns-then-window_fits-is_finite
 unfolding exponential_answer
@@ -45,7 +46,12 @@ returns-then-window_fits-is_finite c =
     let a = c.args in
     let yes = sym c.is_finite.ensures
     ∙ (and_parts c.window_fits.result _ c.if-window_fits-is_finite.true).1 in
-    rw (fits_checked accepted a.series.now 1 (length a.out.now) (told (goal.at.returns-then-window_fits-is_finite c).Then-window_fits-is_finite), yes, counted_twice)
+    rw (
+      fits_checked accepted a.series.now 1 (length a.out.now)
+          (told (goal.at.returns-then-window_fits-is_finite c).Then-window_fits-is_finite),
+      yes,
+      counted_twice,
+    )
     c.answer_from_first.ensures
 
 pub returns-in-Refused : goal.returns-in-Refused
@@ -61,8 +67,14 @@ returns-then-is_finite c =
     let few : length a.series.now < 1 = none_fits (length a.series.now) 1 _ no
     (record { some = omega arith; narrow = omega arith }) room.short room.out_long in
     let none : length a.series.now ≡ 0 = omega arith in
-    counted (rw (rest (goal.at.returns-then-is_finite c).In_default, ← c.is_finite-2.ensures, c.if-is_finite.true, none)) none_written
+    counted (rw (
+      rest (goal.at.returns-then-is_finite c).In_default,
+      ← c.is_finite-2.ensures,
+      c.if-is_finite.true,
+      none,
+    )) none_written
 
 pub returns-else-is_finite : goal.returns-else-is_finite
 returns-else-is_finite c =
-    refused (rw (rest (goal.at.returns-else-is_finite c).In_default, ← c.is_finite-2.ensures, c.if-is_finite.false)) refl
+    refused (rw (rest (goal.at.returns-else-is_finite c).In_default, ← c.is_finite-2.ensures, c.if-is_finite.false))
+    refl

@@ -1,15 +1,10 @@
 -- `blend_both` meets its contract: each turn writes a cell of either part, from the one before it there. Assumes
 -- nothing.
 use mathlib.Core.Path.{◌≡◌, refl}
-use Prim.Native.Nat.{◌+◌, ◌-◌, ◌≤◌}
+use Prim.Native.Nat.{◌-◌}
 use native.Mathlib.Omega.{arith}
-use borrow.Author.Rules.{rules}
-use lib.ListN.{length, length-set}
-use Rattle.cells.specs.Line.{line}
-use Rattle.cells.specs.inner.Recurring.{Recurring}
+use lib.ListN.{length-set}
 use Rattle.cells.proofs.Recur.{no_step, one_step}
-use Rattle.averages.specs.Blend.{blend}
-use Rattle.averages.specs.inner.Smoothing.{both_stored}
 use Rattle.averages.proofs.halves.blend_both.Goals as goal
 
 pub loop-k-init : goal.loop-k-init

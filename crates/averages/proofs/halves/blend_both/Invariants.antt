@@ -1,13 +1,10 @@
 -- `blend_both` meets its contract: each turn writes a cell of either part, from the one before it there. Assumes
 -- nothing.
-use mathlib.Core.Path.{◌≡◌, refl}
+use mathlib.Core.Path.{◌≡◌}
 use Prim.Native.Nat.{◌+◌, ◌-◌, ◌≤◌}
-use native.Mathlib.Omega.{arith}
-use borrow.Author.Rules.{rules}
-use lib.ListN.{length, length-set}
+use lib.ListN.{length}
 use Rattle.cells.specs.Line.{line}
 use Rattle.cells.specs.inner.Recurring.{Recurring}
-use Rattle.cells.proofs.Recur.{no_step, one_step}
 use Rattle.averages.specs.Blend.{blend}
 use Rattle.averages.specs.inner.Smoothing.{both_stored}
 use Rattle.averages.proofs.halves.blend_both.Given as goal
@@ -16,7 +13,8 @@ abbrev pub invariant-loop-k : goal.invariant-loop-k
 invariant-loop-k l =
     (l.k ≤ l.count) × Recurring l.initial.lower (λ k cell. blend l.alpha cell (line l.series (l.low + k))) l.k l.lower
     × Recurring l.initial.upper (λ k cell. blend l.alpha cell (line l.series (l.high + k))) l.k l.upper
-    × Recurring l.initial.out (both_stored l.alpha (line l.series) l.initial.lower l.initial.upper l.low l.high) l.k l.out × (length l.out ≡ length l.initial.out)
+    × Recurring l.initial.out (both_stored l.alpha (line l.series) l.initial.lower l.initial.upper l.low l.high) l.k
+    l.out × (length l.out ≡ length l.initial.out)
 
 abbrev pub decreases-loop-k : goal.decreases-loop-k
 decreases-loop-k l = l.count - l.k

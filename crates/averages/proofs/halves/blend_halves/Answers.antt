@@ -1,12 +1,10 @@
 -- `blend_halves` meets its contract: each turn writes eight cells of either half, from the one before them there; the
 -- last bars follow. Assumes nothing.
-use Prim.Native.Nat.{◌+◌, ◌-◌, ◌*◌, ◌≤◌}
+use Prim.Native.Nat.{◌-◌}
 use native.Mathlib.Omega.{arith}
-use borrow.Author.Rules.{rules}
-use Rattle.cells.specs.Line.{line}
 use Rattle.averages.proofs.Blending.{seeded, at_bar}
 use Rattle.averages.proofs.WrittenParts.{one_part}
-use Rattle.averages.proofs.Sides.{Sides, sides_on, sides_end}
+use Rattle.averages.proofs.Sides.{sides_on, sides_end}
 use Rattle.averages.proofs.halves.blend_halves.Goals as goal
 
 pub loop-k-init : goal.loop-k-init

@@ -1,18 +1,15 @@
 -- `blend_halves` meets its contract: each turn writes eight cells of either half, from the one before them there; the
 -- last bars follow. Assumes nothing.
 use Prim.Native.Nat.{◌+◌, ◌-◌, ◌*◌, ◌≤◌}
-use native.Mathlib.Omega.{arith}
-use borrow.Author.Rules.{rules}
 use Rattle.cells.specs.Line.{line}
-use Rattle.averages.proofs.Blending.{seeded, at_bar}
-use Rattle.averages.proofs.WrittenParts.{one_part}
-use Rattle.averages.proofs.Sides.{Sides, sides_on, sides_end}
+use Rattle.averages.proofs.Sides.{Sides}
 use Rattle.averages.proofs.halves.blend_halves.Given as goal
 
 abbrev pub invariant-loop-k : goal.invariant-loop-k
 invariant-loop-k l =
     (l.k ≤ l.eights)
-    × Sides l.alpha l.first l.seed (line l.series) (l.low + 8 * l.k) l.high (l.high + 8 * l.k) l.initial.out l.out l.last.lower l.last.upper
+    × Sides l.alpha l.first l.seed (line l.series) (l.low + 8 * l.k) l.high (l.high + 8 * l.k) l.initial.out l.out
+    l.last.lower l.last.upper
 
 abbrev pub decreases-loop-k : goal.decreases-loop-k
 decreases-loop-k l = l.eights - l.k

@@ -1,14 +1,9 @@
 -- `blend_rest` meets its contract: each turn writes a cell, from the one before it. Assumes nothing.
 use mathlib.Core.Path.{◌≡◌, refl}
-use Prim.Native.Nat.{◌+◌, ◌-◌, ◌≤◌}
+use Prim.Native.Nat.{◌-◌}
 use native.Mathlib.Omega.{arith}
-use borrow.Author.Rules.{rules}
 use lib.ListN.{length, length-set}
-use Rattle.cells.specs.Line.{line}
-use Rattle.cells.specs.inner.Recurring.{Recurring}
 use Rattle.cells.proofs.Recur.{no_step, one_step}
-use Rattle.averages.specs.Blend.{blend}
-use Rattle.averages.specs.inner.Smoothing.{stored}
 use Rattle.averages.proofs.halves.blend_rest.Goals as goal
 
 pub loop-k-init : goal.loop-k-init

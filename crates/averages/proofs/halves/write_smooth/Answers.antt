@@ -1,22 +1,20 @@
 -- `write_smooth` meets its contract: the lead, the seed, and then the blended cells. Assumes nothing.
 use mathlib.Core.Path.{◌∙◌}
 use native.Mathlib.Omega.{arith}
-use borrow.Author.Rules.{rules}
 use lib.ListN.{length-set}
 use Rattle.cells.proofs.Written.{stands, then_written}
 use Rattle.averages.proofs.Smoothed.{seed_written}
 use Rattle.averages.proofs.halves.write_smooth.Goals as goal
 
 pub blend_halves-requires : goal.blend_halves-requires
-blend_halves-requires c =
-    (
-      record {
-        inside = omega arith;
-        room = simp length-set (omega arith);
-        cells = stands (seed_written c.args.series.now _ _ _ c.fill_nan.ensures (omega arith));
-      },
-      c.requires.1,
-    )
+blend_halves-requires c = (
+  record {
+    inside = omega arith;
+    room = simp length-set (omega arith);
+    cells = stands (seed_written c.args.series.now _ _ _ c.fill_nan.ensures (omega arith));
+  },
+  c.requires.1,
+)
 
 pub shape_of-out : goal.shape_of-out
 shape_of-out c = c.blend_halves.ensures.long ∙ simp length-set (omega arith)

@@ -1,14 +1,9 @@
 -- `add_row` meets its contract: each turn adds one position to its cell. Assumes nothing.
 use Prim.Native.Nat.{◌+◌, ◌-◌, ◌≤◌}
 use native.Mathlib.Omega.{arith}
-use borrow.Author.Rules.{rules}
-use lib.IntN.{nat_abs, pos, ◌*ℤ◌}
+use lib.IntN.{nat_abs, pos}
 use lib.ListN.{get_or}
-use mir.Syntax.{w64}
-use mir.Val.{to_z}
-use Rattle.cells.specs.Line.{line}
-use Rattle.rules.specs.Position.{whole_position}
-use Rattle.basket.specs.inner.Adding.{largest_so_far, Added}
+use Rattle.basket.specs.inner.Adding.{largest_so_far}
 use Rattle.basket.proofs.Adding.{none_added, still_small, one_added, all_added}
 use Rattle.basket.proofs.Weights.{weight_held, sum_fits, sum_is}
 use Rattle.basket.proofs.nets.add_row.Goals as goal
@@ -32,14 +27,13 @@ overflow_add-out-in-loop-j c =
     (get_or c.loop-j.out (c.args.first + c.loop-j.j) (pos 0)) (small c) c.weighted-more.ensures
 
 pub loop-j-preserved : goal.loop-j-preserved
-loop-j-preserved c =
-    (
-      omega arith,
-      one_added c.loop-j.invariant.1
-          (sum_is c.args.weight c.requires.light _
-          (get_or c.loop-j.out (c.args.first + c.loop-j.j) (pos 0)) (small c) c.weighted-more.ensures)
-          (omega arith),
-    )
+loop-j-preserved c = (
+  omega arith,
+  one_added c.loop-j.invariant.1
+      (sum_is c.args.weight c.requires.light _
+      (get_or c.loop-j.out (c.args.first + c.loop-j.j) (pos 0)) (small c) c.weighted-more.ensures)
+      (omega arith),
+)
 
 pub returns : goal.returns
 returns c =

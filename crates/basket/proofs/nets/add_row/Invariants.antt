@@ -1,21 +1,15 @@
 -- `add_row` meets its contract: each turn adds one position to its cell. Assumes nothing.
 use Prim.Native.Nat.{◌+◌, ◌-◌, ◌≤◌}
-use native.Mathlib.Omega.{arith}
-use borrow.Author.Rules.{rules}
-use lib.IntN.{nat_abs, pos, ◌*ℤ◌}
-use lib.ListN.{get_or}
-use mir.Syntax.{w64}
-use mir.Val.{to_z}
+use lib.IntN.{◌*ℤ◌}
 use Rattle.cells.specs.Line.{line}
 use Rattle.rules.specs.Position.{whole_position}
-use Rattle.basket.specs.inner.Adding.{largest_so_far, Added}
-use Rattle.basket.proofs.Adding.{none_added, still_small, one_added, all_added}
-use Rattle.basket.proofs.Weights.{weight_held, sum_fits, sum_is}
+use Rattle.basket.specs.inner.Adding.{Added}
 use Rattle.basket.proofs.nets.add_row.Given as goal
 
 abbrev pub invariant-loop-j : goal.invariant-loop-j
 invariant-loop-j l =
-    (l.j ≤ l.count) × Added l.first l.j (λ i. l.weight *ℤ whole_position (line l.positions (l.from + i))) l.initial.out l.out
+    (l.j ≤ l.count) × Added l.first l.j (λ i. l.weight *ℤ whole_position (line l.positions (l.from + i))) l.initial.out
+    l.out
 
 abbrev pub decreases-loop-j : goal.decreases-loop-j
 decreases-loop-j l = l.count - l.j

@@ -1,14 +1,11 @@
 -- `add_contracts` meets its contract: each turn adds one contract to the nets. Assumes nothing.
-use mathlib.Core.Path.{◌≡◌, refl, ◌∙◌}
-use Prim.Native.Nat.{◌-◌, ◌*◌, ◌≤◌}
+use mathlib.Core.Path.{refl, ◌∙◌}
+use Prim.Native.Nat.{◌-◌}
 use native.Mathlib.Omega.{arith}
-use borrow.Author.Rules.{rules}
 use lib.ListN.{length}
-use Rattle.cells.specs.Shown.{first_cells}
-use Rattle.cells.specs.inner.Touched.{Touched}
 use Rattle.cells.proofs.Touched.{untouched, touched_then}
-use Rattle.basket.specs.Basket.{Contract, contract_at}
-use Rattle.basket.proofs.Netting.{Netted, none_netted, next_netted, netted_all, still_opened, next_lent}
+use Rattle.basket.specs.Basket.{contract_at}
+use Rattle.basket.proofs.Netting.{none_netted, next_netted, netted_all, still_opened, next_lent}
 use Rattle.basket.proofs.parts.add_contracts.Goals as goal
 
 pub loop-k-init : goal.loop-k-init

@@ -1,19 +1,17 @@
 -- `add_contracts` meets its contract: each turn adds one contract to the nets. Assumes nothing.
-use mathlib.Core.Path.{◌≡◌, refl, ◌∙◌}
+use mathlib.Core.Path.{◌≡◌}
 use Prim.Native.Nat.{◌-◌, ◌*◌, ◌≤◌}
-use native.Mathlib.Omega.{arith}
-use borrow.Author.Rules.{rules}
 use lib.ListN.{length}
 use Rattle.cells.specs.Shown.{first_cells}
 use Rattle.cells.specs.inner.Touched.{Touched}
-use Rattle.cells.proofs.Touched.{untouched, touched_then}
-use Rattle.basket.specs.Basket.{Contract, contract_at}
-use Rattle.basket.proofs.Netting.{Netted, none_netted, next_netted, netted_all, still_opened, next_lent}
+use Rattle.basket.specs.Basket.{contract_at}
+use Rattle.basket.proofs.Netting.{Netted}
 use Rattle.basket.proofs.parts.add_contracts.Given as goal
 
 abbrev pub invariant-loop-k : goal.invariant-loop-k
 invariant-loop-k l =
-    (l.k ≤ length l.weights) × Netted l.bars (first_cells l.k (contract_at l.bars l.series l.contracts l.weights)) l.initial.out l.out
+    (l.k ≤ length l.weights) × Netted l.bars (first_cells l.k (contract_at l.bars l.series l.contracts l.weights))
+    l.initial.out l.out
     × Touched (8 * l.bars) l.initial.work l.work × (length l.block ≡ length l.initial.block)
 
 abbrev pub decreases-loop-k : goal.decreases-loop-k

@@ -1,5 +1,4 @@
 -- `add_double` meets its contract: the work slice has the positions that the answer counts. Assumes nothing.
-use borrow.Author.Rules.{rules}
 use Rattle.basket.proofs.Own.{double_room, double_added, double_touched}
 use Rattle.basket.proofs.Weights.{weight_held}
 use Rattle.basket.proofs.parts.add_double.Goals as goal
@@ -10,9 +9,8 @@ add_bars-requires c =
     (double_room c.requires c.double_sma_positions-given.ensures c.count_of-count.ensures)
 
 pub returns : goal.returns
-returns c =
-    (
-      double_added c.requires c.double_sma_positions-given.ensures c.count_of-count.ensures
-          (rw (weight_held c.args.weight c.requires.light) at c.add_bars.ensures),
-      double_touched c.requires c.double_sma_positions-given.ensures c.count_of-count.ensures,
-    )
+returns c = (
+  double_added c.requires c.double_sma_positions-given.ensures c.count_of-count.ensures
+      (rw (weight_held c.args.weight c.requires.light) at c.add_bars.ensures),
+  double_touched c.requires c.double_sma_positions-given.ensures c.count_of-count.ensures,
+)

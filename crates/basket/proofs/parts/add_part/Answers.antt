@@ -1,8 +1,7 @@
 -- `add_part` meets its contract: the part's positions stand in the block, and those of its new bars are added. Assumes
 -- nothing.
 use mathlib.Core.Path.{refl, sym}
-use Prim.Native.Nat.{◌*◌, ◌-◌, ◌+◌, ◌<◌, ◌≤◌, min}
-use native.Mathlib.Omega.{arith}
+use Prim.Native.Nat.{◌-◌, ◌+◌, ◌<◌, ◌≤◌}
 use borrow.Author.Rules.{rules}
 use lib.ListN.{length}
 use Rattle.basket.proofs.Afresh.{part_ends, part_priced, part_room, part_added}

@@ -1,11 +1,7 @@
 -- `add_parts` meets its contract: each turn adds a part's new bars. Assumes nothing.
-use Prim.Native.Nat.{◌-◌, ◌≤◌}
+use Prim.Native.Nat.{◌-◌}
 use native.Mathlib.Omega.{arith}
 use borrow.Author.Rules.{rules}
-use lib.ListN.{length}
-use mir.Syntax.{w64}
-use mir.Val.{to_z}
-use Rattle.basket.specs.inner.Parts.{PartAdded}
 use Rattle.basket.proofs.Afresh.{no_part, then_part, more_room, all_parts}
 use Rattle.basket.proofs.Weights.{weight_held}
 use Rattle.basket.proofs.parts.add_parts.Goals as goal

@@ -1,6 +1,6 @@
 -- `add_positions` meets its contract: the rule's number picks the stage, and a window of none adds nothing. Assumes
 -- nothing.
-use mathlib.Core.Path.{◌≡◌, refl}
+use mathlib.Core.Path.{refl}
 use native.Mathlib.Omega.{arith}
 use borrow.Author.Rules.{rules}
 use Rattle.cells.proofs.Touched.{untouched, touched_more}
@@ -32,7 +32,8 @@ add_parts-requires c =
     let r = c.requires.0 in
     let some = r.some in
     rw (weight_held c.args.weight r.light)
-    (afresh_ready (own (goal.at.add_parts-requires c).Start) c.if-rule-eq2.false r c.requires.1 (omega arith) c.if-n-gt0.true)
+    (afresh_ready (own (goal.at.add_parts-requires c).Start) c.if-rule-eq2.false r c.requires.1 (omega arith)
+    c.if-n-gt0.true)
 
 pub returns-then-rule-eq2 : goal.returns-then-rule-eq2
 returns-then-rule-eq2 c =

@@ -1,5 +1,4 @@
 -- `write_part` meets its contract: the rule's number picks the stage. Assumes nothing.
-use borrow.Author.Rules.{rules}
 use borrow.Author.Tests.{eq-eqb, ne_eqb}
 use Rattle.basket.proofs.parts.write_part.Goals as goal
 

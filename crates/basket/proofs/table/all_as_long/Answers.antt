@@ -1,10 +1,8 @@
 -- `all_as_long` meets its contract: each turn tests one contract. Assumes nothing.
-use mathlib.Core.Path.{◌≡◌, refl}
-use Prim.Native.Nat.{◌-◌, ◌≤◌}
+use mathlib.Core.Path.{refl}
+use Prim.Native.Nat.{◌-◌}
 use native.Mathlib.Omega.{arith}
-use borrow.Author.Rules.{rules}
 use Rattle.cells.specs.Search.{every_bar}
-use Rattle.basket.specs.inner.Listed.{as_long}
 use Rattle.basket.proofs.Checks.{every_more, every_ends}
 use Rattle.basket.proofs.table.all_as_long.Goals as goal
 

@@ -1,15 +1,10 @@
 -- `all_light` meets its contract: each turn tests one weight. Assumes nothing.
-use mathlib.Core.Path.{◌≡◌, refl}
+use mathlib.Core.Path.{◌≡◌}
 use Prim.Native.Nat.{◌-◌, ◌≤◌}
-use native.Mathlib.Omega.{arith}
-use borrow.Author.Rules.{rules, sfits_of}
 use Rattle.cells.specs.Search.{every_bar}
 use lib.IntN.{pos}
 use lib.ListN.{length, get_or}
-use mir.Syntax.{w64}
-use mir.ValLaws.{to_z-of_z}
 use Rattle.basket.specs.inner.Listed.{light}
-use Rattle.basket.proofs.Checks.{every_more, every_ends}
 use Rattle.basket.proofs.table.all_light.Given as goal
 
 abbrev pub invariant-loop-k : goal.invariant-loop-k

@@ -1,6 +1,4 @@
 -- `answer_basket` meets its contract: what is no table is refused first. Assumes nothing.
-use mathlib.Core.Path.{◌≡◌, refl, sym, ◌∙◌}
-use native.Mathlib.Omega.{arith}
 use borrow.Author.Rules.{rules}
 use Rattle.basket.proofs.Answers.{not_counted, not_five, not_listed, all_listed, is_listed}
 use Rattle.basket.proofs.table.answer_basket.Goals as goal

@@ -1,7 +1,5 @@
 -- `answer_contract` meets its contract: the contract's numbers and its part of the series. Assumes nothing.
-use mathlib.Core.Path.{◌∙◌, sym}
-use native.Mathlib.Omega.{arith}
-use borrow.Author.Rules.{rules}
+use mathlib.Core.Path.{◌∙◌}
 use Rattle.basket.proofs.Answers.{own_of}
 use Rattle.basket.proofs.table.answer_contract.Goals as goal
 

@@ -1,11 +1,8 @@
 -- `answer_contracts` meets its contract: each turn takes one contract, and the first refusal ends it. Assumes nothing.
-use Prim.Native.Nat.{◌-◌, ◌*◌, ◌≤◌}
+use Prim.Native.Nat.{◌-◌}
 use native.Mathlib.Omega.{arith}
 use borrow.Author.Rules.{rules}
-use lib.ListN.{length}
-use Rattle.calls.specs.declared.Answer.TheVariants.{Cells}
-use Rattle.basket.specs.Basket.{rows, contract_at, contracts_of, each_answered}
-use Rattle.basket.proofs.Answers.{part_inside, Onward, none_answered, one_answered, one_refused, all_answered}
+use Rattle.basket.proofs.Answers.{part_inside, none_answered, one_answered, one_refused, all_answered}
 use Rattle.basket.proofs.table.answer_contracts.Goals as goal
 
 pub loop-k-init : goal.loop-k-init
@@ -21,12 +18,11 @@ returns-in-Refused c =
     c.loop-k-test.true
 
 pub loop-k-preserved : goal.loop-k-preserved
-loop-k-preserved c =
-    (
-      omega arith,
-      one_answered c.loop-k.invariant.1 (c.answer_contract-given.ensures _)
-          c.in_default.is c.loop-k-test.true,
-    )
+loop-k-preserved c = (
+  omega arith,
+  one_answered c.loop-k.invariant.1 (c.answer_contract-given.ensures _)
+      c.in_default.is c.loop-k-test.true,
+)
 
 pub overflow_mul-result : goal.overflow_mul-result
 overflow_mul-result c = let room = c.requires.out_long in search rules

@@ -1,11 +1,9 @@
 -- `answer_contracts` meets its contract: each turn takes one contract, and the first refusal ends it. Assumes nothing.
 use Prim.Native.Nat.{◌-◌, ◌*◌, ◌≤◌}
-use native.Mathlib.Omega.{arith}
-use borrow.Author.Rules.{rules}
 use lib.ListN.{length}
 use Rattle.calls.specs.declared.Answer.TheVariants.{Cells}
 use Rattle.basket.specs.Basket.{rows, contract_at, contracts_of, each_answered}
-use Rattle.basket.proofs.Answers.{part_inside, Onward, none_answered, one_answered, one_refused, all_answered}
+use Rattle.basket.proofs.Answers.{Onward}
 use Rattle.basket.proofs.table.answer_contracts.Given as goal
 
 abbrev pub invariant-loop-k : goal.invariant-loop-k

@@ -1,6 +1,5 @@
 -- `own_answer` meets its contract: one average and the middle answer alike. Assumes nothing.
 use mathlib.Core.Path.{◌∙◌}
-use borrow.Author.Rules.{rules}
 use Rattle.basket.proofs.Own.{by_two, by_same}
 use Rattle.basket.proofs.table.own_answer.Goals as goal
 

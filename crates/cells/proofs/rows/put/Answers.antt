@@ -4,7 +4,6 @@ use native.Mathlib.Omega.{arith}
 use lib.ListN.{length-set}
 use lib.Ieee.{of_bits}
 use Rattle.cells.specs.inner.Scratch.{put_at}
-use borrow.Author.Rules.{rules}
 use Rattle.cells.proofs.rows.put.Goals as goal
 
 pub bounds-work-at : goal.bounds-work-at

@@ -1,5 +1,4 @@
 -- `join` meets its contract: the larger of the highest and the smaller of the lowest. Assumes nothing.
-use borrow.Author.Rules.{rules}
 use Rattle.extremes.proofs.blocks.join.Goals as goal
 
 pub returns : goal.returns

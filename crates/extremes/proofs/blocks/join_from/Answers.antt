@@ -1,21 +1,21 @@
 -- `join_from` meets its contract: each turn joins one bar more to the bars from e on, and these to the window's
 -- others. Assumes nothing.
-use Prim.Native.Nat.{◌+◌, ◌-◌, ◌≤◌}
+use Prim.Native.Nat.{◌+◌}
 use native.Mathlib.Omega.{arith}
-use borrow.Author.Rules.{rules}
-use lib.ListN.{length, length-set}
-use Rattle.cells.specs.Line.{line}
-use Rattle.extremes.specs.inner.Range.{RangeOf}
+use lib.ListN.{length-set}
 use Rattle.extremes.proofs.Range.{one_bar_lem, joins, meets, whole}
-use Rattle.extremes.specs.inner.Windows.{Whole}
-use Rattle.extremes.specs.inner.Part.{Replacing}
 use Rattle.extremes.proofs.Part.{one_stands, not_yet, one_above, part_ends}
 use Rattle.extremes.proofs.blocks.join_from.Goals as goal
 
 pub loop-i-init : goal.loop-i-init
 loop-i-init c =
-    let first = c.requires.replacing.inside c.args.e (omega arith) in
-    (omega arith, omega arith, one_bar_lem _ c.of_one-best.ensures, one_stands _ (whole _ first (omega arith)) (omega arith))
+    let first = c.requires.replacing.inside c.args.e (omega arith) in (
+      omega arith,
+      omega arith,
+      one_bar_lem _ c.of_one-best.ensures,
+      one_stands _ (whole _ first (omega arith))
+          (omega arith),
+    )
 
 pub bounds-rows-bars-in-loop-i : goal.bounds-rows-bars-in-loop-i
 bounds-rows-bars-in-loop-i c = simp length-set (omega arith)

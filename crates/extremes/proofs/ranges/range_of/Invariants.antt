@@ -1,10 +1,7 @@
 -- `range_of` meets its contract: each turn joins one bar. Assumes nothing.
 use Prim.Native.Nat.{◌-◌, ◌≤◌}
-use native.Mathlib.Omega.{arith}
-use borrow.Author.Rules.{rules}
 use Rattle.cells.specs.Line.{line}
 use Rattle.extremes.specs.inner.Range.{RangeOf}
-use Rattle.extremes.proofs.Range.{one_bar_lem, spans, joins}
 use Rattle.extremes.proofs.ranges.range_of.Given as goal
 
 abbrev pub invariant-loop-i : goal.invariant-loop-i

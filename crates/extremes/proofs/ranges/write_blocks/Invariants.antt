@@ -1,11 +1,8 @@
 -- `write_blocks` meets its contract: each turn writes a block's windows after those before. Assumes nothing.
 use Prim.Native.Nat.{◌+◌, ◌-◌, ◌≤◌, min}
-use native.Mathlib.Omega.{arith}
-use borrow.Author.Rules.{rules}
 use lib.ListN.{length}
 use Rattle.extremes.specs.inner.Windows.{Whole}
 use Rattle.extremes.specs.inner.Part.{Replacing}
-use Rattle.extremes.proofs.Part.{goes_on, part_ends}
 use Rattle.extremes.proofs.ranges.write_blocks.Given as goal
 
 abbrev pub invariant-loop-e : goal.invariant-loop-e

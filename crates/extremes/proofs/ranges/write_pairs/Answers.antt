@@ -1,11 +1,7 @@
 -- `write_pairs` meets its contract: each turn writes the range of one window. Assumes nothing.
-use Prim.Native.Nat.{◌+◌, ◌-◌, ◌≤◌, min}
 use native.Mathlib.Omega.{arith}
-use borrow.Author.Rules.{rules}
-use lib.ListN.{length, length-set}
+use lib.ListN.{length-set}
 use Rattle.extremes.proofs.Range.{one_bar_lem, pairs, whole}
-use Rattle.extremes.specs.inner.Windows.{Whole}
-use Rattle.extremes.specs.inner.Part.{Replacing}
 use Rattle.extremes.proofs.Part.{one_above, part_ends}
 use Rattle.extremes.proofs.ranges.write_pairs.Goals as goal
 

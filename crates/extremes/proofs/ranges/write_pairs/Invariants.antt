@@ -1,12 +1,8 @@
 -- `write_pairs` meets its contract: each turn writes the range of one window. Assumes nothing.
 use Prim.Native.Nat.{◌+◌, ◌-◌, ◌≤◌, min}
-use native.Mathlib.Omega.{arith}
-use borrow.Author.Rules.{rules}
-use lib.ListN.{length, length-set}
-use Rattle.extremes.proofs.Range.{one_bar_lem, pairs, whole}
+use lib.ListN.{length}
 use Rattle.extremes.specs.inner.Windows.{Whole}
 use Rattle.extremes.specs.inner.Part.{Replacing}
-use Rattle.extremes.proofs.Part.{one_above, part_ends}
 use Rattle.extremes.proofs.ranges.write_pairs.Given as goal
 
 abbrev pub invariant-loop-i : goal.invariant-loop-i

@@ -1,6 +1,5 @@
 -- `write_ranges` meets its contract: the lead, and either way the windows after it. Assumes nothing.
 use native.Mathlib.Omega.{arith}
-use borrow.Author.Rules.{rules}
 use Rattle.extremes.proofs.InBlocks.{begun}
 use Rattle.extremes.proofs.Part.{replaced_again, rows_written}
 use Rattle.extremes.proofs.ranges.write_ranges.Goals as goal

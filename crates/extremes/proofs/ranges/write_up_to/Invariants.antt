@@ -1,12 +1,8 @@
 -- `write_up_to` meets its contract: each turn joins the bar before to those up to e. Assumes nothing.
 use Prim.Native.Nat.{◌+◌, ◌-◌, ◌≤◌}
-use native.Mathlib.Omega.{arith}
-use borrow.Author.Rules.{rules}
-use lib.ListN.{length, length-set}
-use Rattle.extremes.proofs.Range.{one_bar_lem, joins}
+use lib.ListN.{length}
 use Rattle.extremes.specs.inner.Windows.{UpTo}
 use Rattle.extremes.specs.inner.Part.{Replacing}
-use Rattle.extremes.proofs.Part.{none_replaced, one_below}
 use Rattle.extremes.proofs.ranges.write_up_to.Given as goal
 
 abbrev pub invariant-loop-i : goal.invariant-loop-i

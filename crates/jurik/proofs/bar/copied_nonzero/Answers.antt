@@ -1,5 +1,4 @@
 -- `copied_nonzero` meets its contract: by the test. Assumes nothing.
-use borrow.Author.Rules.{rules}
 use lib.Ieee.{of_bits}
 use Rattle.jurik.specs.Jurik.{copied}
 use Rattle.jurik.proofs.bar.copied_nonzero.Goals as goal

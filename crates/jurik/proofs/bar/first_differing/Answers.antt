@@ -1,13 +1,10 @@
 -- `first_differing` meets its contract: each turn passes a bar that is not looked for. Assumes nothing.
 use mathlib.Core.Path.{◌≡◌, sym, ◌∙◌}
-use Prim.Native.Nat.{◌-◌, ◌≤◌}
+use Prim.Native.Nat.{◌-◌}
 use native.Mathlib.Omega.{arith}
-use borrow.Author.Rules.{rules}
 use borrow.Author.Count.{below_more}
 use lib.Ieee.{ne}
-use Rattle.cells.specs.Line.{line}
-use Rattle.cells.proofs.Search.{NoneBefore, first_bar_found, first_bar_none}
-use Rattle.jurik.specs.inner.Passes.{valid_by, differs}
+use Rattle.cells.proofs.Search.{first_bar_found, first_bar_none}
 use Rattle.jurik.proofs.bar.first_differing.Goals as goal
 
 pub loop-i-init : goal.loop-i-init

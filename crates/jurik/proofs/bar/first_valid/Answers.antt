@@ -1,6 +1,5 @@
 -- `first_valid` meets its contract: every valid value differs from a NaN. Assumes nothing.
 use mathlib.Core.Path.{◌∙◌}
-use borrow.Author.Rules.{rules}
 use Rattle.cells.specs.Line.{line}
 use Rattle.jurik.specs.inner.Passes.{valid_by}
 use Rattle.jurik.proofs.TwoPasses.{valid_is}

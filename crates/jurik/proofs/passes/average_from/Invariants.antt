@@ -1,18 +1,11 @@
 -- `average_from` meets its contract: each turn writes a cell and blends the next value, which still stands, into
 -- the average; where no bar is left, the cells before it are all. Assumes nothing.
-use mathlib.Core.Path.{◌≡◌, sym}
-use Prim.Native.Nat.{◌+◌, ◌-◌, ◌<◌, ◌≤◌}
-use native.Mathlib.Omega.{arith}
-use borrow.Author.Rules.{rules}
-use lib.ListN.{length-set}
+use mathlib.Core.Path.{◌≡◌}
+use Prim.Native.Nat.{◌-◌, ◌<◌, ◌≤◌}
 use Rattle.cells.specs.Line.{line}
 use Rattle.cells.specs.Recur.{carried}
 use Rattle.cells.specs.Written.{Writing}
-use Rattle.cells.proofs.Written.{one_more, ends, stands, writing_same, then_written}
-use Rattle.cells.proofs.Leads.{not_yet}
-use Rattle.cells.proofs.Carried.{carried_seed}
 use Rattle.averages.specs.Blend.{blend}
-use Rattle.jurik.proofs.TwoPasses.{carried_from, lead_carried, next_carried}
 use Rattle.jurik.proofs.passes.average_from.Given as goal
 
 abbrev pub invariant-loop-i : goal.invariant-loop-i

@@ -1,10 +1,6 @@
 -- `copy_nonzero` meets its contract: each turn writes a cell over its own value. Assumes nothing.
-use Prim.Native.Nat.{◌-◌, ◌≤◌}
+use Prim.Native.Nat.{◌-◌}
 use native.Mathlib.Omega.{arith}
-use borrow.Author.Rules.{rules}
-use Rattle.cells.specs.Line.{line, plus_zero}
-use Rattle.cells.specs.Search.{non_zero}
-use Rattle.cells.specs.Written.{Writing}
 use Rattle.cells.proofs.Written.{none_written, one_more, ends}
 use Rattle.cells.proofs.Leads.{not_yet}
 use Rattle.jurik.specs.Jurik.{copied}

@@ -1,5 +1,4 @@
 -- `copy_valid` meets its contract: numbers stay, and zeros become 0.0. Assumes nothing.
-use borrow.Author.Rules.{rules}
 use Rattle.jurik.proofs.Copied.{copied_stands}
 use Rattle.jurik.proofs.passes.copy_valid.Goals as goal
 

@@ -1,7 +1,6 @@
 -- `pass` meets its contract: by the search for a value that differs. Assumes nothing.
 use mathlib.Core.Path.{sym, ◌∙◌}
 use native.Mathlib.Omega.{arith}
-use borrow.Author.Rules.{rules}
 use Rattle.cells.proofs.Search.{first_bar_within}
 use Rattle.cells.proofs.Written.{writing_same}
 use Rattle.jurik.proofs.TwoPasses.{tested_averages, tested_copies}

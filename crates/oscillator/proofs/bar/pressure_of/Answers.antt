@@ -1,5 +1,4 @@
 -- `pressure_of` meets its contract: the smaller is told as the definition does. Assumes nothing.
-use borrow.Author.Rules.{rules}
 use Rattle.oscillator.specs.Oscillator.{pressure}
 use Rattle.oscillator.proofs.bar.pressure_of.Goals as goal
 

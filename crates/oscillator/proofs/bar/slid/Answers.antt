@@ -1,6 +1,5 @@
 -- `slid` meets its contract: both sums slide by one bar. Assumes nothing.
 use native.Mathlib.Omega.{arith}
-use borrow.Author.Rules.{rules}
 use Rattle.oscillator.proofs.Sliding.{slid_sum}
 use Rattle.oscillator.proofs.bar.slid.Goals as goal
 

@@ -1,5 +1,4 @@
 -- `cell_of` meets its contract: three shares, weighed. Assumes nothing.
-use borrow.Author.Rules.{rules}
 use Rattle.oscillator.proofs.ticks.cell_of.Goals as goal
 
 pub returns : goal.returns

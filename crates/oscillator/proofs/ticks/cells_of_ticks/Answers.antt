@@ -1,14 +1,8 @@
 -- `cells_of_ticks` meets its contract: each turn writes a cell and slides three windows. Assumes nothing.
-use Prim.Native.Nat.{◌-◌, ◌<◌, ◌≤◌}
+use Prim.Native.Nat.{◌-◌}
 use native.Mathlib.Omega.{arith}
-use borrow.Author.Rules.{rules}
-use lib.ListN.{length}
-use Rattle.cells.specs.Line.{line}
-use Rattle.cells.specs.Written.{Writing}
 use Rattle.cells.proofs.Written.{one_more, ends}
-use Rattle.oscillator.specs.inner.Begun.{afresh}
-use Rattle.oscillator.specs.inner.Sliding.{SumsOf}
-use Rattle.oscillator.proofs.TickCells.{may_slide, cell_of_sums}
+use Rattle.oscillator.proofs.TickCells.{cell_of_sums}
 use Rattle.oscillator.proofs.ticks.cells_of_ticks.Goals as goal
 
 pub loop-i-preserved : goal.loop-i-preserved

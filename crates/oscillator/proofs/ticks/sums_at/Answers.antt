@@ -1,5 +1,4 @@
 -- `sums_at` meets its contract. Assumes nothing.
-use borrow.Author.Rules.{rules}
 use Rattle.oscillator.proofs.ticks.sums_at.Goals as goal
 
 pub returns : goal.returns

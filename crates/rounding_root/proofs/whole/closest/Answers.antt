@@ -1,7 +1,6 @@
 -- `closest` meets its contract: a guess that passed the test is closest, and so is what the search finds. Assumes
 -- nothing.
 use native.Mathlib.Omega.{arith}
-use borrow.Author.Rules.{rules}
 use lib.Ieee.{of_bits}
 use Rattle.rounding_root.proofs.Above.{above_is_number}
 use Rattle.rounding_root.proofs.whole.closest.Goals as goal

@@ -1,7 +1,6 @@
 -- `high` meets its contract: the halves make the square, and no number on the way has more than 64 bits. Assumes
 -- nothing.
 use native.Mathlib.Omega.{arith}
-use borrow.Author.Rules.{rules}
 use Rattle.rounding_root.proofs.Halves.{Small, small, by_halves}
 use Rattle.rounding_root.proofs.whole.high.Goals as goal
 use Rattle.rounding_root.proofs.whole.high.Goals.{Start}

@@ -1,7 +1,6 @@
 -- `is_closest` meets its contract: the two tests are the two sides of `Closest`. Assumes nothing.
 use mathlib.Core.Bool.{false≢true}
 use native.Mathlib.Omega.{arith}
-use borrow.Author.Rules.{rules}
 use borrow.Author.Tests.{leb-true}
 use Rattle.rounding_root.proofs.Search.{passed}
 use Rattle.rounding_root.proofs.whole.is_closest.Goals as goal

@@ -1,7 +1,5 @@
 -- `searched` meets its contract: each turn halves the range, which keeps the closest root. Assumes nothing.
-use Prim.Native.Nat.{◌-◌}
-use borrow.Author.Rules.{rules}
-use Rattle.rounding_root.proofs.Search.{Span, found}
+use Rattle.rounding_root.proofs.Search.{found}
 use Rattle.rounding_root.proofs.whole.searched.Goals as goal
 
 pub returns : goal.returns

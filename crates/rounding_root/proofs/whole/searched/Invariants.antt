@@ -1,7 +1,6 @@
 -- `searched` meets its contract: each turn halves the range, which keeps the closest root. Assumes nothing.
 use Prim.Native.Nat.{◌-◌}
-use borrow.Author.Rules.{rules}
-use Rattle.rounding_root.proofs.Search.{Span, found}
+use Rattle.rounding_root.proofs.Search.{Span}
 use Rattle.rounding_root.proofs.whole.searched.Given as goal
 
 abbrev pub invariant-loop-lo : goal.invariant-loop-lo

@@ -1,6 +1,6 @@
 -- `beyond_by` meets its contract: whatever the guesses are. Assumes nothing.
 use mathlib.Core.Path.{◌∙◌}
-use borrow.Author.Rules.{rules, sfits_of}
+use borrow.Author.Rules.{sfits_of}
 use mir.Syntax.{w32}
 use mir.ValLaws.{to_z-of_z}
 use Rattle.rules_bands.proofs.bar.beyond_by.Goals as goal

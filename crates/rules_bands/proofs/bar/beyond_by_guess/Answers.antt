@@ -1,7 +1,7 @@
 -- `beyond_by_guess` meets its contract: a guess decides, or the root does. Assumes nothing.
 use mathlib.Core.Bool.{true, false}
 use mathlib.Core.Path.{◌≡◌, sym, ap, ◌∙◌, subst}
-use borrow.Author.Rules.{rules, sfits_of}
+use borrow.Author.Rules.{sfits_of}
 use lib.Dec.{T}
 use lib.Ieee.{Float, binary64, fits, lt, le, of_bits}
 use mir.Syntax.{w32}

@@ -1,5 +1,4 @@
 -- `divisor` meets its contract. Assumes nothing.
-use borrow.Author.Rules.{rules}
 use Rattle.rules_bands.proofs.bar.divisor.Goals as goal
 
 pub returns-then-reverse : goal.returns-then-reverse

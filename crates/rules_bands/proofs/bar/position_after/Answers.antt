@@ -1,6 +1,6 @@
 -- `position_after` meets its contract: the margin of the plain rule is 1e-10. Assumes nothing.
 use mathlib.Core.Path.{refl, ◌∙◌}
-use borrow.Author.Rules.{rules, sfits_of}
+use borrow.Author.Rules.{sfits_of}
 use lib.Ieee.{of_bits, round, lt}
 use mir.Syntax.{w32}
 use mir.ValLaws.{to_z-of_z}

@@ -1,6 +1,5 @@
 -- `position_before` meets its contract. Assumes nothing.
 use mathlib.Core.Path.{◌∙◌}
-use borrow.Author.Rules.{rules}
 use mir.Syntax.{w32}
 use mir.ValLaws.{to_z-of_z}
 use Rattle.rules_bands.proofs.Stages.{before_some, before_none}

@@ -1,7 +1,7 @@
 -- `turned_by` meets its contract: a flat position opens to the other side of the bands, and to a held one that does not
 -- matter. Assumes nothing.
 use mathlib.Core.Path.{◌≡◌, refl, sym, ap, ◌∙◌, subst}
-use borrow.Author.Rules.{rules, sfits_of}
+use borrow.Author.Rules.{sfits_of}
 use native.Mathlib.Omega.{arith}
 use lib.IntN.{ℤ, pos, neg_ℤ, ◌-ℤ◌}
 use lib.Ieee.{binary64, lt, of_bits}
@@ -59,7 +59,8 @@ returns-else-position-eq0 c =
     let call = c.move_position in
     let a = c.args in
     let same = to_z-of_z w32 a.position c.ranges.position in
-    let held : to_z w32 (of_z w32 a.position) ≡ flat → ⊥ = λ e. c.if-position-eq0.false (ap (of_z w32) (sym same ∙ e)) in
+    let held : to_z w32 (of_z w32 a.position) ≡ flat → ⊥ =
+    λ e. c.if-position-eq0.false (ap (of_z w32) (sym same ∙ e)) in
     let signal = turns_at a.average a.middle a.k (sqrt_of binary64 a.variance) in
     to_z-of_z w32 call.result (sfits_of call.type_inv)
     ∙ call.ensures

@@ -1,5 +1,4 @@
 -- `clear_lead` meets its contract: the cells, and then the work cells. Assumes nothing.
-use borrow.Author.Rules.{rules}
 use Rattle.rules_ema.proofs.bar.clear_lead.Goals as goal
 
 pub returns : goal.returns

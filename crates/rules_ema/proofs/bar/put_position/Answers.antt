@@ -1,6 +1,5 @@
 -- `put_position` meets its contract: one store, and the bar's work cells. Assumes nothing.
 use lib.Ieee.{of_bits}
-use borrow.Author.Rules.{rules}
 use Rattle.rules_ema.proofs.bar.put_position.Goals as goal
 
 pub returns : goal.returns

@@ -2,7 +2,6 @@
 use mathlib.Core.Path.{refl}
 use native.Mathlib.Omega.{arith}
 use lib.Ieee.{of_bits}
-use borrow.Author.Rules.{rules}
 use Rattle.windows.proofs.Window.{count_is_float}
 use Rattle.rules_ema.proofs.bar.weight.Goals as goal
 

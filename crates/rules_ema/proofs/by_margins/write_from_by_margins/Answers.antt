@@ -1,17 +1,12 @@
 -- `write_from_by_margins` meets its contract: each turn writes a position that is decided, slides the sum and blends
 -- its mean into the average, until a bar is in doubt. Assumes nothing.
-use mathlib.Core.Path.{◌≡◌, refl, sym, ◌∙◌}
-use Prim.Native.Nat.{◌-◌, ◌≤◌, ◌<◌}
+use mathlib.Core.Path.{refl, sym, ◌∙◌}
+use Prim.Native.Nat.{◌-◌}
 use native.Mathlib.Omega.{arith}
-use lib.ListN.{length}
-use borrow.Author.Rules.{rules}
 use Rattle.cells.specs.Line.{line}
 use Rattle.cells.proofs.Touched.{touched, touched_more, touched_then}
-use Rattle.cells.specs.inner.Finished.{Finished}
 use Rattle.windows.proofs.Window.{count_is_float}
-use Rattle.rules_ema.specs.SingleEma.{single_ema_from}
 use Rattle.rules_ema.proofs.SingleEma.{starts_finished, position_finished, rest_finished}
-use Rattle.rules_ema.specs.inner.ByMargins.{slid_from, running_ema}
 use Rattle.rules_ema.proofs.Decides.{first_slid, next_slid, decided_at}
 use Rattle.rules_ema.proofs.Decides.{first_running_average, next_running_average}
 use Rattle.rules_ema.proofs.FinishedIf.{finished_if_all, finished_if_not}
@@ -21,14 +16,13 @@ pub int_to_float-count : goal.int_to_float-count
 int_to_float-count c = let w = c.requires.prices.window in count_is_float _ (omega arith)
 
 pub loop-out-init : goal.loop-out-init
-loop-out-init c =
-    (
-      omega arith,
-      omega arith,
-      starts_finished _ _ _ c.clear_lead.ensures,
-      first_slid _ _ _ c.sum_at-sum.ensures,
-      first_running_average _ _ _ c.requires.first,
-    )
+loop-out-init c = (
+  omega arith,
+  omega arith,
+  starts_finished _ _ _ c.clear_lead.ensures,
+  first_slid _ _ _ c.sum_at-sum.ensures,
+  first_running_average _ _ _ c.requires.first,
+)
 
 pub loop-out-preserved : goal.loop-out-preserved
 loop-out-preserved c =

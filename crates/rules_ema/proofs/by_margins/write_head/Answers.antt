@@ -2,7 +2,6 @@
 use mathlib.Core.Path.{◌≡◌, sym}
 use Prim.Native.Nat.{◌-◌, ◌*◌}
 use native.Mathlib.Omega.{arith}
-use borrow.Author.Rules.{rules}
 use Rattle.cells.specs.Line.{line}
 use Rattle.windows.specs.inner.Means.{running_means}
 use Rattle.rules_ema.proofs.SingleEma.{seed_of}

@@ -1,5 +1,4 @@
 -- `is_decided` meets its contract: its test is that of `decided`. Assumes nothing.
-use borrow.Author.Rules.{rules}
 use Rattle.rules_ema.proofs.far.is_decided.Goals as goal
 
 pub returns : goal.returns

@@ -1,14 +1,10 @@
 -- `first_usable` meets its contract: each turn passes a mean that is 0, and the first other one ends the search.
 -- Assumes nothing.
 use mathlib.Core.Path.{sym}
-use Prim.Native.Nat.{◌-◌, ◌≤◌}
+use Prim.Native.Nat.{◌-◌}
 use native.Mathlib.Omega.{arith}
-use lib.ListN.{length}
 use lib.Ieee.{ne, of_bits}
 use borrow.Author.Rules.{rules}
-use Rattle.cells.specs.Line.{line}
-use Rattle.cells.specs.Search.{non_zero}
-use Rattle.cells.proofs.Search.{NoneBefore}
 use borrow.Author.Count.{below_more}
 use Rattle.rules_ema.proofs.Search.{usable_found, usable_none}
 use Rattle.rules_ema.proofs.start.first_usable.Goals as goal

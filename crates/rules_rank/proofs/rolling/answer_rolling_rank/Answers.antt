@@ -1,5 +1,4 @@
 -- `answer_rolling_rank` meets its contract: it reads the table from the top. Assumes nothing.
-use borrow.Author.Rules.{rules}
 use Rattle.values.proofs.All.{and_true}
 use Rattle.calls.proofs.Room.{or_false}
 use Rattle.rules_rank.specs.RollingRank.{rolling_rank_answer}

@@ -1,14 +1,9 @@
 -- `write_places` meets its contract: each turn writes one bar's place. Assumes nothing.
-use mathlib.Core.Path.{◌∙◌}
 use Prim.Native.Nat.{◌-◌, ◌≤◌, min}
-use native.Mathlib.Omega.{arith}
-use borrow.Author.Rules.{rules}
 use lib.ListN.{length}
 use Rattle.cells.specs.Line.{line}
 use Rattle.cells.specs.Written.{Writing}
-use Rattle.cells.proofs.Written.{one_more, stands, then_written, ends}
 use Rattle.rules_rank.specs.RollingRank.{rolling_rank_line}
-use Rattle.rules_rank.proofs.RollingCells.{none_placed, placed}
 use Rattle.rules_rank.proofs.rolling.write_places.Given as goal
 
 abbrev pub invariant-loop-i : goal.invariant-loop-i

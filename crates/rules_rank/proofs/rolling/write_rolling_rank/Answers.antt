@@ -1,6 +1,5 @@
 -- `write_rolling_rank` meets its contract: places, or 0 at every bar for a window of none. Assumes nothing.
 use native.Mathlib.Omega.{arith}
-use borrow.Author.Rules.{rules}
 use Rattle.rules_rank.proofs.RollingCells.{no_window_lem}
 use Rattle.rules_rank.proofs.rolling.write_rolling_rank.Goals as goal
 

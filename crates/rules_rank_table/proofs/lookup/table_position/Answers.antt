@@ -1,5 +1,5 @@
 -- `table_position` meets its contract: the rank is an i32, and is looked up. Assumes nothing.
-use borrow.Author.Rules.{rules, sfits_of}
+use borrow.Author.Rules.{sfits_of}
 use mir.Syntax.{w32}
 use mir.ValLaws.{to_z-of_z}
 use lib.Ieee.{binary64, add, of_bits, to_signed}

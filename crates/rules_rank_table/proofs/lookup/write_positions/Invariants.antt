@@ -1,11 +1,6 @@
 -- `write_positions` meets its contract: each turn writes one position. Assumes nothing.
 use Prim.Native.Nat.{◌-◌, ◌≤◌}
-use native.Mathlib.Omega.{arith}
-use borrow.Author.Rules.{rules, sfits_of}
-use mir.Syntax.{w32}
-use mir.ValLaws.{to_z-of_z}
 use Rattle.cells.specs.Written.{Writing}
-use Rattle.cells.proofs.Written.{none_written, one_more, ends}
 use Rattle.rules_rank_table.specs.Table.{rows_read}
 use Rattle.rules_rank_table.specs.inner.Stages.{position_cell}
 use Rattle.rules_rank_table.proofs.lookup.write_positions.Given as goal

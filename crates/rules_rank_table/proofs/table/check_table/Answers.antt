@@ -1,5 +1,4 @@
 -- `check_table` meets its contract: the refusals stand in their order. Assumes nothing.
-use borrow.Author.Rules.{rules}
 use Rattle.rules_rank_table.specs.Table.{table_checked}
 use Rattle.rules_rank_table.proofs.table.check_table.Goals as goal
 

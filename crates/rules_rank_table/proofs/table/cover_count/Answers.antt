@@ -1,14 +1,8 @@
 -- `cover_count` meets its contract: each turn counts one row more. Assumes nothing.
-use mathlib.Core.Path.{◌≡◌, sym, ◌∙◌}
-use Prim.Native.Nat.{◌+◌, ◌/◌, ◌≤◌, min}
+use mathlib.Core.Path.{sym, ◌∙◌}
 use native.Mathlib.Numerals.{add-one}
 use native.Mathlib.Omega.{arith}
-use borrow.Author.Rules.{rules}
-use lib.ListN.{length, drop}
-use mir.Syntax.{w32}
-use mir.Val.{to_z}
-use mir.ValLaws.{to_z-of_z}
-use Rattle.rules_rank_table.specs.Table.{rows_read, cover_count}
+use Rattle.rules_rank_table.specs.Table.{cover_count}
 use Rattle.rules_rank_table.proofs.RowsRead.{rows_end, row_before}
 use Rattle.rules_rank_table.proofs.table.cover_count.Goals as goal
 

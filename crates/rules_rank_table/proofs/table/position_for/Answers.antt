@@ -1,13 +1,10 @@
 -- `position_for` meets its contract: each turn asks one row more. Assumes nothing.
-use mathlib.Core.Path.{◌≡◌, sym, ◌∙◌}
-use Prim.Native.Nat.{◌-◌, ◌/◌, ◌≤◌, min}
+use mathlib.Core.Path.{sym, ◌∙◌}
+use Prim.Native.Nat.{◌-◌}
 use native.Mathlib.Omega.{arith}
-use borrow.Author.Rules.{rules}
-use lib.ListN.{length, drop}
 use mir.Syntax.{w32}
-use mir.Val.{to_z}
 use mir.ValLaws.{to_z-of_z}
-use Rattle.rules_rank_table.specs.Table.{rows_read, position_for}
+use Rattle.rules_rank_table.specs.Table.{position_for}
 use Rattle.rules_rank_table.specs.Taken.{position_at}
 use Rattle.rules_rank_table.proofs.RowsRead.{rows_end, row_before}
 use Rattle.rules_rank_table.proofs.table.position_for.Goals as goal

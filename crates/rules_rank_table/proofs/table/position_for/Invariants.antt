@@ -1,15 +1,8 @@
 -- `position_for` meets its contract: each turn asks one row more. Assumes nothing.
-use mathlib.Core.Path.{◌≡◌, sym, ◌∙◌}
+use mathlib.Core.Path.{◌≡◌}
 use Prim.Native.Nat.{◌-◌, ◌/◌, ◌≤◌, min}
-use native.Mathlib.Omega.{arith}
-use borrow.Author.Rules.{rules}
 use lib.ListN.{length, drop}
-use mir.Syntax.{w32}
-use mir.Val.{to_z}
-use mir.ValLaws.{to_z-of_z}
 use Rattle.rules_rank_table.specs.Table.{rows_read, position_for}
-use Rattle.rules_rank_table.specs.Taken.{position_at}
-use Rattle.rules_rank_table.proofs.RowsRead.{rows_end, row_before}
 use Rattle.rules_rank_table.proofs.table.position_for.Given as goal
 
 abbrev pub invariant-loop-r : goal.invariant-loop-r

@@ -1,13 +1,8 @@
 -- `positions_known` meets its contract: each turn tests one row more. Assumes nothing.
-use mathlib.Core.Path.{◌≡◌}
-use Prim.Native.Nat.{◌-◌, ◌/◌, ◌≤◌, min}
+use Prim.Native.Nat.{◌-◌}
 use native.Mathlib.Omega.{arith}
-use borrow.Author.Rules.{rules}
-use lib.ListN.{length, drop}
 use mir.Syntax.{w32}
 use mir.ValLaws.{to_z-of_z}
-use Rattle.values.specs.Accepted.{all}
-use Rattle.rules_rank_table.specs.Table.{rows_read, is_position}
 use Rattle.rules_rank_table.specs.Taken.{position_at}
 use Rattle.rules_rank_table.proofs.RowsRead.{rows_end, row_before}
 use Rattle.rules_rank_table.proofs.table.positions_known.Goals as goal

@@ -1,7 +1,6 @@
 -- `changes_before` meets its contract: n changes, or as many as there are. Assumes nothing.
 use mathlib.Core.Path.{sym, ◌∙◌}
 use native.Mathlib.Omega.{arith}
-use borrow.Author.Rules.{rules}
 use Rattle.rules_rsi.proofs.Index.{changes_before_lem}
 use Rattle.rules_rsi.proofs.bar.changes_before.Goals as goal
 

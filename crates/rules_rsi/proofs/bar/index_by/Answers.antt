@@ -1,5 +1,4 @@
 -- `index_by` meets its contract: its test is that of `index_by`. Assumes nothing.
-use borrow.Author.Rules.{rules}
 use lib.Ieee.{of_bits}
 use Rattle.rules_rsi.proofs.bar.index_by.Goals as goal
 

@@ -1,7 +1,6 @@
 -- `cell_of` meets its contract: it is the definition. Assumes nothing.
 use Prim.Native.Nat.{◌≤◌}
 use native.Mathlib.Omega.{arith}
-use borrow.Author.Rules.{rules}
 use lib.Ieee.{of_bits}
 use Rattle.windows.proofs.Window.{count_is_float}
 use Rattle.rules_tanh.specs.Tanh.{tanh_cell}

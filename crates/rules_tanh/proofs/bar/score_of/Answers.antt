@@ -1,6 +1,4 @@
 -- `score_of` meets its contract. Assumes nothing.
-use mathlib.Core.Path.{◌≡◌}
-use borrow.Author.Rules.{rules}
 use lib.Ieee.{of_bits}
 use Rattle.rules_tanh.proofs.bar.score_of.Goals as goal
 

@@ -1,8 +1,6 @@
 -- `steps_of` meets its contract: each turn leaves the half that the largest k is in. Assumes nothing.
 use Prim.Native.Nat.{◌-◌}
-use native.Mathlib.Omega.{arith}
-use borrow.Author.Rules.{rules}
-use Rattle.rules_tanh.proofs.Thresholds.{Searched, not_searched, upper_half, lower_half, found}
+use Rattle.rules_tanh.proofs.Thresholds.{Searched}
 use Rattle.rules_tanh.proofs.bar.steps_of.Given as goal
 
 abbrev pub invariant-loop-low : goal.invariant-loop-low

@@ -1,10 +1,7 @@
 -- `after_blanks` meets its contract: the loop passes blanks only. Assumes nothing.
-use mathlib.Core.Path.{◌≡◌, ◌∙◌}
-use Prim.Native.Nat.{◌-◌, ◌≤◌}
+use mathlib.Core.Path.{◌∙◌}
+use Prim.Native.Nat.{◌-◌}
 use native.Mathlib.Omega.{arith}
-use borrow.Author.Rules.{rules}
-use lib.Seq.{slice}
-use Rattle.sheet_lines.specs.Read.{unpadded}
 use Rattle.sheet_lines.proofs.Reading.{all_blank, blank_column, first_column}
 use Rattle.sheet_lines.proofs.columns.after_blanks.Goals as goal
 

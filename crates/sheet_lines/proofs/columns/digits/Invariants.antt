@@ -1,22 +1,9 @@
 -- `digits` meets its contract: each turn takes one digit more,
 -- and the number stays below a power of ten. Assumes nothing.
-use mathlib.Core.Path.{◌≡◌, sym, ◌∙◌}
-use Prim.Native.Nat.{◌+◌, ◌-◌, ◌^◌, ◌≤◌, ◌<◌}
-use native.Mathlib.Omega.{arith}
-use borrow.Author.Rules.{rules}
+use mathlib.Core.Path.{◌≡◌}
+use Prim.Native.Nat.{◌-◌, ◌^◌, ◌≤◌, ◌<◌}
 use lib.Seq.{slice}
 use Rattle.sheet_lines.specs.Read.{number, number_after}
-use Rattle.sheet_lines.proofs.Reading.{
-  no_number,
-  all_read,
-  digit_column,
-  low_column,
-  high_column,
-  some_columns,
-  digit_none,
-  digit_more,
-  few_digits,
-}
 use Rattle.sheet_lines.proofs.columns.digits.Given as goal
 
 abbrev pub invariant-loop-i : goal.invariant-loop-i

@@ -1,6 +1,5 @@
 -- `last_column` meets its contract, by its test. Assumes nothing.
 use borrow.Author.Tests.{eq-eqb, ne_eqb}
-use borrow.Author.Rules.{rules}
 use Rattle.sheet_lines.proofs.columns.last_column.Goals as goal
 
 pub returns-then-n-eq0 : goal.returns-then-n-eq0

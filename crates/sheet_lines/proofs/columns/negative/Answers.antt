@@ -1,5 +1,4 @@
 -- `negative` meets its contract: 0 is +0.0, and the float of any other number is negated. Assumes nothing.
-use borrow.Author.Rules.{rules}
 use lib.Ieee.{of_bits, of_int}
 use Rattle.sheet_lines.proofs.Signs.{few_is_float, neg_whole}
 use Rattle.sheet_lines.proofs.columns.negative.Goals as goal

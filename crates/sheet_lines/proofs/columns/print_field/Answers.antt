@@ -1,7 +1,6 @@
 -- `print_field` meets its contract: the last digit follows those that lead it. Assumes nothing.
 use Prim.Native.Nat.{◌+◌, ◌-◌}
 use native.Mathlib.Omega.{arith}
-use borrow.Author.Rules.{rules}
 use Rattle.sheet_lines.proofs.Printing.{add_byte, field_is}
 use Rattle.sheet_lines.proofs.columns.print_field.Goals as goal
 

@@ -1,8 +1,8 @@
 -- `print_leading` meets its contract: the loop prints from the last column to the first. Assumes nothing.
-use Prim.Native.Nat.{◌-◌, ◌≤◌}
+use Prim.Native.Nat.{◌-◌}
 use native.Mathlib.Omega.{arith}
 use borrow.Author.Rules.{rules}
-use Rattle.sheet_lines.proofs.Printing.{Filled, none_filled, one_filled, all_filled}
+use Rattle.sheet_lines.proofs.Printing.{none_filled, one_filled, all_filled}
 use Rattle.sheet_lines.proofs.columns.print_leading.Goals as goal
 
 pub loop-i-init : goal.loop-i-init

@@ -1,8 +1,6 @@
 -- `print_leading` meets its contract: the loop prints from the last column to the first. Assumes nothing.
 use Prim.Native.Nat.{◌-◌, ◌≤◌}
-use native.Mathlib.Omega.{arith}
-use borrow.Author.Rules.{rules}
-use Rattle.sheet_lines.proofs.Printing.{Filled, none_filled, one_filled, all_filled}
+use Rattle.sheet_lines.proofs.Printing.{Filled}
 use Rattle.sheet_lines.proofs.columns.print_leading.Given as goal
 
 abbrev pub invariant-loop-i : goal.invariant-loop-i

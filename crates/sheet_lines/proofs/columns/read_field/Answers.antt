@@ -1,5 +1,4 @@
 -- `read_field` meets its contract: the digits start after the blanks. Assumes nothing.
-use borrow.Author.Rules.{rules}
 use Rattle.sheet_lines.specs.Read.{read_field}
 use Rattle.sheet_lines.proofs.columns.read_field.Goals as goal
 

@@ -2,7 +2,6 @@
 -- says on which side of zero the price lies. Assumes nothing.
 use Prim.Native.Nat.{◌+◌, ◌<◌}
 use native.Mathlib.Omega.{arith}
-use borrow.Author.Rules.{rules}
 use Rattle.sheet_lines.specs.Read.{read_price}
 use Rattle.sheet_lines.proofs.Reading.{minus_column, plain_column, no_price, number_few}
 use Rattle.sheet_lines.proofs.columns.read_price.Goals as goal
@@ -19,7 +18,8 @@ negative-requires c =
 pub positive-requires : goal.positive-requires
 positive-requires c =
     let a = c.args in
-    rw c.digits-else-line-first-eq45.ensures (number_few a.line.now c.after_blanks-first.result a.to (omega arith) (omega arith))
+    rw c.digits-else-line-first-eq45.ensures
+    (number_few a.line.now c.after_blanks-first.result a.to (omega arith) (omega arith))
 
 pub returns-then-line-first-eq45 : goal.returns-then-line-first-eq45
 unfolding read_price

@@ -3,7 +3,6 @@
 use mathlib.Core.Path.{◌≡◌}
 use mathlib.Core.Bool.{cond}
 use borrow.Author.Tests.{le-leb, lt-leb}
-use borrow.Author.Rules.{rules}
 use Rattle.sheet_lines.specs.declared.reasons.Reason.TheVariants.{OtherRule, TooManyBars}
 use Rattle.rules.specs.ByNumber.{is_rule}
 use Rattle.sheet_lines.specs.Reason.{field_reason}
@@ -32,7 +31,12 @@ returns-then-rule-lt1 c = rw (numbers (goal.at.returns-then-rule-lt1 c).In-Value
 
 pub returns-then-rule-gt3 : goal.returns-then-rule-gt3
 returns-then-rule-gt3 c =
-    rw (numbers (goal.at.returns-then-rule-gt3 c).In-Value-bars, le-leb _ _ c.if-rule-lt1.false, lt-leb _ _ c.if-rule-gt3.true)
+    rw (
+      numbers (goal.at.returns-then-rule-gt3 c).In-Value-bars,
+      le-leb _ _ c.if-rule-lt1.false,
+      lt-leb _ _
+          c.if-rule-gt3.true,
+    )
 
 pub returns : goal.returns
 returns c =
@@ -45,7 +49,10 @@ pub returns-in_default-n : goal.returns-in_default-n
 returns-in_default-n c = unfold field_reason in rw (c.in-Value.is, c.in-Value-rule.is, c.in_default-n.is)
 
 pub returns-in_default-m : goal.returns-in_default-m
-returns-in_default-m c = unfold field_reason in rw (c.in-Value.is, c.in-Value-rule.is, c.in-Value-n.is, c.in_default-m.is)
+returns-in_default-m c =
+    unfold field_reason in rw (c.in-Value.is, c.in-Value-rule.is, c.in-Value-n.is, c.in_default-m.is)
 
 pub returns-in_default-bars : goal.returns-in_default-bars
-returns-in_default-bars c = unfold field_reason in rw (c.in-Value.is, c.in-Value-rule.is, c.in-Value-n.is, c.in-Value-m.is, c.in_default-bars.is)
+returns-in_default-bars c =
+    unfold field_reason in
+    rw (c.in-Value.is, c.in-Value-rule.is, c.in-Value-n.is, c.in-Value-m.is, c.in_default-bars.is)

@@ -1,6 +1,5 @@
 -- `header_reason` meets its contract: the line feed's place comes first, and then the fields. Assumes nothing.
 use native.Mathlib.Omega.{arith}
-use borrow.Author.Rules.{rules}
 use Rattle.sheet_lines.specs.Reason.{header_reason}
 use Rattle.sheet_lines.proofs.LineLength.{fed_of, unfed_of, feed_within, no_feed_after, all_columns}
 use Rattle.sheet_lines.proofs.reasons.header_reason.Goals as goal

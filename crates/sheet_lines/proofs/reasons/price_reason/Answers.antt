@@ -1,6 +1,5 @@
 -- `price_reason` meets its contract: the line feed's place comes first. Assumes nothing.
 use native.Mathlib.Omega.{arith}
-use borrow.Author.Rules.{rules}
 use Rattle.sheet_lines.specs.Reason.{price_reason}
 use Rattle.sheet_lines.proofs.LineLength.{fed_of, unfed_of, feed_within, no_feed_after, all_columns}
 use Rattle.sheet_lines.proofs.reasons.price_reason.Goals as goal

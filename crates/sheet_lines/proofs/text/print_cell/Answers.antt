@@ -1,7 +1,6 @@
 -- `print_cell` meets its contract: each store prints one byte more. Assumes nothing.
 use Prim.Native.Nat.{◌+◌}
 use native.Mathlib.Omega.{arith}
-use borrow.Author.Rules.{rules}
 use lib.ListN.{length-set}
 use Rattle.sheet_lines.proofs.Printing.{add_none, add_byte}
 use Rattle.sheet_lines.proofs.text.print_cell.Goals as goal

@@ -1,5 +1,4 @@
 -- `print_position` meets its contract: its tests are those of `position_line`. Assumes nothing.
-use borrow.Author.Rules.{rules}
 use lib.Ieee.{of_bits}
 use Rattle.sheet_lines.proofs.text.print_position.Goals as goal
 

@@ -1,10 +1,9 @@
 -- `print_positions` meets its contract: each turn prints one position more. Assumes nothing.
 use mathlib.Core.Path.{◌≡◌, refl}
-use Prim.Native.Nat.{◌-◌, ◌≤◌}
+use Prim.Native.Nat.{◌-◌}
 use native.Mathlib.Omega.{arith}
 use borrow.Author.Rules.{rules}
-use Rattle.cells.specs.Line.{line}
-use Rattle.sheet_lines.proofs.Positions.{Printed, none_printed, one_printed}
+use Rattle.sheet_lines.proofs.Positions.{none_printed, one_printed}
 use Rattle.sheet_lines.proofs.text.print_positions.Goals as goal
 
 pub loop-i-init : goal.loop-i-init

@@ -1,10 +1,7 @@
 -- `print_positions` meets its contract: each turn prints one position more. Assumes nothing.
-use mathlib.Core.Path.{◌≡◌, refl}
 use Prim.Native.Nat.{◌-◌, ◌≤◌}
-use native.Mathlib.Omega.{arith}
-use borrow.Author.Rules.{rules}
 use Rattle.cells.specs.Line.{line}
-use Rattle.sheet_lines.proofs.Positions.{Printed, none_printed, one_printed}
+use Rattle.sheet_lines.proofs.Positions.{Printed}
 use Rattle.sheet_lines.proofs.text.print_positions.Given as goal
 
 abbrev pub invariant-loop-i : goal.invariant-loop-i

@@ -1,5 +1,4 @@
 -- `after` meets its contract: a refused request counts, and an answered one does not. Assumes nothing.
-use borrow.Author.Rules.{rules}
 use Rattle.sheet_requests.proofs.Counts.after.Goals as goal
 
 pub returns-in-Refused : goal.returns-in-Refused

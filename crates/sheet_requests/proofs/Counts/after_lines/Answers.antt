@@ -1,5 +1,4 @@
 -- `after_lines` meets its contract: so many lines more. Assumes nothing.
-use borrow.Author.Rules.{rules}
 use Rattle.sheet_requests.proofs.Counts.after_lines.Goals as goal
 
 pub returns : goal.returns

@@ -1,6 +1,5 @@
 -- `one_more` meets its contract: the count of the desk is advanced, and no other. Assumes nothing.
 use native.Mathlib.Omega.{arith}
-use borrow.Author.Rules.{rules}
 use Rattle.sheet_requests.proofs.Desks.{desk_between}
 use Rattle.sheet_requests.proofs.Counts.one_more.Goals as goal
 

@@ -1,11 +1,10 @@
 -- `print` meets its contract: each turn prints the line of one desk more. Assumes nothing.
 use mathlib.Core.Path.{◌≡◌}
-use Prim.Native.Nat.{◌+◌, ◌-◌, ◌≤◌}
+use Prim.Native.Nat.{◌+◌, ◌-◌}
 use native.Mathlib.Omega.{arith}
 use borrow.Author.Rules.{rules}
-use lib.ListN.{get_or}
 use Rattle.sheet_requests.specs.Counts.{desks}
-use Rattle.sheet_requests.proofs.Desks.{Printed, none_printed, one_printed}
+use Rattle.sheet_requests.proofs.Desks.{none_printed, one_printed}
 use Rattle.sheet_requests.proofs.Counts.print.Goals as goal
 
 pub loop-i-init : goal.loop-i-init

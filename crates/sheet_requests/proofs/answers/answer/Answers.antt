@@ -2,7 +2,6 @@
 -- whose answer, cells and work these are. Assumes nothing.
 use mathlib.Core.Path.{refl, sym}
 use native.Mathlib.Omega.{arith}
-use borrow.Author.Rules.{rules}
 use lib.Seq.{length-take-le}
 use Rattle.sheet_requests.proofs.Answered.{by_single, by_double, by_middle}
 use Rattle.sheet_requests.proofs.answers.answer.Goals as goal

@@ -1,7 +1,6 @@
 -- `answer_complete` meets its contract: the rule is asked for one of the desks, and for no other. Assumes nothing.
 use mathlib.Core.Path.{refl, sym, ◌∙◌}
 use native.Mathlib.Omega.{arith}
-use borrow.Author.Rules.{rules}
 use lib.ListN.{take}
 use Rattle.sheet_requests.proofs.answers.answer_complete.Goals as goal
 

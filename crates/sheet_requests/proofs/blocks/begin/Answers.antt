@@ -1,5 +1,4 @@
 -- `begin` meets its contract: no request is refused yet. Assumes nothing.
-use borrow.Author.Rules.{rules}
 use Rattle.sheet_requests.proofs.blocks.begin.Goals as goal
 
 pub returns : goal.returns

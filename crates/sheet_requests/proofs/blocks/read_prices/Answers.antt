@@ -1,12 +1,9 @@
 -- `read_prices` meets its contract: each turn gathers one price more, or meets a broken line. Assumes nothing.
 use mathlib.Core.Bool.{true≢false, false≢true}
-use Prim.Native.Nat.{◌+◌, ◌-◌, ◌*◌, ◌≤◌}
+use Prim.Native.Nat.{◌-◌}
 use native.Mathlib.Omega.{arith}
 use borrow.Author.Count.{falls}
-use borrow.Author.Rules.{rules}
-use lib.ListN.{length}
-use Rattle.sheet_lines.specs.Header.{price_bytes}
-use Rattle.sheet_requests.proofs.Prices.{PricesSoFar, none_read, one_read, one_broken}
+use Rattle.sheet_requests.proofs.Prices.{none_read, one_read, one_broken}
 use Rattle.sheet_requests.proofs.blocks.read_prices.Goals as goal
 
 pub loop-i-init : goal.loop-i-init

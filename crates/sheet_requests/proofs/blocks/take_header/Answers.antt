@@ -3,7 +3,6 @@ use mathlib.Core.Path.{sym, ◌∙◌}
 use Prim.Native.Nat.{◌+◌}
 use mathlib.Core.List.{List}
 use native.Mathlib.Omega.{arith}
-use borrow.Author.Rules.{rules}
 use lib.Seq.{slice}
 use lib.Ieee.{Float}
 use Rattle.sheet_lines.specs.Header.{header_bytes}
@@ -32,7 +31,8 @@ returns-in_default c series =
     let room = rw c.requires.0 at c.requires.2.room in
     stops (c.args.place.at + header_bytes) c.args.place.sheet.counts c.header_reason-reason.result
     c.stop.ensures
-    (λ more. read (goal.at.returns-in_default c).After-read_header series more ∙ rw (c.in_default.is, c.header_reason-reason.ensures)) (omega arith)
+    (λ more. read (goal.at.returns-in_default c).After-read_header series more
+    ∙ rw (c.in_default.is, c.header_reason-reason.ensures)) (omega arith)
 
 pub returns : goal.returns
 returns c series =

@@ -1,7 +1,6 @@
 -- `take_lines` meets its contract: the stage says what the next
 -- line is, and where it is stopped nothing more is read. Assumes nothing.
 use native.Mathlib.Omega.{arith}
-use borrow.Author.Rules.{rules}
 use Rattle.sheet_requests.proofs.Lines.{outcome_stopped}
 use Rattle.sheet_requests.proofs.blocks.take_lines.Goals as goal
 

@@ -1,6 +1,5 @@
 -- `take_prices` meets its contract: the lines are prices, or one of them is broken. Assumes nothing.
 use native.Mathlib.Omega.{arith}
-use borrow.Author.Rules.{rules}
 use Rattle.sheet_requests.proofs.Steps.{stops}
 use Rattle.sheet_requests.proofs.blocks.take_prices.Goals as goal
 

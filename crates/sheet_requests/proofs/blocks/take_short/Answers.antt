@@ -1,6 +1,5 @@
 -- `take_short` meets its contract: a line feed among too few bytes breaks the line. Assumes nothing.
 use native.Mathlib.Omega.{arith}
-use borrow.Author.Rules.{rules}
 use mathlib.Core.List.{[]}
 use lib.ListN.{length, drop, length-drop}
 use Rattle.sheet_lines.specs.declared.reasons.Reason.TheVariants.{LineLength}

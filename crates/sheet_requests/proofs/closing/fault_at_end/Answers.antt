@@ -1,6 +1,5 @@
 -- `fault_at_end` meets its contract: each arm says where the input breaks in its stage. Assumes nothing.
 use mathlib.Core.Path.{◌∙◌}
-use borrow.Author.Rules.{rules}
 use Rattle.sheet_requests.proofs.Ends.{ends_waiting, ends_stopped, cut_waiting, cut_collecting}
 use Rattle.sheet_requests.proofs.closing.fault_at_end.Goals as goal
 

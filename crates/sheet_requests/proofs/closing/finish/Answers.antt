@@ -1,5 +1,4 @@
 -- `finish` meets its contract: after a failed read or write nothing is printed. Assumes nothing.
-use borrow.Author.Rules.{rules}
 use Rattle.sheet_requests.proofs.Ends.{nothing_last}
 use Rattle.sheet_requests.proofs.closing.finish.Goals as goal
 

@@ -1,5 +1,4 @@
 -- `missing_line` meets its contract: the line after those that were read. Assumes nothing.
-use borrow.Author.Rules.{rules}
 use Rattle.sheet_requests.proofs.closing.missing_line.Goals as goal
 
 pub returns : goal.returns

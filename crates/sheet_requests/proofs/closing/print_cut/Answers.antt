@@ -1,6 +1,5 @@
 -- `print_cut` meets its contract: what is printed last follows the broken request's line. Assumes nothing.
 use native.Mathlib.Omega.{arith}
-use borrow.Author.Rules.{rules}
 use Rattle.sheet_lines.proofs.Printing.{add_more}
 use Rattle.sheet_requests.proofs.closing.print_cut.Goals as goal
 

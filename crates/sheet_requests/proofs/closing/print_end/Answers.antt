@@ -1,7 +1,6 @@
 -- `print_end` meets its contract: each arm prints what the end of the input gives in its stage. Assumes nothing.
 use mathlib.Core.Path.{◌≡◌, sym, ap, ◌∙◌}
 use native.Mathlib.Omega.{arith}
-use borrow.Author.Rules.{rules}
 use Rattle.sheet_requests.specs.Sheet.{Outcome}
 use Rattle.sheet_requests.proofs.Ends.{ends_waiting, ends_stopped, cut_waiting, cut_collecting}
 use Rattle.sheet_requests.proofs.closing.print_end.Goals as goal

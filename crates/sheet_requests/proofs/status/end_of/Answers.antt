@@ -1,6 +1,4 @@
 -- `end_of` meets its contract: only a run that read and wrote all can have another status than 1. Assumes nothing.
-use mathlib.Core.Path.{◌∙◌}
-use borrow.Author.Rules.{rules}
 use Rattle.sheet_requests.proofs.status.end_of.Goals as goal
 
 pub returns-in-Done : goal.returns-in-Done

@@ -1,5 +1,4 @@
 -- `end_of_all` meets its contract: a line that broke is told. Assumes nothing.
-use borrow.Author.Rules.{rules}
 use Rattle.sheet_requests.proofs.status.end_of_all.Goals as goal
 
 pub returns-in-Nowhere : goal.returns-in-Nowhere

@@ -1,5 +1,5 @@
 -- `accepted_from` meets its contract: the quick test is enough, and else each number is tested. Assumes nothing.
-use Rattle.std.proofs.Common.{arith, rules}
+use Rattle.std.proofs.Common.{arith}
 use Rattle.values.proofs.Quick.{quick_passing}
 use Rattle.values.proofs.series.accepted_from.Goals as goal
 

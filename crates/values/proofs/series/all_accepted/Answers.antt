@@ -1,5 +1,5 @@
 -- `all_accepted` meets its contract: from index 0 on there are all numbers. Assumes nothing.
-use Rattle.std.proofs.Common.{arith, rules}
+use Rattle.std.proofs.Common.{arith}
 use Rattle.values.proofs.Part.{all_passing}
 use Rattle.values.proofs.series.all_accepted.Goals as goal
 

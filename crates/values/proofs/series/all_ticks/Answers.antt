@@ -1,6 +1,6 @@
 -- `all_ticks` meets its contract: the first number decides, or the quick test, or each number is tested. Assumes
 -- nothing.
-use Rattle.std.proofs.Common.{length, sym, ◌∙◌, arith, rules}
+use Rattle.std.proofs.Common.{sym, ◌∙◌, arith}
 use Rattle.values.specs.Accepted.{tick}
 use Rattle.values.specs.inner.Fraction.{comes_back}
 use Rattle.values.proofs.All.{all_next, all_none, all_same}
@@ -21,8 +21,8 @@ returns-then-found-le-LARGEST_TICK_BITS c =
 pub returns : goal.returns
 returns c =
     rw (
-  all_next tick c.args.s.now 0 (omega arith),
-  ←
-      c.is_tick.ensures,
-  c.if-is_tick.false,
-)
+      all_next tick c.args.s.now 0 (omega arith),
+      ←
+          c.is_tick.ensures,
+      c.if-is_tick.false,
+    )

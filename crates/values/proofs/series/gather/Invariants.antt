@@ -1,12 +1,9 @@
 -- `gather` meets its contract: each turn adds one number's bits and its test. Assumes nothing.
-use Rattle.std.proofs.Common.{◌≡◌, ◌-◌, ◌≤◌, ◌&&◌, length, drop, sym, refl, arith, rules}
+use Rattle.std.proofs.Common.{◌-◌, ◌≤◌, length}
 use Rattle.cells.specs.Line.{line}
-use Rattle.values.specs.Accepted.{all}
 use Rattle.values.specs.inner.Quick.{BitsOf}
 use Rattle.values.specs.inner.Fraction.{comes_back}
 use Rattle.values.specs.inner.Part.{Passing}
-use Rattle.values.proofs.Part.{none_passing, one_passing, all_passing}
-use Rattle.values.proofs.Quick.{capped_number, more_bits, no_bits}
 use Rattle.values.proofs.series.gather.Given as goal
 
 abbrev pub invariant-loop-i : goal.invariant-loop-i

@@ -1,7 +1,6 @@
 -- `or_of_bits` meets its contract: each turn adds one number's bits. Assumes nothing.
-use Rattle.std.proofs.Common.{◌≡◌, ◌-◌, ◌≤◌, arith, rules}
+use Rattle.std.proofs.Common.{◌-◌, ◌≤◌}
 use Rattle.values.specs.inner.Quick.{BitsOf}
-use Rattle.values.proofs.Quick.{capped_number, more_bits, no_bits}
 use Rattle.cells.specs.Line.{line}
 use Rattle.values.proofs.series.or_of_bits.Given as goal
 

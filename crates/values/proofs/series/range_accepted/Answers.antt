@@ -1,10 +1,9 @@
 -- `range_accepted` meets its contract: each turn adds the two tests of one number. Assumes nothing.
-use Rattle.std.proofs.Common.{◌≡◌, ℕ, ◌-◌, ◌^◌, ◌≤◌, Bool, not, ◌&&◌, eqb, arith, rules}
+use Rattle.std.proofs.Common.{◌≡◌, ℕ, ◌^◌, Bool, not, ◌&&◌, eqb, arith}
 use lib.Ieee.{Float, binary64, to_bits}
-use Rattle.cells.specs.Line.{line}
 use Rattle.limits.specs.Limits.{value_power}
 use Rattle.values.specs.Accepted.{within, accepted}
-use Rattle.values.proofs.Both.{Tested, none_tested, one_tested}
+use Rattle.values.proofs.Both.{none_tested, one_tested}
 use Rattle.values.proofs.series.range_accepted.Goals as goal
 
 -- a value's two tests
@@ -21,7 +20,8 @@ loop-i-preserved c =
     let at = c.loop-i in (
       omega arith,
       one_tested c.within_limit-within.result c.minus_zero_bits-minus_zeros.result _ at.invariant.1
-          (parts _ _ c.minus_zero_bits-minus_zeros.result c.within_limit-within.ensures c.minus_zero_bits-minus_zeros.ensures)
+          (parts _ _ c.minus_zero_bits-minus_zeros.result c.within_limit-within.ensures
+          c.minus_zero_bits-minus_zeros.ensures)
           (omega arith),
     )
 

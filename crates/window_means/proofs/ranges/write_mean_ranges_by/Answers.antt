@@ -1,7 +1,6 @@
 -- `write_mean_ranges_by` meets its contract: the ranges of the means that stand in the slice. Assumes nothing.
 use mathlib.Core.Path.{sym}
 use native.Mathlib.Omega.{arith}
-use borrow.Author.Rules.{rules}
 use Rattle.extremes.specs.Extreme.{larger, smaller, extreme}
 use Rattle.extremes.proofs.Extreme.{causal_extreme}
 use Rattle.exact_ticks.proofs.Bounds.{means_room}

@@ -1,16 +1,10 @@
 -- `slide_means` meets its contract: each turn moves the sum on by two bars and writes their means; then at most one
 -- bar is left. Assumes nothing.
-use Prim.Native.Nat.{◌+◌, ◌-◌, ◌≤◌}
+use Prim.Native.Nat.{◌+◌}
 use native.Mathlib.Omega.{arith}
-use borrow.Author.Rules.{rules}
-use lib.ListN.{length, length-set}
-use Rattle.cells.specs.Line.{line}
-use Rattle.cells.specs.Written.{Writing}
+use lib.ListN.{length-set}
 use Rattle.cells.proofs.Written.{one_more, step, ends}
-use Rattle.windows.specs.inner.Sums.{Running}
 use Rattle.windows.proofs.Window.{first_running, next_running, same_bar, count_is_float}
-use Rattle.windows.specs.Window.{add_difference}
-use Rattle.windows.specs.inner.Means.{running_mean, on_from}
 use Rattle.windows.proofs.Means.{none_on, mean_on}
 use Rattle.windows.proofs.sliding.slide_means.Goals as goal
 

@@ -1,7 +1,6 @@
 -- `write_running_means` meets its contract: the lead, the first mean, and the running means after it. Assumes nothing.
 use mathlib.Core.Path.{◌∙◌}
 use native.Mathlib.Omega.{arith}
-use borrow.Author.Rules.{rules}
 use lib.ListN.{length-set}
 use lib.Ieee.{of_bits}
 use Rattle.cells.proofs.Leads.{lead_only}

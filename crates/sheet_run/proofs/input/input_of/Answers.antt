@@ -3,7 +3,6 @@ use mathlib.Core.Path.{◌≡◌, refl, ◌∙◌}
 use mathlib.Core.Bool.{true, false, true≢false}
 use Prim.Native.Nat.{ℕ, zero, suc}
 use native.Mathlib.Omega.{arith}
-use borrow.Author.Rules.{rules}
 use borrow.Author.Tests.{ltb-true}
 use lib.IntN.{ℤ, pos, negsuc}
 use lib.ListN.{length}
@@ -12,8 +11,7 @@ use mir.Facts.{to_z-of_z}
 use Rattle.io.specs.Counts.{clamp_len}
 use Rattle.sheet_run.specs.declared.input.Input.TheVariants.{Bytes, Failed}
 use Rattle.sheet_run.specs.Run.{input_from, input_of}
-use Rattle.sheet_run.proofs.input.input_of.Statement.{statement}
-use Rattle.sheet_run.proofs.input.input_of.Tie as tie
+use Rattle.sheet_run.proofs.input.input_of.Goals as goal
 
 below : (z : ℤ) (room : ℕ) → lt_z z (pos 0) ≡ true → Failed ≡ input_of z room
 unfolding input_of
@@ -29,28 +27,20 @@ some : (n : ℕ) → (n ≡ 0 → ⊥) → Bytes n ≡ input_from n
 some zero e = absurd (e refl)
 some (suc n) e = refl
 
--- what the count says
-count : (c : tie.After-count) →
-    let a = c.before.before.before.args in
-    input_from c.count.result ≡ input_of a.got (length a.room.now)
-count c =
-    let start = c.before.before.before in
-    let a = start.args in
-    let got = to_z-of_z start.ranges.got in
-    counted a.got (length a.room.now) c.count.result (rw got at c.before.if1.false)
-    (rw got at c.count.ensures.1)
+pub returns-then-got-lt0 : goal.returns-then-got-lt0
+returns-then-got-lt0 c =
+    below c.args.got (length c.args.room.now) (rw (to_z-of_z c.ranges.got) at c.if-got-lt0.true)
 
-returns : tie.Need-returns
-returns c =
-    let start = c.before.before in
-    below start.args.got (length start.args.room.now) (rw (to_z-of_z start.ranges.got) at c.if1.true)
+pub returns-then-count-eq0 : goal.returns-then-count-eq0
+returns-then-count-eq0 c =
+    let got = to_z-of_z c.ranges.got in
+    rw c.if-count-eq0.true at
+    (counted c.args.got (length c.args.room.now) c.count-count.result (rw got at c.if-got-lt0.false)
+    (rw got at c.count-count.ensures.value))
 
-pub input-of-spec : {M : Type 1} → statement M
-input-of-spec =
-    tie.close
-    (tie.spec
-    returns
-    (λ c κs. search rules)  -- count-requires
-    (λ c. rw c.if2.true at (count c.before))  -- returns-2
-    (λ c. some c.before.count.result c.if2.false ∙ count c.before)  -- returns-3
-    )
+pub returns-else-count-eq0 : goal.returns-else-count-eq0
+returns-else-count-eq0 c =
+    let got = to_z-of_z c.ranges.got in
+    some c.count-count.result c.if-count-eq0.false
+    ∙ counted c.args.got (length c.args.room.now) c.count-count.result (rw got at c.if-got-lt0.false)
+    (rw got at c.count-count.ensures.value)
