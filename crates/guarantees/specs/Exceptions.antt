@@ -62,8 +62,8 @@ single_ema_cell s n c i h = (bar nan accepted s (n ∷ []) _ c.call i h).cell
 -- third pass only bar 2's was not 0, and then bar 4's is not 0 either.
 pub jurik_looks_ahead : Changed (λ s. JurikCall s 2 plus_one) (prices (pos 0 ∷ pos 1 ∷ pos 1 ∷ pos 1 ∷ [])) (num 0) 3
     plus_zero half
-unfolding jurik_line jurik_with smooth1 smooth2 jv_of jv price_change averaged copied first_differing change carried first_bar
-    recur from_bar magnitude_of is_nan neg add sub mul div of_int round eq
+unfolding jurik_line jurik_with smooth1 smooth2 jv_of jv price_change averaged copied first_differing change carried
+    first_bar recur from_bar magnitude_of is_nan neg add sub mul div of_int round eq
 jurik_looks_ahead =
     record {
       inside = omega arith;
@@ -74,8 +74,8 @@ jurik_looks_ahead =
 
 -- single_ema_positions with n 1: bar 0 of 0 has 1, and with a 1 after it 0. Its start was bar 0, and then it is bar 1.
 pub single_ema_looks_ahead : Changed (λ s. SingleEmaCall s 1) (prices (pos 0 ∷ [])) (num 1) 0 plus_one plus_zero
-unfolding single_ema_line single_ema_from ema_of_means first_usable first_bar carried recur mean window_sum sum_from from_bar
-    sign_of add sub mul div of_int eq round
+unfolding single_ema_line single_ema_from ema_of_means first_usable first_bar carried recur mean window_sum sum_from
+    from_bar sign_of add sub mul div of_int eq round
 single_ema_looks_ahead =
     record {
       inside = omega arith;

@@ -3,7 +3,6 @@
 -- `from_c_of` for those about `Cells (length s)`. Shown here for a function of each shape: one output, a work slice,
 -- whole-number cells, three outputs, two series, three series, and two calls. Assumes nothing.
 use Rattle.std.specs.Prelude.{◌≡◌, true, List, ℕ, ◌+◌, ◌<◌, ◌≤◌, ℤ, pos, length, get_or, Float}
-use Rattle.std.proofs.Common.{sym}
 use Rattle.std.specs.Float.{nan, binary64}
 use Rattle.std.specs.Float.Ieee.{fits}
 use Rattle.rounding.specs.Leaves.{plus_one}
@@ -14,21 +13,16 @@ use Rattle.calls.specs.declared.Answer.TheVariants.{Cells}
 use Rattle.calls.specs.declared.numbers.CAnswer.{CAnswer}
 use Rattle.calls.specs.Numbers.{InNumbers}
 use Rattle.calls.proofs.InNumbers.{accepted_call}
-use Rattle.averages.specs.Sma.{SmaCall}
-use Rattle.true_range.specs.TrueRange.{supplied, TrueRangeCall}
 use Rattle.bands.specs.Bands.{UltimateBandsCall}
 use Rattle.rules_double.specs.Double.{double_line}
 use Rattle.rules_double_ranges.specs.Ranges.{RangesCall}
 use Rattle.rules_held.specs.Held.{flat}
 use Rattle.rules_single.specs.Single.{SingleCall}
 use Rattle.rules_triple.specs.Triple.{TripleCall}
-use Rattle.guarantees.specs.Series.{WholeTicks}
-use Rattle.guarantees.specs.OnTicks.{window_sum_of, IsMean, sma_on_ticks}
 use Rattle.guarantees.specs.Ranges.{Inside, ranges_all_long}
 use Rattle.guarantees.specs.Positions.{Position, single_writes_positions}
 use Rattle.guarantees.specs.WholeCells.{WholePosition, triple_writes_positions}
 use Rattle.guarantees.specs.NanLines.{bands_outer_lines_nan}
-use Rattle.guarantees.specs.NoLookAhead.{EqualBars, EqualCells, sma_no_look_ahead, true_range_no_look_ahead}
 
 module _ {P : Answer → Type 0} {r : CAnswer} (c : InNumbers P r) (e : r.refusal ≡ 0) where
   -- Any C function: what its call promises with refusal 0.
@@ -38,12 +32,6 @@ module _ {P : Answer → Type 0} {r : CAnswer} (c : InNumbers P r) (e : r.refusa
   -- The same where the count is known, as the number of bars.
   pub from_c_of : (l : ℕ) → r.count ≡ l → P (Cells l)
   from_c_of l k = rw k at from_c
-
--- One output and no work slice: on whole ticks each cell of `tegbalowu_sma` is the mean of the last n prices.
-pub sma_from_c : {s out₀ out₁ : List Float} (n : ℕ) {r : CAnswer} → WholeTicks s
-    → InNumbers (λ a. SmaCall s n out₀ a out₁) r
-    → r.refusal ≡ 0 → (i : ℕ) → n ≤ i + 1 → i < r.count → IsMean (window_sum_of n s i) n (get_or out₁ i nan)
-sma_from_c n w c e = sma_on_ticks w n (from_c c e)
 
 -- With a work slice: each cell of `tegbalowu_single_sma_positions` is a position.
 pub single_from_c : (s : List Float) {out₀ work₀ out₁ work₁ : List Float} (n : ℕ) {r : CAnswer}
@@ -74,27 +62,3 @@ pub ranges_from_c : (low high : List Float) (n m : ℕ) {out₀ out₁ : List �
     → get_or out₁ i (pos 0) ≡ pos 1 → double_line n m (line s) i ≡ plus_one
 ranges_from_c low high n m v w c e i h b inside =
     ranges_all_long low high n m v w (from_c c e) i h b inside
-
--- Two calls: equal bars up to bar b give equal cells of `tegbalowu_sma` up to it.
-pub sma_from_c_no_look_ahead : {s t out₀ out₁ out₀' out₁' : List Float} {b : ℕ} (n : ℕ) {r r' : CAnswer}
-    → EqualBars s t b
-    → InNumbers (λ a. SmaCall s n out₀ a out₁) r → r.refusal ≡ 0 → r.count ≡ length s
-    → InNumbers (λ a. SmaCall t n out₀' a out₁') r' → r'.refusal ≡ 0 → r'.count ≡ length t
-    → EqualCells nan out₁ out₁' b
-sma_from_c_no_look_ahead {s = s} {t} n equal c e k c' e' k' =
-    sma_no_look_ahead equal n (from_c_of c e (length s) k) (from_c_of c' e' (length t) k')
-
--- Two calls of three series: likewise for `tegbalowu_true_range`, where both flags are set and the closes before bar 0
--- are equal, or neither flag is set, whatever the closes.
-pub true_range_from_c_no_look_ahead : {high low before high' low' before' out₀ out₁ out₀' out₁' : List Float} {b : ℕ}
-    (known known' : ℕ) (close close' : Float) {r r' : CAnswer}
-    → EqualBars high high' b → EqualBars low low' b → EqualBars before before' b
-    → supplied known close ≡ supplied known' close'
-    → InNumbers (λ a. TrueRangeCall high low before (supplied known close) out₀ a out₁) r
-    → r.refusal ≡ 0 → r.count ≡ length high
-    → InNumbers (λ a. TrueRangeCall high' low' before' (supplied known' close') out₀' a out₁') r'
-    → r'.refusal ≡ 0 → r'.count ≡ length high'
-    → EqualCells nan out₁ out₁' b
-true_range_from_c_no_look_ahead {high = high} {high' = high'} known known' close close' h l p same c e k c' e' k' =
-    true_range_no_look_ahead h l p (supplied known close) (from_c_of c e (length high) k)
-    (rw (sym same) at (from_c_of c' e' (length high') k'))

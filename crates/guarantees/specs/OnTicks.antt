@@ -12,7 +12,6 @@ use Rattle.rounding.specs.Whole.{is_negative}
 use Rattle.rounding.specs.Nearest.{NearestTo, Number, distance}
 use Rattle.rounding_laws.proofs.About.{About, fine}
 use Rattle.rounding_laws.proofs.Quotient.{quotient, Whole, quotient_is, quotient_nearest, quotient_zero}
-use Rattle.limits.specs.Limits.{Window}
 use Rattle.calls.specs.declared.Answer.TheVariants.{Cells}
 use Rattle.cells.specs.Line.{plus_zero, line}
 use Rattle.cells.proofs.Line.{from_bar_lem}
@@ -20,11 +19,10 @@ use Rattle.rules_double.proofs.Open.{double_opened, double_room, double_whole}
 use Rattle.rules_double.specs.Double.{DoubleCall}
 use Rattle.exact_ticks.proofs.Exact.{window_whole, TickLine}
 use Rattle.averages.proofs.Ticks.{sma_exact}
-use Rattle.exact_ticks.proofs.Errors.{mean_of_means_about}
 use Rattle.averages_ticks.proofs.Nearest.{tick_nearest}
 use Rattle.averages_ticks.specs.Nearest.{NearestWhole}
 use Rattle.averages_ticks.specs.TickMean.{TickMeanCall, tick_mean_line}
-use Rattle.windows.specs.Window.{window_total, mean}
+use Rattle.windows.specs.Window.{window_total}
 use Rattle.guarantees.specs.Series.{WholeTicks, price}
 use Rattle.rules_double.proofs.Ticks.{double_exact}
 use Rattle.rules_single.proofs.Ticks.{single_exact}
@@ -68,7 +66,7 @@ pub record IsNearMean (z : ℤ) (c : ℕ) (x : Float) : Type 0 where
   pub number : Number binary64 x
   pub near : distance binary64 x z c * 131072 ≤ c * 2 ^ low binary64
 
-near_mean : {x : Float} {z : ℤ} {c : ℕ} → About binary64 x z c (c * (2 ^ 34 + 2 ^ 26)) → IsNearMean z c x
+pub near_mean : {x : Float} {z : ℤ} {c : ℕ} → About binary64 x z c (c * (2 ^ 34 + 2 ^ 26)) → IsNearMean z c x
 near_mean {x} {z} {c} a =
     record { number = a.number; near = small (distance binary64 x z c) (fine binary64) a.close }
   where
@@ -87,15 +85,6 @@ pub whole_ticks : {s : List Float} → WholeTicks s → TickLine (length s) (lin
 whole_ticks {s} w = tick_line s (λ i h. is_true _ (all_at (fits binary64) s i w.floats h)) w.ticks
 
 -- ---- the statements
-
--- The doubly averaged price of any series of whole ticks, in a call or not: from bar 2n - 2 it is at most 1/131,072
--- tick from D / (n · n).
-pub doubly_averaged_on_ticks : {s : List Float} → WholeTicks s → (n : ℕ) → Window n → (i : ℕ) → 2 * n ≤ i + 2
-    → i < length s → IsNearMean (D n s i) (n * n) (mean n (mean n (line s)) i)
-doubly_averaged_on_ticks w n v i b h =
-    let M = v.narrow in
-    near_mean
-    (mean_of_means_about (whole_ticks w) n v.some (omega arith) n v.some (omega arith) i (omega arith) h)
 
 module _ {s out₀ out₁ : List Float} (w : WholeTicks s) (n : ℕ) {k : ℕ} where
   -- sma: from bar n - 1 each cell is the mean of the last n prices.

@@ -154,12 +154,12 @@ module _ {A : Type 0} (cell : A → Cell) (f : ℕ → A) (s : List Float) (cell
   working due d e out₀ out₁ work₀ work₁ r long wide c = leaves (rw (long, wide) d) e long c.call
 
 pub starred : Every Holds table
-unfolding sma_line carried total to_tick tick_mean_line single_line running_mean double_line double_answer mean window_sum
-    sum_from running_sum recur from_bar slices checked windowed answered accepted tick sign_of add sub mul div of_int
-    to_signed whole lt eq le to_bits rank_line whole_rank below_now count_from round_to_whole round rolling_rank_line
-    rolling_rank_answer ten_to_minus magnitude_of neg mms_line extreme pick_from turned_bands band_signals answered_with hold
-    moved deviation sqrt_of nearest_root root root_below finite holt_winters_line holt_winters_answer fit_line fit_within
-    next_fit
+unfolding sma_line carried total to_tick tick_mean_line single_line running_mean double_line double_answer mean
+    window_sum sum_from running_sum recur from_bar slices checked windowed answered accepted tick sign_of add sub mul
+    div of_int to_signed whole lt eq le to_bits rank_line whole_rank below_now count_from round_to_whole round
+    rolling_rank_line rolling_rank_answer ten_to_minus magnitude_of neg mms_line extreme pick_from turned_bands
+    band_signals answered_with hold moved deviation sqrt_of nearest_root root root_below finite holt_winters_line
+    holt_winters_answer fit_line fit_within next_fit
 starred =
     plain number _ _ _ (λ s o. answered accepted s (2 ∷ []) o []) refl refl
     also plain number _ _ _ (λ s o. double_answer s 1 2 o) refl refl

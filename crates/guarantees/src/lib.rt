@@ -1,1 +1,3 @@
+#![tactic(auto)]
+
 // What is proved of the definitions alone: see specs/.
