@@ -1,3 +1,2 @@
-#![tactic(auto)]
-
 // What holds of windows, means and extremes of whole ticks: see proofs/.
+#![tactic(auto)]

@@ -66,6 +66,7 @@ pub record IsNearMean (z : ℤ) (c : ℕ) (x : Float) : Type 0 where
   pub number : Number binary64 x
   pub near : distance binary64 x z c * 131072 ≤ c * 2 ^ low binary64
 
+-- Such an x is a number within an error of that size.
 pub near_mean : {x : Float} {z : ℤ} {c : ℕ} → About binary64 x z c (c * (2 ^ 34 + 2 ^ 26)) → IsNearMean z c x
 near_mean {x} {z} {c} a =
     record { number = a.number; near = small (distance binary64 x z c) (fine binary64) a.close }

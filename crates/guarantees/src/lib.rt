@@ -1,3 +1,2 @@
+// What is proved of the definitions alone: see specs/ and proofs/.
 #![tactic(auto)]
-
-// What is proved of the definitions alone: see specs/.

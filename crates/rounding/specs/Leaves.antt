@@ -1,6 +1,6 @@
--- The leaves: what `magnitude`, `sign` and `round_to_whole` give, for every f64. `is_nan` gives `is_nan` of lib.Ieee.
--- A float is `nan`, `inf s` or `fin s m e`, which is m * 2 ^ e, negative where s is true; there is one `nan`, so no
--- promise speaks of the bits inside a NaN. Assumes nothing.
+-- The leaves: what `magnitude`, `sign` and `round_to_whole` give, for every f64. The function `is_nan` gives the
+-- definition `is_nan` of std's Float.Ieee. A float is `nan`, `inf s` or `fin s m e`, which is m * 2 ^ e, negative where
+-- s is true; there is one `nan`, so no promise speaks of the bits inside a NaN. Assumes nothing.
 use Rattle.std.specs.Prelude.{ℕ, ◌+◌, ◌*◌, ◌/◌, Bool, true, false, ℤ, pos}
 use lib.Ieee.{Float, nan, inf, fin, binary64, up, down, round}
 

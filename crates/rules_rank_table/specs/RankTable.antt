@@ -13,8 +13,7 @@ use Rattle.rules_rank.specs.Rank.{whole_rank, below_now}
 use Rattle.rules_rank_table.specs.Table.{Row, rows_read, table_checked, position_for}
 
 -- the rank of `rank_positions` for c of m means below, in whole hundredths: `to_signed 31` is Rust's `as i32`, for
--- which
--- -0.0 is 0
+-- which -0.0 is 0
 abbrev pub rank_number : ℕ → ℕ → ℤ
 rank_number c m = to_signed 31 (whole_rank c m)
 

@@ -19,7 +19,7 @@ fn words(why: &str) -> &str {
 }
 
 // Writes a line to standard error, as C's perror does: what failed, a colon and why. Where that fails nothing is said.
-pub fn tell(errors: Stderr, what: &str, why: Error) {
+pub(crate) fn tell(errors: Stderr, what: &str, why: Error) {
     let mut bytes = [0u8; 256];
     let mut room = &mut bytes[..];
     let _ = write!(room, "{why}");

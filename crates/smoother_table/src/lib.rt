@@ -85,8 +85,7 @@ pub struct Coefficients {
 }
 
 impl Coefficients {
-    // Period 0. Its c1 and c2 are NaN, which no constant holds today: here they are 0.0, and `of_period` divides each
-    // by itself.
+    // Period 0. Its c1 and c2 are NaN: here they are 0.0, and `of_period` divides each by itself.
     const PERIOD_0: Coefficients = Coefficients {
         c1: 0.0,
         c2: 0.0,
