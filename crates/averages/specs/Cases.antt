@@ -1,10 +1,9 @@
 -- `sma` at small series, and answers at their edges, computed from the definitions. Assumes nothing.
-use Rattle.std.specs.Prelude.{false, List, [], ◌∷◌, map, ◌≡◌, refl, suc, pos, negsuc, replicate, Float}
+use Rattle.std.specs.Prelude.{false, List, [], ◌∷◌, map, ◌≡◌, refl, suc, pos, negsuc, replicate, Float, Ok, Err}
 use Rattle.std.specs.Float.{nan, fin}
 use Rattle.std.specs.Float.Ieee.{round, add, sub, div, of_int, lt, eq, le, to_bits, whole}
 use Rattle.limits.specs.Limits.{longest_window}
 use Rattle.calls.specs.declared.Refusal.TheVariants.{OutputTooShort, ValueNotAccepted, WindowTooLong}
-use Rattle.calls.specs.declared.Answer.TheVariants.{Cells, Refused}
 use Rattle.values.specs.Accepted.{accepted, tick}
 use Rattle.calls.specs.Answer.{slices, checked, windowed, answered}
 use Rattle.cells.specs.Line.{line, from_bar}
@@ -32,6 +31,6 @@ answers : answered accepted short (2 ∷ []) 3 []
     ∷ answered accepted short (suc longest_window ∷ []) 2 []
     ∷ answered tick (fin false 1 (negsuc 0) ∷ []) (1 ∷ []) 1 []
     ∷ []
-    ≡ Cells 3 ∷ Cells 0 ∷ Cells 0 ∷ Refused WindowTooLong ∷ Refused OutputTooShort ∷ Refused ValueNotAccepted ∷ []
+    ≡ Ok 3 ∷ Ok 0 ∷ Ok 0 ∷ Err WindowTooLong ∷ Err OutputTooShort ∷ Err ValueNotAccepted ∷ []
 unfolding short slices checked windowed answered accepted tick lt eq le to_bits whole
 answers = refl

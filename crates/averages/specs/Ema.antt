@@ -3,9 +3,8 @@ use Rattle.std.specs.Prelude.{List, [], ◌∷◌, ℕ, ◌-◌, Float, length}
 use Rattle.cells.specs.Line.{Line, line}
 use Rattle.windows.specs.Window.{mean}
 use Rattle.averages.specs.Blend.{ema_alpha, smooth_line}
-use Rattle.calls.specs.Answer.{answered}
+use Rattle.calls.specs.Answer.{answered, Answer}
 use Rattle.calls.specs.Call.{Call}
-use Rattle.calls.specs.declared.Answer.{Answer}
 use Rattle.values.specs.Accepted.{accepted}
 
 -- TA-Lib's EMA: the seed is the mean of the first n, at bar n - 1

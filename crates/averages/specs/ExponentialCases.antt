@@ -1,9 +1,8 @@
 -- The exponential averages at small series, and answers at their edges, computed from the definitions. Assumes nothing.
-use Rattle.std.specs.Prelude.{true, false, List, [], ◌∷◌, map, ◌≡◌, refl, ℤ, pos, negsuc, Float}
+use Rattle.std.specs.Prelude.{true, false, List, [], ◌∷◌, map, ◌≡◌, refl, ℤ, pos, negsuc, Float, Ok, Err}
 use Rattle.std.specs.Float.{nan, inf, fin}
 use Rattle.std.specs.Float.Ieee.{round, add, sub, mul, div, of_int, lt, eq, le, to_bits}
 use Rattle.calls.specs.declared.Refusal.TheVariants.{ParameterNotFinite}
-use Rattle.calls.specs.declared.Answer.TheVariants.{Cells, Refused}
 use Rattle.values.specs.Accepted.{accepted, finite}
 use Rattle.calls.specs.Answer.{slices, checked}
 use Rattle.cells.specs.Line.{line, from_bar}
@@ -36,6 +35,6 @@ exponential_case = refl
 -- any finite alpha is taken, and no bars give the empty answer
 exponential_answers : exponential_answer short (fin true 1 (pos 1023)) 3 ∷ exponential_answer [] (fin false 1 (pos 0)) 0
     ∷ exponential_answer short nan 3 ∷ []
-    ≡ Cells 3 ∷ Cells 0 ∷ Refused ParameterNotFinite ∷ []
+    ≡ Ok 3 ∷ Ok 0 ∷ Err ParameterNotFinite ∷ []
 unfolding short exponential_answer slices checked accepted finite lt eq le to_bits
 exponential_answers = refl

@@ -3,9 +3,8 @@ use Rattle.std.specs.Prelude.{List, [], ◌∷◌, ℕ, ◌+◌, ◌-◌, Float,
 use Rattle.std.specs.Float.{nan}
 use Rattle.cells.specs.Line.{Line, from_bar, line}
 use Rattle.windows.specs.Window.{over, running_sum, add_difference}
-use Rattle.calls.specs.Answer.{answered}
+use Rattle.calls.specs.Answer.{answered, Answer}
 use Rattle.calls.specs.Call.{Call}
-use Rattle.calls.specs.declared.Answer.{Answer}
 use Rattle.values.specs.Accepted.{accepted}
 
 -- the running sum divided by n, and NaN before bar n - 1

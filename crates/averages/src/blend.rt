@@ -5,8 +5,6 @@ ghost use Rattle.averages.specs.Blend.{blend};
 ghost use Rattle.averages.specs.inner.Blending.{blend_from};
 ghost use Rattle.averages.specs.inner.Tested.{TestedSeed, TestedHalf};
 
-use values::series::Tested;
-
 // alpha of x and the rest of `last`.
 pub fn blended(alpha: f64, last: f64, x: f64) -> f64
     ensures { result ≡ blend alpha last x }
@@ -20,35 +18,32 @@ fn blend_more(alpha: f64, last: f64, series: &[f64], at: usize, count: usize) ->
     ensures { result ≡ blend_from alpha last (line series.now) at count }
 {
     let mut cell = last;
-    let mut k = 0;
-    while k < count {
-        cell = blended(alpha, cell, series[at + k]);
-        k += 1;
+    for price in &series[at..at + count] {
+        cell = blended(alpha, cell, *price);
     }
     cell
 }
 
-// The cell half way through the bars after the seed, and whether a series may hold all prices. A cell waits for the
-// one before it, and the prices of both halves are tested meanwhile, eight at a time.
-pub fn blend_tested(series: &[f64], alpha: f64, first: usize, seed: Tested) -> Tested
-    requires { TestedSeed series.now first seed.accept }
-    ensures { TestedHalf series.now alpha first seed.value result }
+// The cell half way through the bars after the seed, if a series may hold all prices. A cell waits for the one before
+// it, and the prices of both halves are tested meanwhile, eight at a time.
+pub fn blend_tested(series: &[f64], alpha: f64, first: usize, seed: f64) -> Option<f64>
+    requires { TestedSeed series.now first }
+    ensures { TestedHalf series.now alpha first seed result }
 {
     let eights = (series.len() - first - 1) / 16;
     let low = first + 1;
     let high = low + 8 * eights;
-    let mut accept = seed.accept;
-    let mut last = seed.value;
-    let mut k = 0;
-    while k < eights {
-        accept = accept & values::series::range_accepted(series, low + 8 * k, 8);
-        accept = accept & values::series::range_accepted(series, high + 8 * k, 8);
+    let mut accept = true;
+    let mut last = seed;
+    for k in 0..eights {
+        accept &= values::series::range_accepted(series, low + 8 * k, 8);
+        accept &= values::series::range_accepted(series, high + 8 * k, 8);
         last = blend_more(alpha, last, series, low + 8 * k, 8);
-        k += 1;
     }
     let end = high + 8 * eights;
-    Tested {
-        accept: accept & values::series::range_accepted(series, end, series.len() - end),
-        value: last,
+    if accept & values::series::range_accepted(series, end, series.len() - end) {
+        Some(last)
+    } else {
+        None
     }
 }

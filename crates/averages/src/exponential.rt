@@ -10,21 +10,18 @@ ghost use Rattle.averages.specs.ExponentialSmoothing.{ExponentialSmoothingCall};
 ghost use Rattle.averages.specs.inner.Answers.{SmoothCall};
 
 use calls::{Answer, Refusal};
-use values::series::Tested;
 
 // The answer of a smoothed line whose lengths are in order. It writes nothing before all prices are tested.
-fn answer_smooth(series: &[f64], alpha: f64, first: usize, seed: Tested, out: &mut [f64]) -> Answer
-    requires { TestedSeed series.now first seed.accept × (length series.now ≤ length out.old) }
-    ensures { SmoothCall series.now alpha first seed.value out.old result
-        out.new }
+// Series, weight, first bar and seed are no struct: each function would take it apart at once.
+fn answer_smooth(series: &[f64], alpha: f64, first: usize, seed: f64, out: &mut [f64]) -> Answer
+    requires { TestedSeed series.now first × (length series.now ≤ length out.old) }
+    ensures { SmoothCall series.now alpha first seed out.old result out.new }
 {
-    let half = crate::blend::blend_tested(series, alpha, first, seed);
-    if half.accept {
-        crate::halves::write_smooth(series, alpha, first, seed.value, half.value, out);
-        Answer::Cells(series.len())
-    } else {
-        Answer::Refused(Refusal::ValueNotAccepted)
-    }
+    let Some(half) = crate::blend::blend_tested(series, alpha, first, seed) else {
+        return Err(Refusal::ValueNotAccepted);
+    };
+    crate::halves::write_smooth(series, alpha, first, seed, half, out);
+    Ok(series.len())
 }
 
 // The answer of `ema` where the window fits.
@@ -34,12 +31,10 @@ fn answer_from_mean(series: &[f64], n: usize, out: &mut [f64]) -> Answer
         out.old result out.new }
 {
     let alpha = 2.0 / ((n + 1) as f64);
-    let sum = crate::sum_tested(series, n);
-    let seed = Tested {
-        accept: sum.accept,
-        value: sum.value / (n as f64),
+    let Some(sum) = crate::sum_tested(series, n) else {
+        return Err(Refusal::ValueNotAccepted);
     };
-    answer_smooth(series, alpha, n - 1, seed, out)
+    answer_smooth(series, alpha, n - 1, sum / (n as f64), out)
 }
 
 // The answer of `exponential_smoothing` where the lengths and alpha are in order.
@@ -48,22 +43,20 @@ fn answer_from_first(series: &[f64], alpha: f64, out: &mut [f64]) -> Answer
     ensures { SmoothCall series.now alpha 0 (line series.now 0) out.old result
         out.new }
 {
-    let seed = Tested {
-        accept: values::series::range_accepted(series, 0, 1),
-        value: series[0],
-    };
-    answer_smooth(series, alpha, 0, seed, out)
+    if !values::series::range_accepted(series, 0, 1) {
+        return Err(Refusal::ValueNotAccepted);
+    }
+    answer_smooth(series, alpha, 0, series[0], out)
 }
 
 // The exponential mean with the weight 2 / (n + 1), from the mean of the first n prices on: TA-Lib's EMA.
 pub fn ema(series: &[f64], n: usize, out: &mut [f64]) -> Answer
     ensures { EmaCall series.now n out.old result out.new }
 {
-    if checks::window_fits(series.len(), n, out.len()) {
-        answer_from_mean(series, n, out)
-    } else {
-        crate::answer_lead(series, n, out)
+    if !checks::window_fits(series.len(), n, out.len()) {
+        return crate::answer_lead(series, n, out);
     }
+    answer_from_mean(series, n, out)
 }
 
 // The exponential mean with the weight alpha, from the first price on.
@@ -73,13 +66,10 @@ pub fn exponential_smoothing(series: &[f64], alpha: f64, out: &mut [f64]) -> Ans
     if checks::window_fits(series.len(), 1, out.len()) & values::is_finite(alpha) {
         return answer_from_first(series, alpha, out);
     }
-    let due = checks::check(series, out.len());
-    if let Answer::Refused(_) = due {
-        return due;
-    }
+    checks::check(series, out.len())?;
     if values::is_finite(alpha) {
-        Answer::Cells(0)
+        Ok(0)
     } else {
-        Answer::Refused(Refusal::ParameterNotFinite)
+        Err(Refusal::ParameterNotFinite)
     }
 }

@@ -29,13 +29,11 @@ fn blend_both(
 {
     let mut lower = last.lower;
     let mut upper = last.upper;
-    let mut k = 0;
-    while k < count {
+    for k in 0..count {
         lower = crate::blend::blended(alpha, lower, series[low + k]);
         upper = crate::blend::blended(alpha, upper, series[high + k]);
         out[low + k] = lower;
         out[high + k] = upper;
-        k += 1;
     }
     Ends { lower, upper }
 }
@@ -47,11 +45,9 @@ fn blend_rest(series: &[f64], alpha: f64, last: f64, from: usize, out: &mut [f64
         out.old out.new }
 {
     let mut cell = last;
-    let mut k = 0;
-    while from + k < series.len() {
-        cell = crate::blend::blended(alpha, cell, series[from + k]);
-        out[from + k] = cell;
-        k += 1;
+    for i in from..series.len() {
+        cell = crate::blend::blended(alpha, cell, series[i]);
+        out[i] = cell;
     }
 }
 
@@ -69,10 +65,8 @@ fn blend_halves(series: &[f64], alpha: f64, first: usize, seed: f64, middle: f64
         lower: seed,
         upper: middle,
     };
-    let mut k = 0;
-    while k < eights {
+    for k in 0..eights {
         last = blend_both(series, alpha, last, low + 8 * k, high + 8 * k, 8, out);
-        k += 1;
     }
     blend_rest(series, alpha, last.upper, high + 8 * eights, out);
 }

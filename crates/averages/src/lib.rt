@@ -19,26 +19,25 @@ ghost use Rattle.averages.specs.Sma.{sma_line, SmaCall};
 ghost use Rattle.averages.specs.inner.Stages.{TestedSum};
 
 use calls::{Answer, Refusal};
-use values::series::Tested;
 
-// The sum of the first n prices, and whether a series may hold them. An addition waits for the one before it, and the
-// prices are tested meanwhile, eight at a time.
-pub fn sum_tested(series: &[f64], n: usize) -> Tested
+// The sum of the first n prices, if a series may hold them. An addition waits for the one before it, and the prices are
+// tested meanwhile, eight at a time.
+pub fn sum_tested(series: &[f64], n: usize) -> Option<f64>
     requires { (0 < n) × (n ≤ length series.now) }
     ensures { TestedSum series.now n result }
 {
     let mut accept = true;
     let mut sum = -0.0;
-    let mut i = 0;
-    while n - i >= 8 {
-        accept = accept & values::series::range_accepted(series, i, 8);
-        sum = windows::sum_more(sum, series, i, 8);
-        i += 8;
+    let eights = n / 8;
+    for k in 0..eights {
+        accept &= values::series::range_accepted(series, 8 * k, 8);
+        sum = windows::sum_more(sum, series, 8 * k, 8);
     }
-    accept = accept & values::series::range_accepted(series, i, n - i);
-    Tested {
-        accept,
-        value: windows::sum_more(sum, series, i, n - i),
+    let end = 8 * eights;
+    if accept & values::series::range_accepted(series, end, n - end) {
+        Some(windows::sum_more(sum, series, end, n - end))
+    } else {
+        None
     }
 }
 
@@ -72,15 +71,15 @@ pub fn answer_lead(series: &[f64], n: usize, out: &mut [f64]) -> Answer
 pub fn sma(series: &[f64], n: usize, out: &mut [f64]) -> Answer
     ensures { SmaCall series.now n out.old result out.new }
 {
-    if checks::window_fits(series.len(), n, out.len()) {
-        let sum = sum_tested(series, n);
-        if sum.accept & values::series::accepted_from(series, n) {
-            write_means(series, n, sum.value, out);
-            Answer::Cells(series.len())
-        } else {
-            Answer::Refused(Refusal::ValueNotAccepted)
-        }
-    } else {
-        answer_lead(series, n, out)
+    if !checks::window_fits(series.len(), n, out.len()) {
+        return answer_lead(series, n, out);
     }
+    let Some(sum) = sum_tested(series, n) else {
+        return Err(Refusal::ValueNotAccepted);
+    };
+    if !values::series::accepted_from(series, n) {
+        return Err(Refusal::ValueNotAccepted);
+    }
+    write_means(series, n, sum, out);
+    Ok(series.len())
 }

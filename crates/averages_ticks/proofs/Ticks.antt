@@ -14,8 +14,7 @@ use mir.Syntax.{w64}
 use mir.Val.{SFits}
 use Rattle.values.specs.Accepted.{tick, all}
 use Rattle.values.proofs.All.{and_parts, all_at}
-use Rattle.calls.specs.declared.Answer.{Answer}
-use Rattle.calls.specs.Answer.{answered, count_of}
+use Rattle.calls.specs.Answer.{Answer, answered, count_of}
 use Rattle.calls.proofs.Room.{room, answered_room, answered_windows}
 use Rattle.cells.specs.Line.{line}
 use Rattle.cells.proofs.Line.{before_bar, from_bar_lem}

@@ -1,13 +1,12 @@
 -- Whole numbers in an i64: a number of small size keeps its value there, and sizes of sums. Assumes nothing.
 use mathlib.Core.Path.{◌≡◌, refl}
 use mathlib.Core.Bool.{true, false}
-use Prim.Native.Nat.{ℕ, suc, ◌^◌, ◌≤◌}
+use Prim.Native.Nat.{ℕ, ◌^◌, ◌≤◌}
 use native.Mathlib.Omega.{arith}
 use borrow.Author.Tests.{ltb-true}
-use lib.Dec.{T}
 use lib.Ieee.Nearest.{closest}
-use lib.IntN.{ℤ, pos, negsuc, neg_ℤ, nat_abs, ◌-ℤ◌, +ℤ_idl}
-use lib.Signed.{lt_z, non_neg}
+use lib.IntN.{ℤ, pos, negsuc, neg_ℤ, nat_abs}
+use lib.Signed.{lt_z}
 use mir.Syntax.{w64}
 use mir.Val.{SFits, of_z, to_z}
 use mir.ValLaws.{to_z-of_z}
@@ -25,14 +24,6 @@ pub kept : (z : ℤ) → nat_abs z ≤ 2 ^ 40 → held z ≡ z
 kept z h = to_z-of_z w64 z (in_i64 z h)
 
 -- ---- the sign, by the code's test
-
-pub below_zero : (z : ℤ) → lt_z z (pos 0) ≡ true → pos 0 -ℤ z ≡ pos (nat_abs z)
-below_zero (pos n) e = let l = ltb-true n 0 e in absurd (omega arith)
-below_zero (negsuc n) e = +ℤ_idl (pos (suc n))
-
-pub not_below : (z : ℤ) → lt_z z (pos 0) ≡ false → T (non_neg z)
-not_below (pos n) e = tt
-not_below (negsuc n) e = let z : ◌≡◌ {A = ℕ} 0 1 = cc in absurd (omega arith)
 
 pub tick_below : (z : ℤ) (n : ℕ) → lt_z z (pos 0) ≡ true → to_tick z n ≡ neg_ℤ (pos (closest (nat_abs z) n))
 unfolding to_tick

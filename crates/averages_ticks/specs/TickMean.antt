@@ -4,9 +4,8 @@ use Rattle.std.specs.Float.Ieee.{to_signed}
 use Rattle.std.specs.Float.Ieee.Nearest.{closest}
 use Rattle.rounding.specs.Whole.{total}
 use Rattle.cells.specs.Line.{Line, from_bar, line}
-use Rattle.calls.specs.Answer.{answered}
+use Rattle.calls.specs.Answer.{answered, Answer}
 use Rattle.calls.specs.Call.{Call}
-use Rattle.calls.specs.declared.Answer.{Answer}
 use Rattle.values.specs.Accepted.{tick}
 
 -- z / n to a whole tick, a half to the even one: its size is rounded by `closest`, as in every operation of IEEE 754

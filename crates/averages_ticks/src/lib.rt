@@ -12,12 +12,15 @@ ghost use Rattle.averages_ticks.specs.inner.Ticks.{TickRoom, LeadRoom, Summed, T
 
 use calls::Answer;
 
-// 2^38 / (2 * n), rounded up: a product with it takes the place of a division by 2 * n at every bar.
+// The scale of a share.
+const SCALE: usize = 1 << 38;
+
+// SCALE / (2 * n), rounded up: a product with it takes the place of a division by 2 * n at every bar.
 pub fn share_of(n: usize) -> usize
     requires { (0 < n) × (n ≤ longest_window) }
     ensures { result ≡ share_of n }
 {
-    274877906944 / (2 * n) + 1
+    SCALE / (2 * n) + 1
 }
 
 // size / n to a whole tick, a half up: the product is that, or one too many.
@@ -26,7 +29,7 @@ fn half_up(size: usize, n: usize, share: usize) -> usize
     ensures { result ≡ (2 * size + n) / (2 * n) }
 {
     let halves = 2 * size + n;
-    let guess = halves * share / 274877906944;
+    let guess = halves * share / SCALE;
     if halves < guess * (2 * n) {
         guess - 1
     } else {
@@ -47,21 +50,13 @@ fn half_even(size: usize, n: usize, share: usize) -> usize
     }
 }
 
-// z without its sign.
-fn size_of(z: i64) -> usize
-    requires { nat_abs z ≤ 68719476736 }
-    ensures { result ≡ nat_abs z }
-{
-    if z < 0 { (0 - z) as usize } else { z as usize }
-}
-
 // sum / n to a whole tick, a half to the even one.
 pub fn to_tick(sum: i64, n: usize, share: usize) -> i64
     requires { Shared (nat_abs sum) n share }
     ensures { result ≡ to_tick sum n }
 {
-    let size = half_even(size_of(sum), n, share) as i64;
-    if sum < 0 { 0 - size } else { size }
+    let size = half_even(sum.unsigned_abs() as usize, n, share) as i64;
+    if sum < 0 { -size } else { size }
 }
 
 // Writes 0 before bar `first`, and gives the sum of those ticks.
@@ -70,11 +65,9 @@ fn sum_lead(series: &[f64], first: usize, out: &mut [i64]) -> i64
     ensures { Summed series.now first result out.old out.new }
 {
     let mut sum = 0;
-    let mut i = 0;
-    while i < first {
-        sum = sum + (series[i] as i64);
+    for i in 0..first {
+        sum += series[i] as i64;
         out[i] = 0;
-        i += 1;
     }
     sum
 }
@@ -88,12 +81,10 @@ fn slide_ticks(series: &[f64], n: usize, lead: i64, out: &mut [i64])
 {
     let share = share_of(n);
     let mut rest = lead;
-    let mut i = n - 1;
-    while i < series.len() {
-        let sum = rest + (series[i] as i64);
+    for i in n - 1..series.len() {
+        let sum = rest + series[i] as i64;
         out[i] = to_tick(sum, n, share);
-        rest = sum - (series[i + 1 - n] as i64);
-        i += 1;
+        rest = sum - series[i + 1 - n] as i64;
     }
 }
 

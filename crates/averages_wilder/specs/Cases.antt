@@ -1,14 +1,12 @@
 -- wilder_rsi at small series, with the cells of a plain loop in Rust, and its answers. Assumes nothing.
-use Rattle.std.specs.Prelude.{◌≡◌, refl, [], ◌∷◌, ℕ, suc, pos}
+use Rattle.std.specs.Prelude.{◌≡◌, refl, [], ◌∷◌, ℕ, suc, pos, Ok, Err}
 use Rattle.std.specs.Float.{nan, binary64}
 use Rattle.std.specs.Float.Ieee.{round, neg, add, sub, mul, div, lt, eq, le, of_int, of_bits, to_bits}
 use Rattle.limits.specs.Limits.{longest_window}
 use Rattle.rounding.specs.Literals.{hundred}
 use Rattle.values.specs.Accepted.{accepted}
 use Rattle.calls.specs.declared.Refusal.TheVariants.{WindowTooLong}
-use Rattle.calls.specs.declared.Answer.{Answer}
-use Rattle.calls.specs.declared.Answer.TheVariants.{Cells, Refused}
-use Rattle.calls.specs.Answer.{slices, checked, windowed, answered}
+use Rattle.calls.specs.Answer.{Answer, slices, checked, windowed, answered}
 use Rattle.cells.specs.Line.{plus_zero, from_bar}
 use Rattle.cells.specs.Recur.{recur, carried}
 use Rattle.cells.specs.Shown.{prices, bits, cells_of}
@@ -60,6 +58,6 @@ one_bar n = answered accepted (plus_zero ∷ []) (n ∷ []) 1 (8 ∷ [])
 -- a window of 1; one of 0; one too long; no bars
 wilder_rsi_answers : one_bar 1 ∷ one_bar 0 ∷ one_bar (suc longest_window) ∷ answered accepted [] (1 ∷ []) 0 (0 ∷ [])
     ∷ []
-    ≡ Cells 1 ∷ Cells 0 ∷ Refused WindowTooLong ∷ Cells 0 ∷ []
+    ≡ Ok 1 ∷ Ok 0 ∷ Err WindowTooLong ∷ Ok 0 ∷ []
 unfolding answered windowed slices checked accepted lt eq le to_bits
 wilder_rsi_answers = refl

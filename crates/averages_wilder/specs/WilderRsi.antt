@@ -5,8 +5,7 @@ use Rattle.std.specs.Float.{nan, fin}
 use Rattle.std.specs.Float.Ieee.{eq}
 use Rattle.rounding.specs.Literals.{hundred}
 use Rattle.values.specs.Accepted.{accepted}
-use Rattle.calls.specs.declared.Answer.{Answer}
-use Rattle.calls.specs.Answer.{answered}
+use Rattle.calls.specs.Answer.{Answer, answered}
 use Rattle.calls.specs.Call.{WorkCall}
 use Rattle.cells.specs.Line.{Line, line, plus_zero, from_bar}
 use Rattle.changes.specs.Changes.{gains, losses, rsi_formula}

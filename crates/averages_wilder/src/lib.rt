@@ -26,10 +26,8 @@ fn first_mean(series: &[f64], n: usize) -> f64
     ensures { result ≡ wilder n (n - 1) (line series.now) (n - 1) }
 {
     let mut sum = 0.0;
-    let mut k = 0;
-    while k < n {
-        sum = sum + series[k];
-        k += 1;
+    for x in &series[..n] {
+        sum += *x;
     }
     sum / (n as f64)
 }
@@ -42,13 +40,11 @@ fn write_from_mean(series: &[f64], n: usize, out: &mut [f64])
         out.old out.new }
 {
     let mut last = first_mean(series, n);
-    let mut i = n - 1;
-    while i + 1 < series.len() {
-        out[i] = last;
-        i += 1;
+    out[n - 1] = last;
+    for i in n..series.len() {
         last = step(last, n, series[i]);
+        out[i] = last;
     }
-    out[i] = last;
 }
 
 // Writes Wilder's average of a line, NaN before bar n - 1.
@@ -81,12 +77,10 @@ fn seed(series: &[f64], n: usize) -> Averages
 {
     let mut gain = 0.0;
     let mut loss = 0.0;
-    let mut k = 0;
-    while k < n {
-        let change = changes::change_at(series, 1 + k);
-        gain = gain + changes::gain_of(change);
-        loss = loss + changes::loss_of(change);
-        k += 1;
+    for i in 1..n + 1 {
+        let change = changes::change_at(series, i);
+        gain += changes::gain_of(change);
+        loss += changes::loss_of(change);
     }
     Averages {
         gain: gain / (n as f64),
@@ -101,10 +95,7 @@ fn next(series: &[f64], n: usize, i: usize, last: Averages) -> Averages
     ensures { Averaged n (line series.now) i result }
 {
     let change = changes::change_at(series, i);
-    Averages {
-        gain: step(last.gain, n, changes::gain_of(change)),
-        loss: step(last.loss, n, changes::loss_of(change)),
-    }
+    last.moved(change, |cell, x| step(cell, n, x))
 }
 
 // Writes the cells from bar n on, where those before it stand, and clears each bar's work cells while an average waits
@@ -117,15 +108,13 @@ fn write_from_seed(series: &[f64], n: usize, out: &mut [f64], work: &mut [f64])
 {
     let bars = series.len();
     let mut averages = seed(series, n);
-    let mut i = n;
-    while i + 1 < bars {
+    out[n] = cell(averages);
+    cells::rows::put(work, bars, n, 0.0);
+    for i in n + 1..bars {
+        averages = next(series, n, i, averages);
         out[i] = cell(averages);
         cells::rows::put(work, bars, i, 0.0);
-        i += 1;
-        averages = next(series, n, i, averages);
     }
-    out[i] = cell(averages);
-    cells::rows::put(work, bars, i, 0.0);
 }
 
 // Writes the index of every bar, NaN before bar n, and clears the work slice.

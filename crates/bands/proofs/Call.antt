@@ -11,9 +11,8 @@ use lib.Ieee.{Float}
 use Rattle.limits.specs.Limits.{longest_period}
 use Rattle.values.specs.Accepted.{accepted}
 use Rattle.values.proofs.All.{and_parts}
-use Rattle.calls.specs.declared.Answer.{Answer}
-use Rattle.calls.specs.declared.Answer.TheVariants.{Cells}
-use Rattle.calls.specs.Answer.{count_of, cleared_of, empty_if, checked, limited, unless_empty}
+use Rattle.calls.specs.Answer.{Answer, count_of, cleared_of, empty_if, checked, limited, unless_empty}
+use Rattle.std.specs.Prelude.{Ok}
 use Rattle.calls.proofs.Call.{AllBars}
 use Rattle.calls.proofs.Room.{asked, and_then_cells, empty_if_cells, same_count}
 use Rattle.outer_lines.proofs.Calls.{one_band_passed, one_band_clearable}
@@ -22,7 +21,7 @@ use Rattle.bands.specs.inner.Stages.{BandsRoom}
 
 module _ (s : List Float) (n : ℕ) (k : Float) (m middle upper lower work : ℕ) where
   abbrev whole : Answer
-  whole = empty_if (ltb (length s) n) (Cells (length s))
+  whole = empty_if (ltb (length s) n) (Ok (length s))
 
   abbrev rest : Answer
   rest = limited (k ∷ []) [] (n ∷ m ∷ []) (unless_empty (length s) [] (n ∷ m ∷ []) whole)
@@ -38,7 +37,7 @@ module _ (s : List Float) (n : ℕ) (k : Float) (m middle upper lower work : ℕ
   bands_bars j e h =
       let check = checked accepted (s ∷ []) (middle ∷ upper ∷ lower ∷ []) (work ∷ []) in
       let a = asked (length s) (k ∷ []) [] (n ∷ m ∷ []) whole j (and_then_cells check rest j e).1 h in
-      sym (same_count _ _ (empty_if_cells (ltb (length s) n) (Cells (length s)) j a.rest h).1)
+      sym (same_count _ _ (empty_if_cells (ltb (length s) n) (Ok (length s)) j a.rest h).1)
 
   -- and where they are due, all is in order
   pub bands_ready : {r : Answer} → r ≡ bands_answer s n k m middle upper lower work → 0 < count_of r

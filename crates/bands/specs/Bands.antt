@@ -1,10 +1,8 @@
 -- Bands about the ultimate smoother, named after John Ehlers' ultimate bands: what `ultimate_bands` answers and writes.
 -- The middle is the smoothed close, and the width the smoothed deviation of the close. Assumes nothing.
-use Rattle.std.specs.Prelude.{cond, List, [], ◌∷◌, ℕ, ◌-◌, ltb, length, Float}
+use Rattle.std.specs.Prelude.{cond, List, [], ◌∷◌, ℕ, ◌-◌, ltb, length, Float, Ok}
 use Rattle.values.specs.Accepted.{accepted}
-use Rattle.calls.specs.declared.Answer.{Answer}
-use Rattle.calls.specs.declared.Answer.TheVariants.{Cells}
-use Rattle.calls.specs.Answer.{and_then, empty_if, checked, limited, unless_empty}
+use Rattle.calls.specs.Answer.{Answer, and_then, empty_if, checked, limited, unless_empty}
 use Rattle.calls.specs.Call.{BandCall}
 use Rattle.cells.specs.Line.{Line, line, plus_zero}
 use Rattle.smoother_table.specs.Coefficients.{coefficients}
@@ -36,7 +34,7 @@ bands_answer s n k m middle upper lower work =
     (limited (k ∷ []) [] (n ∷ m ∷ [])
     (unless_empty (length s) [] (n ∷ m ∷ [])
     (empty_if (ltb (length s) n)
-    (Cells (length s)))))
+    (Ok (length s)))))
 
 -- what a call of `ultimate_bands` promises
 abbrev pub UltimateBandsCall : List Float → ℕ → Float → ℕ → List Float → List Float → List Float → List Float → Answer

@@ -1,13 +1,11 @@
 -- ultimate_bands at small series, with the cells that pure.rs gave, and its answers. Assumes nothing.
-use Rattle.std.specs.Prelude.{◌≡◌, refl, true, List, [], ◌∷◌, ℕ, suc, pos, Float}
+use Rattle.std.specs.Prelude.{◌≡◌, refl, true, List, [], ◌∷◌, ℕ, suc, pos, Float, Ok, Err}
 use Rattle.std.specs.Float.{nan, inf}
 use Rattle.std.specs.Float.Ieee.{round, neg, add, sub, mul, div, lt, eq, le, of_int, of_bits, to_bits}
 use Rattle.limits.specs.Limits.{longest_period}
 use Rattle.calls.specs.declared.Refusal.TheVariants.{OutputTooShort, ParameterNotFinite, WindowTooLong}
-use Rattle.calls.specs.declared.Answer.{Answer}
-use Rattle.calls.specs.declared.Answer.TheVariants.{Cells, Refused}
+use Rattle.calls.specs.Answer.{Answer, slices, checked}
 use Rattle.values.specs.Accepted.{accepted, finite}
-use Rattle.calls.specs.Answer.{slices, checked}
 use Rattle.cells.specs.Line.{plus_zero, from_bar}
 use Rattle.rounding.specs.Leaves.{plus_one}
 use Rattle.rounding_root.specs.Root.{sqrt_of}
@@ -96,7 +94,7 @@ bands_answers : one_bar 1 plus_one longest_period ∷ one_bar 2 plus_one 5 ∷ o
     ∷ one_bar (suc longest_period) plus_one 0 ∷ one_bar 0 plus_one (suc longest_period)
     ∷ one_bar 0 (inf true) (suc longest_period)
     ∷ bands_answer (plus_zero ∷ []) 1 plus_one 1 1 1 0 8 ∷ bands_answer [] 1 plus_one 1 0 0 0 0 ∷ []
-    ≡ Cells 1 ∷ Cells 0 ∷ Cells 0 ∷ Cells 0 ∷ Refused WindowTooLong ∷ Refused WindowTooLong
-    ∷ Refused ParameterNotFinite ∷ Refused OutputTooShort ∷ Cells 0 ∷ []
+    ≡ Ok 1 ∷ Ok 0 ∷ Ok 0 ∷ Ok 0 ∷ Err WindowTooLong ∷ Err WindowTooLong
+    ∷ Err ParameterNotFinite ∷ Err OutputTooShort ∷ Ok 0 ∷ []
 unfolding bands_answer slices checked accepted finite lt eq le to_bits
 bands_answers = refl

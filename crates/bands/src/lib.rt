@@ -13,8 +13,7 @@ ghost use Rattle.bands.specs.Bands.{bands_deviation, bands_middle, bands_width, 
 ghost use Rattle.bands.specs.Bands.{bands_answer, UltimateBandsCall};
 ghost use Rattle.bands.specs.inner.Stages.{BandsRoom};
 
-use calls::{Answer, Refusal};
-use limits::LONGEST_PERIOD;
+use calls::Answer;
 
 // Writes the deviations of a few bars from bar i on, and gives how many they are.
 pub fn write_some_deviations(close: &[f64], n: usize, i: usize, out: &mut [f64]) -> usize
@@ -35,6 +34,7 @@ fn write_deviations(close: &[f64], n: usize, out: &mut [f64])
         out.old out.new }
 {
     let mut i = cells::fill_nan(out, n - 1, close.len());
+    // A turn writes eight bars, or one where fewer are left: no range takes such steps.
     while i < close.len() {
         i += write_some_deviations(close, n, i, out);
     }
@@ -76,9 +76,9 @@ fn write_first_widths(close: &[f64], n: usize, m: usize, widths: &mut [f64], spr
         × Touched (length close.now) spreads.old spreads.new }
 {
     let bars = close.len();
-    let some = cells::smaller(bars, 4);
+    let some = bars.min(4);
     write_each_width(&close[..some], n, m, widths, spreads);
-    cells::fill(&mut widths[some..], bars - some, 0.0 / 0.0);
+    cells::fill(&mut widths[some..], bars - some, f64::NAN);
 }
 
 // The same of any period.
@@ -135,16 +135,10 @@ fn answer_bands(
 ) -> Answer
     ensures { result ≡ bands_answer close.now n k m middle upper lower work }
 {
-    let due = checks::check_bands(close, middle, upper, lower, work);
     let bars = close.len();
-    let whole = checks::empty_if(bars < n, Answer::Cells(bars));
-    let none = ((n == 0) | (m == 0)) | (bars == 0);
-    let some = checks::empty_if(none, whole);
-    let short = (n <= LONGEST_PERIOD) & (m <= LONGEST_PERIOD);
-    let periods = checks::unless_refused(short, Refusal::WindowTooLong, some);
-    let finite = values::is_finite(k);
-    let next = checks::unless_refused(finite, Refusal::ParameterNotFinite, periods);
-    checks::and_then(due, next)
+    checks::check_bands(close, middle, upper, lower, work)?;
+    let whole = checks::empty_if(bars < n, Ok(bars));
+    checks::check_parameters(bars, &[k], &[], &[n, m], whole)
 }
 
 // The ultimate bands: see `bands_middle`, `bands_upper` and `bands_lower`.

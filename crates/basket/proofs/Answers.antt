@@ -26,9 +26,8 @@ use Rattle.calls.specs.declared.Refusal.TheVariants.{
   BrokenLine,
   WeightTooLarge,
 }
-use Rattle.calls.specs.declared.Answer.{Answer}
-use Rattle.calls.specs.declared.Answer.TheVariants.{Cells, Refused}
-use Rattle.calls.specs.Answer.{count_of, cleared_of, unless, and_then, first}
+use Rattle.calls.specs.Answer.{Answer, count_of, cleared_of, unless, and_then, first}
+use Rattle.std.specs.Prelude.{Ok, Err}
 use Rattle.calls.proofs.Room.{and_then_cells, unless_cells, same_count}
 use Rattle.rules.specs.ByNumber.{is_rule}
 use Rattle.rules.specs.ByNumber.{answer_by_rule}
@@ -90,10 +89,10 @@ module _ {f : ℕ → Contract} {n : ℕ} {next : Answer} {k : ℕ} {x : Answer}
   unfolding each_answered
   step h = w.is ∙ ap (λ (cs : List Contract). each_answered cs next) (one_onward f n k h)
 
-  pub one_answered : {j : ℕ} {y : Answer} → y ≡ own_answer (f k) → y ≡ Cells j → k < n → Onward f n next (k + 1) x
+  pub one_answered : {j : ℕ} {y : Answer} → y ≡ own_answer (f k) → y ≡ Ok j → k < n → Onward f n next (k + 1) x
   one_answered a c h = record { is = step h ∙ (rw (← a, c)) }
 
-  pub one_refused : {q : Refusal} {y : Answer} → y ≡ own_answer (f k) → y ≡ Refused q → k < n → y ≡ x
+  pub one_refused : {q : Refusal} {y : Answer} → y ≡ own_answer (f k) → y ≡ Err q → k < n → y ≡ x
   one_refused a r h = sym (step h ∙ (rw (← a, r)))
 
   pub all_answered : n ≤ k → next ≡ x
@@ -101,8 +100,8 @@ module _ {f : ℕ → Contract} {n : ℕ} {next : Answer} {k : ℕ} {x : Answer}
   all_answered h = let none : n - k ≡ 0 = omega arith in sym (w.is ∙ (rw none))
 
 -- where there is a count, each of them was answered
-pub each_count : (n : ℕ) (f : ℕ → Contract) (next : Answer) (c : ℕ) → each_answered (first_cells n f) next ≡ Cells c
-    → ((k : ℕ) → k < n → own_answer (f k) ≡ Cells (count_of (own_answer (f k)))) × (next ≡ Cells c)
+pub each_count : (n : ℕ) (f : ℕ → Contract) (next : Answer) (c : ℕ) → each_answered (first_cells n f) next ≡ Ok c
+    → ((k : ℕ) → k < n → own_answer (f k) ≡ Ok (count_of (own_answer (f k)))) × (next ≡ Ok c)
 unfolding each_answered
 each_count zero f next c e = (λ k h. absurd (not-suc-le-zero h), e)
 each_count (suc n) f next c e =
@@ -110,9 +109,9 @@ each_count (suc n) f next c e =
     let more = each_count n (λ i. f (suc i)) next c one.1 in
     (go one.0 more.0, more.1)
   where
-    go : own_answer (f 0) ≡ Cells (count_of (own_answer (f 0)))
-        → ((k : ℕ) → k < n → own_answer (f (suc k)) ≡ Cells (count_of (own_answer (f (suc k)))))
-        → (k : ℕ) → k < suc n → own_answer (f k) ≡ Cells (count_of (own_answer (f k)))
+    go : own_answer (f 0) ≡ Ok (count_of (own_answer (f 0)))
+        → ((k : ℕ) → k < n → own_answer (f (suc k)) ≡ Ok (count_of (own_answer (f (suc k)))))
+        → (k : ℕ) → k < suc n → own_answer (f k) ≡ Ok (count_of (own_answer (f k)))
     go e h zero l = e
     go e h (suc k) l = h k (omega arith)
 
@@ -189,17 +188,17 @@ module _ (series : List Float) (table : List ℕ) (weights : List ℤ) (out work
   -- ---- what the table's tests say
 
   pub not_counted : from_one most_contracts (length weights) ≡ false
-      → Refused BrokenLine ≡ basket_answer series table weights out work
+      → Err BrokenLine ≡ basket_answer series table weights out work
   not_counted e = rw (basket_table, e)
 
   module _ (some : from_one most_contracts (length weights) ≡ true) where
     pub not_five : (length table ≡ 5 * length weights → ⊥)
-        → Refused BrokenLine ≡ basket_answer series table weights out work
+        → Err BrokenLine ≡ basket_answer series table weights out work
     not_five f = rw (basket_table, some, ne_eqb _ _ f)
 
     module _ (five : length table ≡ 5 * length weights) {t : Bool} (e : t ≡ every_bar (listed table) (length weights))
       where
-        pub not_listed : t ≡ false → Refused BrokenLine ≡ basket_answer series table weights out work
+        pub not_listed : t ≡ false → Err BrokenLine ≡ basket_answer series table weights out work
         not_listed f = rw (basket_table, some, eq-eqb _ _ five, ← e, f)
 
         pub all_listed : t ≡ true → {r : Answer} → r ≡ listed_answer series table weights out work
@@ -214,7 +213,7 @@ module _ (series : List Float) (table : List ℕ) (weights : List ℤ) (out work
       (unless (leb (rows * l) out) OutputTooShort
       (unless (leb (8 * l) work) WorkTooShort
       (unless (every_bar (λ k. light (get_or weights k (pos 0))) (length weights)) WeightTooLarge
-      (each_answered (contracts_of l series table weights) (Cells (rows * l))))))
+      (each_answered (contracts_of l series table weights) (Ok (rows * l))))))
   unfolding listed_answer
   listed_table =
       let l = get_or table 0 0 in
@@ -222,16 +221,16 @@ module _ (series : List Float) (table : List ℕ) (weights : List ℤ) (out work
 
   module _ {s t : Bool} (p : s ≡ every_bar (as_long table (get_or table 0 0)) (length weights))
       (q : t ≡ eqb (length weights * get_or table 0 0) (length series)) where
-    pub not_whole : s && t ≡ false → Refused LengthsDiffer ≡ listed_answer series table weights out work
+    pub not_whole : s && t ≡ false → Err LengthsDiffer ≡ listed_answer series table weights out work
     not_whole e = rw (listed_table, ← p, ← q, e)
 
     module _ (e : s && t ≡ true) where
       pub no_output : out / rows < get_or table 0 0
-          → Refused OutputTooShort ≡ listed_answer series table weights out work
+          → Err OutputTooShort ≡ listed_answer series table weights out work
       no_output h = rw (listed_table, ← p, ← q, e, lt-leb (rows * get_or table 0 0) out (omega arith))
 
       module _ (room : get_or table 0 0 ≤ out / rows) where
-        pub no_work : work / 8 < get_or table 0 0 → Refused WorkTooShort ≡ listed_answer series table weights out work
+        pub no_work : work / 8 < get_or table 0 0 → Err WorkTooShort ≡ listed_answer series table weights out work
         no_work h =
             rw (
               listed_table,
@@ -246,7 +245,7 @@ module _ (series : List Float) (table : List ℕ) (weights : List ℤ) (out work
           pub weights_next : {v : Bool} → v ≡ every_bar (λ k. light (get_or weights k (pos 0))) (length weights)
               → {r : Answer}
               → r ≡ unless v WeightTooLarge
-              (each_answered (contracts_of (get_or table 0 0) series table weights) (Cells (rows * get_or table 0 0)))
+              (each_answered (contracts_of (get_or table 0 0) series table weights) (Ok (rows * get_or table 0 0)))
               → r ≡ listed_answer series table weights out work
           weights_next f a =
               rw (
@@ -278,7 +277,7 @@ part_inside {l = l} k s h = let most = mul-le-mul_right l h in let whole = s.who
 -- ---- what is known of a basket that has a count
 
 module _ (series : List Float) (table : List ℕ) (weights : List ℤ) (out work k : ℕ)
-    (e : basket_answer series table weights out work ≡ Cells k) where
+    (e : basket_answer series table weights out work ≡ Ok k) where
   count_known : let l = get_or table 0 0 in Opened series table weights l out work × (k ≡ rows * l)
   unfolding contract_at
   count_known =
@@ -290,7 +289,7 @@ module _ (series : List Float) (table : List ℕ) (weights : List ℤ) (out work
       let d = unless_cells _ _ _ k c.1 in
       let f = unless_cells _ _ _ k d.1 in
       let g = unless_cells _ _ _ k f.1 in
-      let h = each_count n (contract_at l series table weights) (Cells (rows * l)) k g.1 in
+      let h = each_count n (contract_at l series table weights) (Ok (rows * l)) k g.1 in
       let shape = and_parts (from_one most_contracts n) (eqb (length table) (5 * n)) a.0 in
       let sizes = and_parts (every_bar (as_long table l) n) (eqb (n * l) (length series)) c.0 in (
         record {
@@ -329,17 +328,17 @@ module _ (series : List Float) (table : List ℕ) (weights : List ℤ) (out₀ :
     where
       go : (a : Answer) → r ≡ a → 0 < count_of a
           → Opened series table weights (get_or table 0 0) (length out₀) (length work₀)
-      go (Cells k) p h = basket_opened series table weights (length out₀) (length work₀) k (sym e ∙ p)
-      go (Refused q) p h = let none : 0 < 0 = h in absurd (omega arith)
+      go (Ok k) p h = basket_opened series table weights (length out₀) (length work₀) k (sym e ∙ p)
+      go (Err q) p h = let none : 0 < 0 = h in absurd (omega arith)
 
   -- there are bars
   pub has_bars : 0 < count_of r → 0 < get_or table 0 0
   has_bars = go r refl
     where
       go : (a : Answer) → r ≡ a → 0 < count_of a → 0 < get_or table 0 0
-      go (Cells k) p h =
+      go (Ok k) p h =
           let count = basket_count series table weights (length out₀) (length work₀) k (sym e ∙ p) in omega arith
-      go (Refused q) p h = let none : 0 < 0 = h in absurd (omega arith)
+      go (Err q) p h = let none : 0 < 0 = h in absurd (omega arith)
 
   pub basket_written : {out₁ : List ℤ} {work₁ work₂ : List Float} → 0 < count_of r
       → Writing (rows * get_or table 0 0) (net_line (get_or table 0 0) (contracts_of
@@ -350,8 +349,8 @@ module _ (series : List Float) (table : List ℕ) (weights : List ℤ) (out₀ :
   basket_written {out₁} {work₁} {work₂} h cells used cleared = go r refl h
     where
       go : (a : Answer) → r ≡ a → 0 < count_of a → BasketCall series table weights out₀ work₀ r out₁ work₂
-      go (Refused q) p h = let none : 0 < 0 = h in absurd (omega arith)
-      go (Cells k) p h =
+      go (Err q) p h = let none : 0 < 0 = h in absurd (omega arith)
+      go (Ok k) p h =
           let count = basket_count series table weights (length out₀) (length work₀) k (sym e ∙ p) in
           record {
             call = record { answer = e; cells = rw (p, count, first_is series table weights) cells.is };
@@ -364,8 +363,8 @@ module _ (series : List Float) (table : List ℕ) (weights : List ℤ) (out₀ :
     where
       go : (a : Answer) → r ≡ a → count_of a ≡ 0
           → work₀ ≡ written (cleared_of r (8 * first table)) (λ i. plus_zero) work₀
-      go (Refused q) p z = rw p
-      go (Cells k) p z =
+      go (Err q) p z = rw p
+      go (Ok k) p z =
           let count = basket_count series table weights (length out₀) (length work₀) k (sym e ∙ p) in
           let same = first_is series table weights in
           let none : 8 * first table ≡ 0 = rw same (omega arith) in

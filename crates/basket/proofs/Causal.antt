@@ -16,9 +16,8 @@ use Rattle.cells.specs.Line.{Line, line, Same, Causal}
 use Rattle.cells.specs.Shown.{first_cells}
 use Rattle.cells.proofs.Line.{causal_same}
 use Rattle.calls.specs.declared.Refusal.TheVariants.{WindowTooLong}
-use Rattle.calls.specs.declared.Answer.{Answer}
-use Rattle.calls.specs.declared.Answer.TheVariants.{Cells}
-use Rattle.calls.specs.Answer.{any_zero, empty_if, checked, windowed, answered}
+use Rattle.calls.specs.Answer.{Answer, any_zero, empty_if, checked, windowed, answered}
+use Rattle.std.specs.Prelude.{Ok}
 use Rattle.calls.proofs.Room.{and_then_cells, unless_cells, same_count, opened}
 use Rattle.rules.specs.ByNumber.{by_rule, line_by_rule}
 use Rattle.rules_single.specs.Single.{single_line}
@@ -35,8 +34,8 @@ use Rattle.basket.proofs.Positions.{position_below, position_after_lem}
 -- ---- how many cells a contract has
 
 -- no cells where a window is of none, and else as many as bars
-window_count : (l : ℕ) (windows : List ℕ) (next : Answer) (k : ℕ) → 0 < l → windowed l windows next ≡ Cells k
-    → (next ≡ Cells k → k ≡ l) → k ≡ cond (any_zero windows) 0 l
+window_count : (l : ℕ) (windows : List ℕ) (next : Answer) (k : ℕ) → 0 < l → windowed l windows next ≡ Ok k
+    → (next ≡ Ok k → k ≡ l) → k ≡ cond (any_zero windows) 0 l
 unfolding windowed
 window_count l windows next k some e whole =
     let bars : eqb l 0 ≡ false = ne_eqb l 0 (λ (z : l ≡ 0). omega arith) in
@@ -44,20 +43,20 @@ window_count l windows next k some e whole =
     (empty_if (eqb l 0 || any_zero windows) next) k e).1 in
     go (any_zero windows) (rw bars at rest)
   where
-    go : (t : Bool) → empty_if t next ≡ Cells k → k ≡ cond t 0 l
+    go : (t : Bool) → empty_if t next ≡ Ok k → k ≡ cond t 0 l
     go true f = sym (same_count 0 k f)
     go false f = whole f
 
 one_count : (s : List Float) (n out work k : ℕ) → 0 < length s
-    → answered accepted s (n ∷ []) out (work ∷ []) ≡ Cells k
+    → answered accepted s (n ∷ []) out (work ∷ []) ≡ Ok k
     → k ≡ cond (any_zero (n ∷ [])) 0 (length s)
 unfolding answered
 one_count s n out work k some e =
-    window_count (length s) (n ∷ []) (Cells (length s)) k some
+    window_count (length s) (n ∷ []) (Ok (length s)) k some
     (and_then_cells (checked accepted (s ∷ []) (out ∷ []) (work ∷ [])) _ k e).1
     (λ f. sym (same_count _ _ f))
 
-two_count : (s : List Float) (n m out k : ℕ) → 0 < length s → double_answer s n m out ≡ Cells k
+two_count : (s : List Float) (n m out k : ℕ) → 0 < length s → double_answer s n m out ≡ Ok k
     → k ≡ cond (any_zero (n ∷ m ∷ [])) 0 (length s)
 unfolding double_answer
 two_count s n m out k some e =
@@ -70,7 +69,7 @@ abbrev no_window : ℕ → ℕ → ℕ → Bool
 no_window rule n m = by_rule rule (any_zero (n ∷ [])) (any_zero (n ∷ m ∷ [])) (any_zero (n ∷ []))
 
 -- how many cells a contract has, and that none of them needs a later bar
-module _ (c : Contract) (k : ℕ) (e : own_answer c ≡ Cells k) where
+module _ (c : Contract) (k : ℕ) (e : own_answer c ≡ Ok k) where
   own_known : (0 < length c.prices → k ≡ cond (no_window c.rule c.n c.m) 0 (length c.prices))
       × (0 < k → Causal (line_by_rule c.rule c.n c.m))
   unfolding own_answer
@@ -82,7 +81,7 @@ module _ (c : Contract) (k : ℕ) (e : own_answer c ≡ Cells k) where
       go : (t u : Bool)
           → cond t (answered accepted c.prices (c.n ∷ []) l (8 * l ∷ []))
           (cond u (double_answer c.prices c.n c.m l)
-          (answered accepted c.prices (c.n ∷ []) l (8 * l ∷ []))) ≡ Cells k
+          (answered accepted c.prices (c.n ∷ []) l (8 * l ∷ []))) ≡ Ok k
           → (0 < l
           → k ≡ cond (cond t (any_zero (c.n ∷ [])) (cond u (any_zero (c.n ∷ c.m ∷ [])) (any_zero (c.n ∷ [])))) 0 l)
           × (0 < k
@@ -107,7 +106,7 @@ module _ (c : Contract) (k : ℕ) (e : own_answer c ≡ Cells k) where
 module _ (c d : Contract) (b : ℕ) (rule : c.rule ≡ d.rule) (n : c.n ≡ d.n) (m : c.m ≡ d.m)
     (left : b < length c.prices) (right : b < length d.prices)
     (same : Same (line c.prices) (line d.prices) b)
-    (k k' : ℕ) (e : own_answer c ≡ Cells k) (e' : own_answer d ≡ Cells k') where
+    (k k' : ℕ) (e : own_answer c ≡ Ok k) (e' : own_answer d ≡ Ok k') where
   same_line : (j : ℕ) → j ≤ b → 0 < k → own_line c j ≡ own_line d j
   unfolding own_line
   same_line j h some =

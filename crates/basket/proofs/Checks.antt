@@ -1,36 +1,49 @@
 -- The tests of a basket's slices, contract by contract. Assumes nothing.
-use mathlib.Core.Path.{◌≡◌, refl, sym}
+use mathlib.Core.Path.{◌≡◌, refl, sym, ap, ◌∙◌}
 use mathlib.Core.Bool.{Bool, true, false, ◌&&◌}
-use Prim.Native.Nat.{ℕ, zero, suc, ◌+◌, ◌*◌, ◌/◌, ◌%◌, ◌<◌}
+use mathlib.Core.List.{List, [], ◌∷◌}
+use Prim.Native.Nat.{ℕ, zero, suc, ◌*◌, ◌/◌, ◌%◌, ◌<◌}
 use native.Mathlib.Nat.{not-suc-le-zero, div-add-mod, mul-div_cancel_left, mul-mod_right}
-use native.Mathlib.Numerals.{add-one}
 use native.Mathlib.Omega.{arith}
 use borrow.Author.Tests.{eqb-true, eqb-false, eq-eqb, ne_eqb}
-use lib.Dec.{eqb, leb-suc-suc}
-use lib.IntN.{ℤ, pos, negsuc}
-use lib.Signed.{le_z}
+use lib.Dec.{eqb}
+use lib.ListN.{length, get_or}
+use Rattle.std.proofs.Common.{zero-add}
+use Rattle.std.specs.List.{list_all, range_with_len}
+use Rattle.std.proofs.lemmas.List.FromFn.{length-range_with_len, get_or-range_with_len}
 use Rattle.values.specs.Accepted.{all}
 use Rattle.values.proofs.All.{and_true, and_assoc, and_parts}
 use Rattle.cells.specs.Search.{every_bar}
 use Rattle.cells.specs.Shown.{first_cells}
-use Rattle.basket.specs.inner.Listed.{light}
 
 -- ---- every contract
-
--- one more is tested
-pub every_more : (t : ℕ → Bool) (k : ℕ) → every_bar t (k + 1) ≡ every_bar t k && t k
-unfolding every_bar
-every_more t k = rw add-one
-
--- all are tested
-pub every_ends : (t : ℕ → Bool) {k n : ℕ} {x : Bool} → x ≡ every_bar t k → k ≡ n → x ≡ every_bar t n
-every_ends t e h = rw (← h) e
 
 every_first : (t : ℕ → Bool) (k : ℕ) → every_bar t (suc k) ≡ t 0 && every_bar (λ i. t (suc i)) k
 unfolding every_bar
 every_first t zero = sym (and_true (t 0))
 every_first t (suc k) =
     rw (every_first t k) (sym (and_assoc (t 0) (every_bar (λ i. t (suc i)) k) (t (suc k))))
+
+-- tests that agree on the numbers below n
+every_same : (t u : ℕ → Bool) (n : ℕ) → ((i : ℕ) → i < n → t i ≡ u i) → every_bar t n ≡ every_bar u n
+unfolding every_bar
+every_same t u zero h = refl
+every_same t u (suc n) h = rw (every_same t u n (λ i l. h i (omega arith)), h n (omega arith))
+
+-- the elements of a list, by their places
+pub each_place : {A : Type 0} (p : A → Bool) (d : A) (xs : List A)
+    → list_all p xs ≡ every_bar (λ i. p (get_or xs i d)) (length xs)
+unfolding every_bar
+each_place p d [] = refl
+each_place p d (x ∷ xs) = rw (each_place p d xs) (sym (every_first (λ i. p (get_or (x ∷ xs) i d)) (length xs)))
+
+-- the numbers below n
+pub each_number : (t : ℕ → Bool) (n : ℕ) → list_all t (range_with_len 0 n) ≡ every_bar t n
+each_number t n =
+    each_place t 0 (range_with_len 0 n)
+    ∙ rw (length-range_with_len 0 n)
+    (every_same (λ i. t (get_or (range_with_len 0 n) i 0)) t n
+    (λ i l. ap t (get_or-range_with_len 0 n i 0 l ∙ zero-add i)))
 
 -- where all pass, each does
 pub every_at : (t : ℕ → Bool) (n i : ℕ) → every_bar t n ≡ true → i < n → t i ≡ true
@@ -65,8 +78,3 @@ parts_whole count l n h = go (eqb (n / count) l) (eqb (n % count) 0) refl refl
         sym (ne_eqb (count * l) n (λ e. eqb-false (n % count) 0 q (rw (sym e) (mul-mod_right count l))))
     go false u p q =
         sym (ne_eqb (count * l) n (λ e. eqb-false (n / count) l p (rw (sym e) (mul-div_cancel_left l h))))
-
--- a weight between the two ends is not too large
-pub light_between : (w : ℤ) → le_z w (pos 1000) && le_z (negsuc 999) w ≡ light w
-light_between (pos k) = and_true _
-light_between (negsuc k) = sym (leb-suc-suc k 999)

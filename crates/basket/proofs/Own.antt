@@ -16,9 +16,8 @@ use Rattle.cells.specs.Line.{line}
 use Rattle.cells.specs.inner.Touched.{Touched}
 use Rattle.cells.proofs.Touched.{touched, touched_more}
 use Rattle.cells.proofs.Written.{length_written, getd_written}
-use Rattle.calls.specs.declared.Answer.{Answer}
-use Rattle.calls.specs.declared.Answer.TheVariants.{Cells, Refused}
-use Rattle.calls.specs.Answer.{count_of, empty_if, checked, any_zero, windowed, answered}
+use Rattle.calls.specs.Answer.{Answer, count_of, empty_if, checked, any_zero, windowed, answered}
+use Rattle.std.specs.Prelude.{Ok, Err}
 use Rattle.calls.proofs.Room.{Room, checked_one, slices_one, room, opened, and_then_cells, unless_cells, same_count}
 use Rattle.rules.specs.ByNumber.{by_rule}
 use Rattle.rules.specs.Position.{whole_position}
@@ -62,10 +61,10 @@ module _ (c : Contract) (j : ℕ) where
 
 -- it has a cell for each bar, or none
 pub double_few : (s : List Float) (n m out : ℕ) {r : Answer} → r ≡ double_answer s n m out → count_of r ≤ length s
-double_few s n m out {r = Cells zero} e = omega arith
-double_few s n m out {r = Cells (suc k)} e =
+double_few s n m out {r = Ok zero} e = omega arith
+double_few s n m out {r = Ok (suc k)} e =
     let whole = double_bars s n m out (suc k) (sym e) (omega arith) in omega arith
-double_few s n m out {r = Refused q} e = omega arith
+double_few s n m out {r = Err q} e = omega arith
 
 -- an output that is longer than the bars
 pub double_longer : (s : List Float) (n m out : ℕ) → length s ≤ out
@@ -175,7 +174,7 @@ module _ (c : Contract) (other : c.rule ≡ 2 → ⊥) where
 
   module _ (r : Ready c) where
     due : answered accepted c.prices (c.n ∷ []) (length c.prices) (8 * length c.prices ∷ [])
-        ≡ Cells (count_of (own_answer c))
+        ≡ Ok (count_of (own_answer c))
     due = sym afresh_answer ∙ r.answered
 
     facts : Room accepted c.prices (length c.prices) (8 * length c.prices ∷ [])
@@ -189,7 +188,7 @@ module _ (c : Contract) (other : c.rule ≡ 2 → ⊥) where
         (λ j h k. no_position c j (go (count_of (own_answer c)) due j))
       where
         go : (k : ℕ)
-            → answered accepted c.prices (c.n ∷ []) (length c.prices) (8 * length c.prices ∷ []) ≡ Cells k
+            → answered accepted c.prices (c.n ∷ []) (length c.prices) (8 * length c.prices ∷ []) ≡ Ok k
             → (j : ℕ) → k ≤ j
         go zero e j = omega arith
         go (suc k) e j =
@@ -200,7 +199,7 @@ module _ (c : Contract) (other : c.rule ≡ 2 → ⊥) where
 
     -- its window is not too long, and of none only where the answer is empty
     limited : (leb c.n longest_window && true ≡ true)
-        × (empty_if (any_zero (length c.prices ∷ c.n ∷ [])) (Cells (length c.prices)) ≡ Cells (count_of
+        × (empty_if (any_zero (length c.prices ∷ c.n ∷ [])) (Ok (length c.prices)) ≡ Ok (count_of
         (own_answer c)))
     unfolding answered windowed
     limited =

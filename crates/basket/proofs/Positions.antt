@@ -10,9 +10,8 @@ use lib.IntN.{pos}
 use lib.ListN.{length}
 use lib.Ieee.{Float}
 use Rattle.values.specs.Accepted.{accepted, all}
-use Rattle.calls.specs.declared.Answer.{Answer}
-use Rattle.calls.specs.declared.Answer.TheVariants.{Cells}
-use Rattle.calls.specs.Answer.{and_then, checked, answered}
+use Rattle.calls.specs.Answer.{Answer, and_then, checked, answered}
+use Rattle.std.specs.Prelude.{Ok}
 use Rattle.calls.proofs.Room.{checked_one, slices_one, checked_room, and_then_cells, room, all_bars}
 use Rattle.rules_double.specs.Double.{double_answer}
 use Rattle.rules_double.proofs.Open.{double_room, double_bars}
@@ -22,8 +21,8 @@ use Rattle.basket.specs.Basket.{Contract, own_answer, own_line, position_of}
 -- a count stands in any call that has room
 roomy : (s : List Float) (next : Answer) (out : ℕ) (work work' : List ℕ) (k : ℕ)
     → all (λ room. leb (8 * length s) room) work' ≡ true
-    → and_then (checked accepted (s ∷ []) (out ∷ []) work) next ≡ Cells k
-    → and_then (checked accepted (s ∷ []) (length s ∷ []) work') next ≡ Cells k
+    → and_then (checked accepted (s ∷ []) (out ∷ []) work) next ≡ Ok k
+    → and_then (checked accepted (s ∷ []) (length s ∷ []) work') next ≡ Ok k
 roomy s next out work work' k enough e =
     let passed = and_then_cells (checked accepted (s ∷ []) (out ∷ []) work) next k e in
     let room = checked_room accepted s out work _ passed.0 in
@@ -44,8 +43,8 @@ few (suc k) out whole h = let all = whole (omega arith) in omega arith
 
 module _ (c : Contract) (out k : ℕ) where
   -- one average, or the middle
-  pub afresh_own : (work : ℕ) → (c.rule ≡ 2 → ⊥) → answered accepted c.prices (c.n ∷ []) out (work ∷ []) ≡ Cells k
-      → (own_answer c ≡ Cells k) × (k ≤ out)
+  pub afresh_own : (work : ℕ) → (c.rule ≡ 2 → ⊥) → answered accepted c.prices (c.n ∷ []) out (work ∷ []) ≡ Ok k
+      → (own_answer c ≡ Ok k) × (k ≤ out)
   unfolding own_answer answered
   afresh_own work f e =
       let s = c.prices in
@@ -61,8 +60,8 @@ module _ (c : Contract) (out k : ℕ) where
       go true e = e
       go false e = e
 
-  pub double_own : c.rule ≡ 2 → double_answer c.prices c.n c.m out ≡ Cells k
-      → (own_answer c ≡ Cells k) × (k ≤ out)
+  pub double_own : c.rule ≡ 2 → double_answer c.prices c.n c.m out ≡ Ok k
+      → (own_answer c ≡ Ok k) × (k ≤ out)
   unfolding own_answer double_answer
   double_own f e = (
     (rw f (roomy c.prices _ out [] [] k refl e)),
@@ -72,7 +71,7 @@ module _ (c : Contract) (out k : ℕ) where
 
 -- ---- positions, below the count and from it on
 
-module _ (c : Contract) {k : ℕ} (e : own_answer c ≡ Cells k) (j : ℕ) where
+module _ (c : Contract) {k : ℕ} (e : own_answer c ≡ Ok k) (j : ℕ) where
   pub position_below : j < k → position_of c j ≡ whole_position (own_line c j)
   unfolding position_of
   position_below h = rw (e, lt-ltb j k h)

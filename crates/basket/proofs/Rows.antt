@@ -7,7 +7,7 @@ use native.Mathlib.Omega.{arith}
 use lib.IntN.{ℤ, pos}
 use lib.ListN.{length, get_or, length-take, length-drop}
 use lib.Ieee.{Float}
-use Rattle.calls.specs.declared.Answer.TheVariants.{Cells}
+use Rattle.std.specs.Prelude.{Ok}
 use Rattle.calls.specs.Answer.{count_of, first}
 use Rattle.calls.proofs.Cells.{cell_at}
 use Rattle.basket.specs.Basket.{
@@ -26,7 +26,7 @@ use Rattle.basket.proofs.Answers.{first_is, part_inside, basket_opened, basket_c
 
 module _ (series : List Float) (table : List ℕ) (weights : List ℤ) {out₀ out₁ : List ℤ} {work₀ work₁ : List Float}
     {k : ℕ}
-    (call : BasketCall series table weights out₀ work₀ (Cells k) out₁ work₁) where
+    (call : BasketCall series table weights out₀ work₀ (Ok k) out₁ work₁) where
   known : Opened series table weights (first table) (length out₀) (length work₀)
   known =
       rw (first_is series table weights)
@@ -63,5 +63,5 @@ module _ (series : List Float) (table : List ℕ) (weights : List ℤ) {out₀ o
     has_bars = let inside = part_inside i known.sized h in simp (length-take, length-drop) (omega arith)
 
     pub has_answer : let c = contract_at (first table) series table weights i in
-        own_answer c ≡ Cells (count_of (own_answer c))
+        own_answer c ≡ Ok (count_of (own_answer c))
     has_answer = (known.each i h).answered

@@ -1,6 +1,6 @@
 -- basket: contracts of equal length with weights, and their net position at every bar, by group and in all. Assumes
 -- nothing.
-use Rattle.std.specs.Prelude.{Bool, cond, ◌&&◌, List, [], ◌∷◌, ℕ, suc, ◌+◌, ◌*◌, ◌/◌, ◌%◌, leb, ltb, eqb, ℤ, pos, nat_abs, ◌+ℤ◌, ◌*ℤ◌, length, get_or, take, drop, Float}
+use Rattle.std.specs.Prelude.{Bool, cond, ◌&&◌, List, [], ◌∷◌, ℕ, suc, ◌+◌, ◌*◌, ◌/◌, ◌%◌, leb, ltb, eqb, ℤ, pos, nat_abs, ◌+ℤ◌, ◌*ℤ◌, length, get_or, take, drop, Float, Ok}
 use Rattle.values.specs.Accepted.{all}
 use Rattle.cells.specs.Line.{Line, line}
 use Rattle.cells.specs.Shown.{first_cells}
@@ -11,9 +11,7 @@ use Rattle.calls.specs.declared.Refusal.TheVariants.{
   BrokenLine,
   WeightTooLarge,
 }
-use Rattle.calls.specs.declared.Answer.{Answer}
-use Rattle.calls.specs.declared.Answer.TheVariants.{Cells}
-use Rattle.calls.specs.Answer.{count_of, unless, and_then, first}
+use Rattle.calls.specs.Answer.{Answer, count_of, unless, and_then, first}
 use Rattle.calls.specs.Call.{WorkCall}
 use Rattle.rules.specs.ByNumber.{is_rule}
 use Rattle.rules.specs.ByNumber.{answer_by_rule, line_by_rule}
@@ -122,7 +120,7 @@ basket_answer series table weights output work =
     (unless (leb (rows * l) output) OutputTooShort
     (unless (leb (8 * l) work) WorkTooShort
     (unless (all (λ c. leb (nat_abs c.weight) largest_weight) cs) WeightTooLarge
-    (each_answered cs (Cells (rows * l))))))))
+    (each_answered cs (Ok (rows * l))))))))
 
 -- what a call of `basket` promises
 abbrev pub BasketCall : List Float → List ℕ → List ℤ → List ℤ → List Float → Answer → List ℤ → List Float → Type 0

@@ -1,5 +1,5 @@
 -- A basket at small series, and its answers at their edges, computed from the definitions. Assumes nothing.
-use Rattle.std.specs.Prelude.{List, [], ◌∷◌, ◌++◌, map, ◌≡◌, refl, ℕ, suc, ◌+◌, ◌*◌, ℤ, pos, negsuc, replicate, Float}
+use Rattle.std.specs.Prelude.{List, [], ◌∷◌, ◌++◌, map, ◌≡◌, refl, ℕ, suc, ◌+◌, ◌*◌, ℤ, pos, negsuc, replicate, Float, Ok, Err}
 use Rattle.std.specs.Float.{nan}
 use Rattle.std.specs.Float.Ieee.{round, add, sub, div, of_int, lt, eq, le, to_bits}
 use Rattle.limits.specs.Limits.{longest_window}
@@ -14,10 +14,8 @@ use Rattle.calls.specs.declared.Refusal.TheVariants.{
   BrokenLine,
   WeightTooLarge,
 }
-use Rattle.calls.specs.declared.Answer.{Answer}
-use Rattle.calls.specs.declared.Answer.TheVariants.{Cells, Refused}
+use Rattle.calls.specs.Answer.{Answer, slices, checked, windowed, answered}
 use Rattle.values.specs.Accepted.{accepted}
-use Rattle.calls.specs.Answer.{slices, checked, windowed, answered}
 use Rattle.cells.specs.Line.{plus_zero, from_bar}
 use Rattle.cells.specs.Recur.{recur}
 use Rattle.cells.specs.Shown.{prices, first_cells}
@@ -83,7 +81,7 @@ shapes : one bar (1 ∷ 1 ∷ 1 ∷ 0 ∷ 32 ∷ []) (pos 1000) 33 8
     ∷ (1 ∷ 0 ∷ 1 ∷ 0 ∷ 1 ∷ [])
     ∷ (1 ∷ 4 ∷ 1 ∷ 0 ∷ 1 ∷ [])
     ∷ [])
-    ≡ Cells 33 ∷ replicate 8 (Refused BrokenLine)
+    ≡ Ok 33 ∷ replicate 8 (Err BrokenLine)
 unfolding basket_answer each_answered contract_at own_answer answered double_answer slices checked windowed accepted
     lt eq le to_bits
 shapes = refl
@@ -103,19 +101,19 @@ refusals : one bar (2 ∷ 1 ∷ 1 ∷ 0 ∷ 1 ∷ []) (pos 1001) 0 0
     ∷ one bar (1 ∷ 2 ∷ 1 ∷ 0 ∷ 1 ∷ []) (pos 0) 33 8
     ∷ one [] (0 ∷ 2 ∷ 1 ∷ 1 ∷ 1 ∷ []) (pos 0) 0 0
     ∷ []
-    ≡ Refused LengthsDiffer
-    ∷ Refused LengthsDiffer
-    ∷ Refused OutputTooShort
-    ∷ Refused WorkTooShort
-    ∷ Refused WeightTooLarge
-    ∷ Refused WeightTooLarge
-    ∷ Refused ValueNotAccepted
-    ∷ Refused WindowTooLong
-    ∷ Refused WindowTooLong
-    ∷ Cells 33
-    ∷ Refused WindowsOutOfOrder
-    ∷ Cells 33
-    ∷ Cells 0
+    ≡ Err LengthsDiffer
+    ∷ Err LengthsDiffer
+    ∷ Err OutputTooShort
+    ∷ Err WorkTooShort
+    ∷ Err WeightTooLarge
+    ∷ Err WeightTooLarge
+    ∷ Err ValueNotAccepted
+    ∷ Err WindowTooLong
+    ∷ Err WindowTooLong
+    ∷ Ok 33
+    ∷ Err WindowsOutOfOrder
+    ∷ Ok 33
+    ∷ Ok 0
     ∷ []
 unfolding basket_answer each_answered contract_at own_answer answered double_answer slices checked windowed accepted
     lt eq le to_bits
@@ -124,7 +122,7 @@ refusals = refl
 -- the first contract that is refused gives its refusal: a window too long before a NaN, and after it
 in_order : map (λ t. basket_answer (plus_zero ∷ nan ∷ []) t (pos 0 ∷ pos 0 ∷ []) 33 8)
     ((1 ∷ 1 ∷ suc longest_window ∷ 0 ∷ 1 ∷ 1 ∷ 1 ∷ 1 ∷ 0 ∷ 1 ∷ []) ∷ (1 ∷ 1 ∷ 1 ∷ 0 ∷ 1 ∷ 1 ∷ 1 ∷ 1 ∷ 0 ∷ 1 ∷ []) ∷ [])
-    ≡ Refused WindowTooLong ∷ Refused ValueNotAccepted ∷ []
+    ≡ Err WindowTooLong ∷ Err ValueNotAccepted ∷ []
 unfolding basket_answer each_answered contract_at own_answer answered double_answer slices checked windowed accepted
     lt eq le to_bits
 in_order = refl

@@ -5,7 +5,7 @@ mod nets;
 mod parts;
 mod table;
 
-ghost use Rattle.std.specs.Prelude.{◌*◌, ◌<◌, ◌≤◌, pos, length};
+ghost use Rattle.std.specs.Prelude.{◌*◌, ◌<◌, length};
 ghost use Rattle.cells.specs.Written.{Writing};
 ghost use Rattle.cells.specs.inner.Touched.{Touched};
 ghost use Rattle.basket.specs.Basket.{rows, net_line, contracts_of, BasketCall};
@@ -20,22 +20,10 @@ const MOST_CONTRACTS: usize = 32;
 const GROUPS: u64 = 32;
 
 // The largest weight either way.
-const LARGEST_WEIGHT: i64 = 1000;
+const LARGEST_WEIGHT: u64 = 1000;
 
 // The rows of an output: one for each group, and one for the whole.
 const ROWS: usize = 33;
-
-// Writes 0 to the first n cells.
-fn fill_flat(out: &mut [i64], n: usize)
-    requires { n ≤ length out.old }
-    ensures { Writing n (λ i. pos 0) out.old out.new }
-{
-    let mut i = 0;
-    while i < n {
-        out[i] = 0;
-        i += 1;
-    }
-}
 
 // Writes the nets of all contracts.
 fn write_nets(
@@ -53,7 +41,7 @@ fn write_nets(
         × Touched (8 * bars) work.old work.new }
 {
     let mut block = [0.0; 4096];
-    fill_flat(out, ROWS * bars);
+    cells::fill(out, ROWS * bars, 0);
     parts::add_contracts(series, contracts, weights, bars, out, &mut block, work);
 }
 

@@ -27,11 +27,8 @@ fn add_row(out: &mut [i64], first: usize, weight: i64, positions: &[f64], from: 
     ensures { Added first count (λ j. weight *ℤ whole_position (line positions.now (from + j)))
         out.old out.new }
 {
-    let mut j = 0;
-    while j < count {
-        let more = weighted(weight, positions[from + j]);
-        out[first + j] = out[first + j] + more;
-        j += 1;
+    for j in 0..count {
+        out[first + j] += weighted(weight, positions[from + j]);
     }
 }
 

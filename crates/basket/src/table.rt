@@ -1,7 +1,7 @@
-// The checks of a basket's call: its table, its slices, its weights, and then its contracts in list order.
-ghost use Rattle.std.specs.Prelude.{◌≡◌, List, ◌+◌, ◌*◌, ◌^◌, ◌<◌, ◌≤◌, eqb, ℤ, pos, length, get_or};
+// The checks of a basket's call: its table, its slices, its weights, and then its contracts in list order. C lends
+// series, table and weights one by one, and contracts name each: a struct of the three is no plainer.
+ghost use Rattle.std.specs.Prelude.{◌≡◌, List, ◌+◌, ◌*◌, ◌^◌, ◌<◌, ◌≤◌, eqb, ℤ, pos, length, get_or, Ok};
 ghost use Rattle.cells.specs.Search.{every_bar};
-ghost use Rattle.calls.specs.declared.Answer.TheVariants.{Cells};
 ghost use Rattle.rules.specs.ByNumber.{answer_by_rule};
 ghost use Rattle.basket.specs.Basket.{
   rows,
@@ -21,15 +21,11 @@ fn all_listed(contracts: &[u64], count: usize) -> bool
     requires { 5 * count ≤ length contracts.now }
     ensures { result ≡ every_bar (listed contracts.now) count }
 {
-    let mut all = true;
-    let mut k = 0;
-    while k < count {
+    (0..count).all(|k| {
         let group = contracts[5 * k + 4];
         let rule = contracts[5 * k + 1];
-        all = all & (((1 <= group) & (group <= GROUPS)) & ((1 <= rule) & (rule <= 3)));
-        k += 1;
-    }
-    all
+        (1..=GROUPS).contains(&group) && (1..=3).contains(&rule)
+    })
 }
 
 // Whether each contract has so many bars.
@@ -37,13 +33,7 @@ fn all_as_long(contracts: &[u64], count: usize, bars: u64) -> bool
     requires { 5 * count ≤ length contracts.now }
     ensures { result ≡ every_bar (as_long contracts.now bars) count }
 {
-    let mut all = true;
-    let mut k = 0;
-    while k < count {
-        all = all & (contracts[5 * k] == bars);
-        k += 1;
-    }
-    all
+    (0..count).all(|k| contracts[5 * k] == bars)
 }
 
 // Whether so many parts of so many bars make a slice of `len`.
@@ -58,7 +48,7 @@ fn makes_up(len: usize, count: usize, bars: usize) -> bool
 fn is_light(weight: i64) -> bool
     ensures { result ≡ light weight }
 {
-    (weight <= LARGEST_WEIGHT) & (0 - LARGEST_WEIGHT <= weight)
+    weight.unsigned_abs() <= LARGEST_WEIGHT
 }
 
 // Whether no weight is too large.
@@ -66,13 +56,7 @@ fn all_light(weights: &[i64]) -> bool
     ensures { result ≡ every_bar (λ k. light (get_or weights.now k (pos 0)))
         (length weights.now) }
 {
-    let mut all = true;
-    let mut k = 0;
-    while k < weights.len() {
-        all = all & is_light(weights[k]);
-        k += 1;
-    }
-    all
+    weights.iter().all(|weight| is_light(*weight))
 }
 
 // What a call of the rule alone answers on these prices, with so many work cells.
@@ -115,17 +99,12 @@ fn answer_contracts(
 ) -> Answer
     requires { Sized series.now contracts.now weights.now bars out work }
     ensures { result ≡ each_answered (contracts_of bars series.now contracts.now
-        weights.now) (Cells (rows * bars)) }
+        weights.now) (Ok (rows * bars)) }
 {
-    let mut k = 0;
-    while k < weights.len() {
-        let given = answer_contract(series, contracts, k, bars);
-        if let Answer::Refused(_) = given {
-            return given;
-        }
-        k += 1;
+    for k in 0..weights.len() {
+        answer_contract(series, contracts, k, bars)?;
     }
-    Answer::Cells(ROWS * bars)
+    Ok(ROWS * bars)
 }
 
 // The answer once each contract has a group and a rule: the lengths, the slices, the weights, and the contracts.
@@ -144,17 +123,17 @@ fn answer_listed(
     let bars = contracts[0] as usize;
     if all_as_long(contracts, count, contracts[0]) & makes_up(series.len(), count, bars) {
         if bars > out / ROWS {
-            return Answer::Refused(Refusal::OutputTooShort);
+            return Err(Refusal::OutputTooShort);
         }
         if bars > work / 8 {
-            return Answer::Refused(Refusal::WorkTooShort);
+            return Err(Refusal::WorkTooShort);
         }
         if all_light(weights) {
             return answer_contracts(series, contracts, weights, bars, out, work);
         }
-        return Answer::Refused(Refusal::WeightTooLarge);
+        return Err(Refusal::WeightTooLarge);
     }
-    Answer::Refused(Refusal::LengthsDiffer)
+    Err(Refusal::LengthsDiffer)
 }
 
 // The answer of `basket`.
@@ -176,5 +155,5 @@ pub fn answer_basket(
             }
         }
     }
-    Answer::Refused(Refusal::BrokenLine)
+    Err(Refusal::BrokenLine)
 }

@@ -7,19 +7,18 @@ use native.Mathlib.Omega.{arith}
 use borrow.Author.Tests.{ltb-false, ltb-true}
 use lib.Dec.{ltb}
 use Rattle.calls.specs.declared.Refusal.{Refusal}
-use Rattle.calls.specs.declared.Answer.{Answer}
-use Rattle.calls.specs.declared.Answer.TheVariants.{Cells, Refused}
+use Rattle.calls.specs.Answer.{Answer, count_of}
+use Rattle.std.specs.Prelude.{Ok, Err}
 use Rattle.cells.specs.Written.{Writing}
-use Rattle.calls.specs.Answer.{count_of}
 use Rattle.calls.specs.Call.{Call}
 
 module _ {A : Type 0} {due : Answer} {f : ℕ → A} {out₀ : List A} where
   -- a refusal changes no cell
-  pub refused : {r : Answer} {q : Refusal} → r ≡ due → r ≡ Refused q → Call due f out₀ r out₀
+  pub refused : {r : Answer} {q : Refusal} → r ≡ due → r ≡ Err q → Call due f out₀ r out₀
   refused e q = record { answer = e; cells = rw q }
 
   -- a count says how much is written
-  pub counted : {k : ℕ} {out₁ : List A} → Cells k ≡ due → Writing k f out₀ out₁ → Call due f out₀ (Cells k) out₁
+  pub counted : {k : ℕ} {out₁ : List A} → Ok k ≡ due → Writing k f out₀ out₁ → Call due f out₀ (Ok k) out₁
   counted e o = record { answer = e; cells = o.is }
 
   -- no cells
@@ -28,12 +27,12 @@ module _ {A : Type 0} {due : Answer} {f : ℕ → A} {out₀ : List A} where
 
 -- a call that has cells has one for each of l bars
 abbrev pub AllBars : Answer → ℕ → Type 0
-AllBars due l = (k : ℕ) → due ≡ Cells k → 0 < k → k ≡ l
+AllBars due l = (k : ℕ) → due ≡ Ok k → 0 < k → k ≡ l
 
 -- where there are cells, they are those of all bars
 pub all_counted : {due r : Answer} {l : ℕ} → AllBars due l → r ≡ due → 0 < count_of r → count_of r ≡ l
-all_counted {r = Cells k} whole e h = whole k (sym e) h
-all_counted {r = Refused q} whole e h = let none : 0 < 0 = h in absurd (omega arith)
+all_counted {r = Ok k} whole e h = whole k (sym e) h
+all_counted {r = Err q} whole e h = let none : 0 < 0 = h in absurd (omega arith)
 
 -- all cells
 pub all_called : {A : Type 0} {due r : Answer} {l : ℕ} {f : ℕ → A} {out₀ out₁ : List A} → AllBars due l → r ≡ due

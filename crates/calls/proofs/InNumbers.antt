@@ -19,9 +19,8 @@ use Rattle.calls.specs.declared.Refusal.TheVariants.{
   PositionUnknown,
   WeightTooLarge,
 }
-use Rattle.calls.specs.declared.Answer.{Answer}
-use Rattle.calls.specs.declared.Answer.TheVariants.{Cells, Refused}
-use Rattle.calls.specs.Answer.{number, refusal_of, count_of}
+use Rattle.calls.specs.Answer.{Answer, number, refusal_of, count_of}
+use Rattle.std.specs.Prelude.{Ok, Err}
 use Rattle.calls.specs.declared.numbers.CAnswer.{CAnswer}
 use Rattle.calls.specs.Numbers.{Numbers, InNumbers}
 
@@ -46,13 +45,13 @@ numbered NotCovered e = omega arith
 numbered PositionUnknown e = omega arith
 numbered WeightTooLarge e = omega arith
 
-answered_with_lem : (a : Answer) → refusal_of a ≡ 0 → a ≡ Cells (count_of a)
-answered_with_lem (Cells k) e = refl
-answered_with_lem (Refused q) e = absurd (numbered q e)
+answered_with_lem : (a : Answer) → refusal_of a ≡ 0 → a ≡ Ok (count_of a)
+answered_with_lem (Ok k) e = refl
+answered_with_lem (Err q) e = absurd (numbered q e)
 
 -- Refusal 0 says that the call was answered with as many cells as the count: its contract holds of that answer.
-pub accepted_call : {P : Answer → Type 0} {r : CAnswer} → InNumbers P r → r.refusal ≡ 0 → P (Cells r.count)
+pub accepted_call : {P : Answer → Type 0} {r : CAnswer} → InNumbers P r → r.refusal ≡ 0 → P (Ok r.count)
 accepted_call {P} {r} c e =
     let n = c.numbers in
-    let a : c.answer ≡ Cells r.count = answered_with_lem c.answer (sym n.refusal ∙ e) ∙ rw n.count in
+    let a : c.answer ≡ Ok r.count = answered_with_lem c.answer (sym n.refusal ∙ e) ∙ rw n.count in
     rw a at c.call

@@ -17,25 +17,10 @@ use Rattle.calls.specs.declared.Refusal.TheVariants.{
   WorkTooShort,
   ValueNotAccepted,
 }
-use Rattle.calls.specs.declared.Answer.{Answer}
-use Rattle.calls.specs.declared.Answer.TheVariants.{Cells, Refused}
+use Rattle.calls.specs.Answer.{Answer, count_of, first, unless, and_then, empty_if, slices, checked, any_zero, limited, unless_empty, windowed, answered, answered_with}
+use Rattle.std.specs.Prelude.{Ok, Err}
 use Rattle.values.specs.Accepted.{finite, all}
 use Rattle.values.proofs.All.{and_true, and_parts}
-use Rattle.calls.specs.Answer.{
-  count_of,
-  first,
-  unless,
-  and_then,
-  empty_if,
-  slices,
-  checked,
-  any_zero,
-  limited,
-  unless_empty,
-  windowed,
-  answered,
-  answered_with,
-}
 use Rattle.calls.proofs.Call.{AllBars}
 use Rattle.calls.specs.inner.Fits.{window_fits, Fits}
 use Rattle.calls.specs.inner.Room.{AtLeast}
@@ -50,7 +35,7 @@ or_false false = refl
 -- refusals 1 to 3, and then the next
 parted : (t u v : Bool) (l : ℕ) (next : Answer)
     → unless t SeriesTooLong (unless u LengthsDiffer (unless v OutputTooShort next))
-    ≡ and_then (unless t SeriesTooLong (unless u LengthsDiffer (unless v OutputTooShort (Cells l)))) next
+    ≡ and_then (unless t SeriesTooLong (unless u LengthsDiffer (unless v OutputTooShort (Ok l)))) next
 parted true true true l next = refl
 parted true true false l next = refl
 parted true false v l next = refl
@@ -59,24 +44,24 @@ parted false u v l next = refl
 pub slices_one : (l out : ℕ) (work : List ℕ)
     → slices (l ∷ []) (out ∷ []) work
     ≡ unless (leb l longest_series) SeriesTooLong
-    (unless (leb l out) OutputTooShort (unless (all (λ room. leb (8 * l) room) work) WorkTooShort (Cells l)))
+    (unless (leb l out) OutputTooShort (unless (all (λ room. leb (8 * l) room) work) WorkTooShort (Ok l)))
 unfolding slices
 slices_one l out work = rw (and_true (leb l longest_series), and_true (eqb l l), eq-eqb l l refl, and_true (leb l out))
 
 -- the work slice comes after the other lengths
 pub slices_work : (series outputs : List ℕ) (work : ℕ)
     → slices series outputs (work ∷ [])
-    ≡ and_then (slices series outputs []) (unless (leb (8 * first series) work) WorkTooShort (Cells (first series)))
+    ≡ and_then (slices series outputs []) (unless (leb (8 * first series) work) WorkTooShort (Ok (first series)))
 unfolding slices
 slices_work series outputs work =
     let l = first series in
     rw (and_true (leb (8 * l) work))
     (parted (all (λ k. leb k longest_series) series) (all (λ k. eqb k l) series) (all (λ room. leb l room) outputs) l
-    (unless (leb (8 * l) work) WorkTooShort (Cells l)))
+    (unless (leb (8 * l) work) WorkTooShort (Ok l)))
 
 pub checked_one : (ok : Float → Bool) (s : List Float) (outputs work : List ℕ)
     → checked ok (s ∷ []) outputs work
-    ≡ and_then (slices (length s ∷ []) outputs work) (unless (all ok s) ValueNotAccepted (Cells (length s)))
+    ≡ and_then (slices (length s ∷ []) outputs work) (unless (all ok s) ValueNotAccepted (Ok (length s)))
 unfolding checked
 checked_one ok s outputs work = rw (and_true (all ok s))
 
@@ -88,21 +73,21 @@ pub record Room (ok : Float → Bool) (s : List Float) (out : ℕ) (work : List 
   pub work_long : AtLeast (8 * length s) work
   pub values : all ok s ≡ true
 
-pub unless_cells : (t : Bool) (q : Refusal) (next : Answer) (k : ℕ) → unless t q next ≡ Cells k → (t ≡ true)
-    × (next ≡ Cells k)
+pub unless_cells : (t : Bool) (q : Refusal) (next : Answer) (k : ℕ) → unless t q next ≡ Ok k → (t ≡ true)
+    × (next ≡ Ok k)
 unless_cells true q next k e = (refl, e)
 unless_cells false q next k e = let z : ◌≡◌ {A = ℕ} 0 1 = cc in absurd (omega arith)
 
-pub and_then_cells : (a next : Answer) (k : ℕ) → and_then a next ≡ Cells k → (a ≡ Cells (count_of a)) × (next ≡ Cells k)
-and_then_cells (Cells j) next k e = (refl, e)
-and_then_cells (Refused q) next k e = let z : ◌≡◌ {A = ℕ} 0 1 = cc in absurd (omega arith)
+pub and_then_cells : (a next : Answer) (k : ℕ) → and_then a next ≡ Ok k → (a ≡ Ok (count_of a)) × (next ≡ Ok k)
+and_then_cells (Ok j) next k e = (refl, e)
+and_then_cells (Err q) next k e = let z : ◌≡◌ {A = ℕ} 0 1 = cc in absurd (omega arith)
 
-pub empty_if_cells : (t : Bool) (next : Answer) (k : ℕ) → empty_if t next ≡ Cells k → 0 < k → (t ≡ false)
-    × (next ≡ Cells k)
+pub empty_if_cells : (t : Bool) (next : Answer) (k : ℕ) → empty_if t next ≡ Ok k → 0 < k → (t ≡ false)
+    × (next ≡ Ok k)
 empty_if_cells false next k e h = (refl, e)
 empty_if_cells true next k e h = let z : 0 ≡ k = cc in absurd (omega arith)
 
-pub same_count : (j k : ℕ) → Cells j ≡ Cells k → j ≡ k
+pub same_count : (j k : ℕ) → ◌≡◌ {A = Answer} (Ok j) (Ok k) → j ≡ k
 same_count j k e = cc
 
 positive : (n : ℕ) → (n ≡ 0 → ⊥) → 0 < n
@@ -123,7 +108,7 @@ at_least k (room ∷ rooms) e =
     (leb-true k room parts.0, at_least k rooms parts.1)
 
 pub checked_room : (ok : Float → Bool) (s : List Float) (out : ℕ) (work : List ℕ) (k : ℕ)
-    → checked ok (s ∷ []) (out ∷ []) work ≡ Cells k
+    → checked ok (s ∷ []) (out ∷ []) work ≡ Ok k
     → Room ok s out work
 checked_room ok s out work k e =
     let a = and_then_cells _ _ k (sym (checked_one ok s (out ∷ []) work) ∙ e) in
@@ -157,10 +142,10 @@ pub record Asked (l : ℕ) (numbers : List Float) (windows periods : List ℕ) (
   pub some_periods : any_zero periods ≡ false
   pub each : EachWindow windows
   pub bars : 0 < l
-  pub rest : next ≡ Cells k
+  pub rest : next ≡ Ok k
 
 pub asked : (l : ℕ) (numbers : List Float) (windows periods : List ℕ) (next : Answer) (k : ℕ)
-    → limited numbers windows periods (unless_empty l windows periods next) ≡ Cells k → 0 < k
+    → limited numbers windows periods (unless_empty l windows periods next) ≡ Ok k → 0 < k
     → Asked l numbers windows periods next k
 asked l numbers windows periods next k e h =
     let a = unless_cells (all finite numbers) _ _ k e in
@@ -180,16 +165,16 @@ asked l numbers windows periods next k e h =
 -- ---- a call of one series with numbers and windows
 
 module _ (ok : Float → Bool) (s numbers : List Float) (windows : List ℕ) (out : ℕ) (work : List ℕ) where
-  module _ (k : ℕ) (e : answered_with ok s numbers windows out work ≡ Cells k) where
+  module _ (k : ℕ) (e : answered_with ok s numbers windows out work ≡ Ok k) where
     -- it has room for its cells
     with_room : Room ok s out work
     unfolding answered_with
     with_room = checked_room ok s out work _ (and_then_cells (checked ok (s ∷ []) (out ∷ []) work) _ k e).0
 
     -- and where there are cells to be written, windows
-    with_opened : 0 < k → Asked (length s) numbers windows [] (Cells (length s)) k
+    with_opened : 0 < k → Asked (length s) numbers windows [] (Ok (length s)) k
     unfolding answered_with
-    with_opened h = asked (length s) numbers windows [] (Cells (length s)) k
+    with_opened h = asked (length s) numbers windows [] (Ok (length s)) k
         (and_then_cells (checked ok (s ∷ []) (out ∷ []) work) _ k e).1 h
 
   -- it has a cell for each bar
@@ -199,8 +184,8 @@ module _ (ok : Float → Bool) (s numbers : List Float) (windows : List ℕ) (ou
   -- where an answer has cells its windows are open, and there are bars
   pub with_windows : {r : Answer} → r ≡ answered_with ok s numbers windows out work → 0 < count_of r
       → EachWindow windows × (0 < length s)
-  with_windows {r = Cells k} e h = let a = with_opened k (sym e) h in (a.each, a.bars)
-  with_windows {r = Refused q} e h = let none : 0 < 0 = h in absurd (omega arith)
+  with_windows {r = Ok k} e h = let a = with_opened k (sym e) h in (a.each, a.bars)
+  with_windows {r = Err q} e h = let none : 0 < 0 = h in absurd (omega arith)
 
 -- ---- with windows alone
 
@@ -209,19 +194,19 @@ module _ (ok : Float → Bool) (s : List Float) (windows : List ℕ) (out : ℕ)
   unfolding answered windowed answered_with
   with_none = refl
 
-  module _ (k : ℕ) (e : answered ok s windows out work ≡ Cells k) where
+  module _ (k : ℕ) (e : answered ok s windows out work ≡ Ok k) where
     pub room : Room ok s out work
     room = with_room ok s [] windows out work k (sym with_none ∙ e)
 
-    pub opened : 0 < k → Asked (length s) [] windows [] (Cells (length s)) k
+    pub opened : 0 < k → Asked (length s) [] windows [] (Ok (length s)) k
     opened = with_opened ok s [] windows out work k (sym with_none ∙ e)
 
   pub all_bars : AllBars (answered ok s windows out work) (length s)
   all_bars = rw with_none (with_bars ok s [] windows out work)
 
   pub answered_room : {r : Answer} → r ≡ answered ok s windows out work → 0 < count_of r → Room ok s out work
-  answered_room {r = Cells k} e h = room k (sym e)
-  answered_room {r = Refused q} e h = let none : 0 < 0 = h in absurd (omega arith)
+  answered_room {r = Ok k} e h = room k (sym e)
+  answered_room {r = Err q} e h = let none : 0 < 0 = h in absurd (omega arith)
 
   pub answered_windows : {r : Answer} → r ≡ answered ok s windows out work → 0 < count_of r → EachWindow windows
   answered_windows e h = (with_windows ok s [] windows out work (e ∙ with_none) h).0
@@ -255,18 +240,18 @@ none_fits bars n out e w r s = go (leb n bars) refl
         ∙ e))
 
 -- a count that is answered twice
-pub counted_twice : (t : Bool) (q : Refusal) (k : ℕ) → and_then (unless t q (Cells k)) (Cells k) ≡ unless t q (Cells k)
+pub counted_twice : (t : Bool) (q : Refusal) (k : ℕ) → and_then (unless t q (Ok k)) (Ok k) ≡ unless t q (Ok k)
 counted_twice true q k = refl
 counted_twice false q k = refl
 
 module _ (ok : Float → Bool) (s : List Float) (n out : ℕ) (f : window_fits (length s) n out ≡ true) where
   -- then the values decide
-  pub fits_checked : checked ok (s ∷ []) (out ∷ []) [] ≡ unless (all ok s) ValueNotAccepted (Cells (length s))
+  pub fits_checked : checked ok (s ∷ []) (out ∷ []) [] ≡ unless (all ok s) ValueNotAccepted (Ok (length s))
   fits_checked =
       let h = fits_parts (length s) n out f in
       rw (checked_one ok s (out ∷ []) [], slices_one (length s) out [], le-leb _ _ h.short, le-leb _ _ h.room)
 
-  pub fits_answered : answered ok s (n ∷ []) out [] ≡ unless (all ok s) ValueNotAccepted (Cells (length s))
+  pub fits_answered : answered ok s (n ∷ []) out [] ≡ unless (all ok s) ValueNotAccepted (Ok (length s))
   unfolding answered windowed
   fits_answered =
       let h = fits_parts (length s) n out f in

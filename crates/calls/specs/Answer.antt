@@ -1,6 +1,6 @@
 -- What a call answers: the numbers of documents 01 and 02, and their table of refusals read from the top. Assumes
 -- nothing.
-use Rattle.std.specs.Prelude.{Bool, true, false, ◌||◌, List, [], ◌∷◌, map, ℕ, ◌*◌, leb, eqb, length, Float}
+use Rattle.std.specs.Prelude.{Result, Bool, true, false, ◌||◌, List, [], ◌∷◌, map, ℕ, ◌*◌, leb, eqb, length, Float, Ok, Err}
 use Rattle.std.specs.Float.Ieee.{le}
 use Rattle.calls.specs.declared.Refusal.{Refusal}
 use Rattle.calls.specs.declared.Refusal.TheVariants.{
@@ -20,12 +20,14 @@ use Rattle.calls.specs.declared.Refusal.TheVariants.{
   PositionUnknown,
   WeightTooLarge,
 }
-use Rattle.calls.specs.declared.Answer.{Answer}
-use Rattle.calls.specs.declared.Answer.TheVariants.{Cells, Refused}
 use Rattle.cells.specs.Line.{Line, line}
 use Rattle.cells.specs.Search.{every_bar}
 use Rattle.values.specs.Accepted.{finite, tick, all}
 use Rattle.limits.specs.Limits.{longest_series, longest_window, longest_period}
+
+-- how many cells of each output are written, or why none are
+abbrev pub Answer : Type 0
+Answer = Result ℕ Refusal
 
 -- the number of a refusal
 abbrev pub number : Refusal → ℕ
@@ -47,34 +49,34 @@ number WeightTooLarge = 16
 
 -- the number of the refusal, 0 where there is none
 abbrev pub refusal_of : Answer → ℕ
-refusal_of (Cells k) = 0
-refusal_of (Refused q) = number q
+refusal_of (Ok k) = 0
+refusal_of (Err q) = number q
 
 -- how many cells of each output are written
 abbrev pub count_of : Answer → ℕ
-count_of (Cells k) = k
-count_of (Refused q) = 0
+count_of (Ok k) = k
+count_of (Err q) = 0
 
 -- how many of n work cells are cleared: all of them where the call is answered
 abbrev pub cleared_of : Answer → ℕ → ℕ
-cleared_of (Cells k) n = n
-cleared_of (Refused q) n = 0
+cleared_of (Ok k) n = n
+cleared_of (Err q) n = 0
 
 -- ---- the table, read from the top
 
 -- refused, unless the test holds
 abbrev pub unless : Bool → Refusal → Answer → Answer
 unless true q next = next
-unless false q next = Refused q
+unless false q next = Err q
 
 -- a refusal stands, and after a count comes what is next
 abbrev pub and_then : Answer → Answer → Answer
-and_then (Cells k) next = next
-and_then (Refused q) next = Refused q
+and_then (Ok k) next = next
+and_then (Err q) next = Err q
 
 -- the empty answer, where the test holds
 abbrev pub empty_if : Bool → Answer → Answer
-empty_if true next = Cells 0
+empty_if true next = Ok 0
 empty_if false next = next
 
 -- the length of the first series, which is L
@@ -90,14 +92,14 @@ slices series outputs work =
     (unless (all (λ l. eqb l (first series)) series) LengthsDiffer
     (unless (all (λ room. leb (first series) room) outputs) OutputTooShort
     (unless (all (λ room. leb (8 * first series) room) work) WorkTooShort
-    (Cells (first series)))))
+    (Ok (first series)))))
 
 -- Refusals 1 to 5: `ok` says which values are accepted.
 unfoldable pub checked : (Float → Bool) → List (List Float) → List ℕ → List ℕ → Answer
 unfolding slices
 checked ok series outputs work =
     let lengths = map length series in
-    and_then (slices lengths outputs work) (unless (all (all ok) series) ValueNotAccepted (Cells (first lengths)))
+    and_then (slices lengths outputs work) (unless (all (all ok) series) ValueNotAccepted (Ok (first lengths)))
 
 -- no low is above its high, at the first k bars
 unfoldable pub in_order : Line → Line → ℕ → Bool
@@ -108,7 +110,7 @@ unfoldable pub ranged : List Float → List Float → ℕ → Answer
 unfolding checked
 ranged low high output =
     and_then (checked tick (low ∷ high ∷ []) (output ∷ []) [])
-    (unless (in_order (line low) (line high) (length low)) LowAboveHigh (Cells (length low)))
+    (unless (in_order (line low) (line high) (length low)) LowAboveHigh (Ok (length low)))
 
 -- whether a zero is among them
 abbrev pub any_zero : List ℕ → Bool
@@ -136,7 +138,7 @@ windowed l windows next = limited [] windows [] (unless_empty l windows [] next)
 unfoldable pub answered : (Float → Bool) → List Float → List ℕ → ℕ → List ℕ → Answer
 unfolding checked windowed
 answered ok s windows output work =
-    and_then (checked ok (s ∷ []) (output ∷ []) work) (windowed (length s) windows (Cells (length s)))
+    and_then (checked ok (s ∷ []) (output ∷ []) work) (windowed (length s) windows (Ok (length s)))
 
 -- The same with f64 parameters: the table from the top, refusals 1 to 5, then 6 for the numbers, 7 for the windows, and
 -- the empty answer.
@@ -144,4 +146,4 @@ unfoldable pub answered_with : (Float → Bool) → List Float → List Float �
 unfolding checked
 answered_with ok s numbers windows output work =
     and_then (checked ok (s ∷ []) (output ∷ []) work)
-    (limited numbers windows [] (unless_empty (length s) windows [] (Cells (length s))))
+    (limited numbers windows [] (unless_empty (length s) windows [] (Ok (length s))))

@@ -1,8 +1,7 @@
 -- The contract of every call. `due` is the answer, f the line of the cells, r what came; 0 is at entry and 1 at exit.
 -- `Float` has one NaN, so "unchanged" is said up to the bits inside a NaN. Assumes nothing.
 use Rattle.std.specs.Prelude.{◌≡◌, List, ℕ, ◌*◌, Float}
-use Rattle.calls.specs.declared.Answer.{Answer}
-use Rattle.calls.specs.Answer.{count_of, cleared_of}
+use Rattle.calls.specs.Answer.{Answer, count_of, cleared_of}
 use Rattle.cells.specs.Line.{plus_zero}
 use Rattle.cells.specs.Written.{written}
 

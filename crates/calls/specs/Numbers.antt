@@ -1,7 +1,6 @@
 -- The contract of a call in numbers, as C programs see it. Assumes nothing.
 use Rattle.std.specs.Prelude.{◌≡◌}
-use Rattle.calls.specs.declared.Answer.{Answer}
-use Rattle.calls.specs.Answer.{refusal_of, count_of}
+use Rattle.calls.specs.Answer.{Answer, refusal_of, count_of}
 use Rattle.calls.specs.declared.numbers.CAnswer.{CAnswer}
 
 -- r holds the numbers of an answer

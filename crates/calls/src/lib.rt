@@ -6,52 +6,34 @@ pub mod numbers;
 ghost use Rattle.std.specs.Prelude.{◌≡◌, ltb};
 ghost use Rattle.calls.specs.Answer.{number, refusal_of, count_of};
 
+// Why a call is refused, each by its number.
 #[derive(Clone, Copy)]
 pub enum Refusal {
-    SeriesTooLong,
-    LengthsDiffer,
-    OutputTooShort,
-    WorkTooShort,
-    ValueNotAccepted,
-    ParameterNotFinite,
-    WindowTooLong,
-    SeriesTooShort,
-    WindowsOutOfOrder,
-    BrokenLine,
-    LowAboveHigh,
-    CoveredTwice,
-    NotCovered,
-    PositionUnknown,
-    WeightTooLarge,
+    SeriesTooLong = 1,
+    LengthsDiffer = 2,
+    OutputTooShort = 3,
+    WorkTooShort = 4,
+    ValueNotAccepted = 5,
+    ParameterNotFinite = 6,
+    WindowTooLong = 7,
+    SeriesTooShort = 8,
+    WindowsOutOfOrder = 9,
+    BrokenLine = 10,
+    LowAboveHigh = 11,
+    CoveredTwice = 12,
+    NotCovered = 13,
+    PositionUnknown = 14,
+    WeightTooLarge = 16,
 }
 
-#[derive(Clone, Copy)]
-pub enum Answer {
-    Cells(usize),
-    Refused(Refusal),
-}
+// How many cells of each output were written, or why none were.
+pub type Answer = Result<usize, Refusal>;
 
 // The number of a refusal.
 pub fn number_of(reason: Refusal) -> u64
     ensures { result ≡ number reason }
 {
-    match reason {
-        Refusal::SeriesTooLong => 1,
-        Refusal::LengthsDiffer => 2,
-        Refusal::OutputTooShort => 3,
-        Refusal::WorkTooShort => 4,
-        Refusal::ValueNotAccepted => 5,
-        Refusal::ParameterNotFinite => 6,
-        Refusal::WindowTooLong => 7,
-        Refusal::SeriesTooShort => 8,
-        Refusal::WindowsOutOfOrder => 9,
-        Refusal::BrokenLine => 10,
-        Refusal::LowAboveHigh => 11,
-        Refusal::CoveredTwice => 12,
-        Refusal::NotCovered => 13,
-        Refusal::PositionUnknown => 14,
-        Refusal::WeightTooLarge => 16,
-    }
+    reason as u64
 }
 
 // The number of an answer's refusal, 0 where there is none.
@@ -59,8 +41,8 @@ pub fn refusal_of(answer: Answer) -> u64
     ensures { result ≡ refusal_of answer }
 {
     match answer {
-        Answer::Cells(_) => 0,
-        Answer::Refused(reason) => number_of(reason),
+        Ok(_) => 0,
+        Err(reason) => number_of(reason),
     }
 }
 
@@ -68,10 +50,7 @@ pub fn refusal_of(answer: Answer) -> u64
 pub fn count_of(answer: Answer) -> usize
     ensures { result ≡ count_of answer }
 {
-    match answer {
-        Answer::Cells(count) => count,
-        Answer::Refused(_) => 0,
-    }
+    answer.unwrap_or(0)
 }
 
 // Whether an answer has cells.

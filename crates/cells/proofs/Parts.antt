@@ -1,10 +1,10 @@
--- A stage that reads the first part of a slice, which holds a line. Assumes nothing.
+-- Parts of a slice that are read, and a stage that reads the first part, which holds a line. Assumes nothing.
 use mathlib.Core.Path.{◌≡◌, ◌∙◌}
 use mathlib.Core.List.{List}
-use Prim.Native.Nat.{ℕ, ◌<◌, ◌≤◌}
+use Prim.Native.Nat.{ℕ, ◌+◌, ◌-◌, ◌<◌, ◌≤◌}
 use native.Mathlib.Omega.{arith}
-use lib.ListN.{length, take, length-take}
-use lib.Seq.{get_or-take}
+use lib.ListN.{length, take, drop, length-take, length-drop}
+use lib.Seq.{get_or-take, get_or-drop}
 use lib.Ieee.{Float, nan}
 use Rattle.cells.specs.Line.{Line, line, Causal}
 use Rattle.cells.specs.Written.{Writing}
@@ -13,6 +13,13 @@ use Rattle.cells.proofs.Written.{read_back, ends, writing_same}
 -- the first k cells of a slice that has as many
 pub taken_long : {A : Type 0} (k : ℕ) (s : List A) → k ≤ length s → length (take k s) ≡ k
 taken_long k s h = rw length-take (omega arith)
+
+-- the cells of a slice from index a up to b, lent
+pub lent_long : {A : Type 0} (a b : ℕ) (s : List A) → b ≤ length s → length (take (b - a) (drop a s)) ≡ b - a
+lent_long a b s h = simp (length-take, length-drop) (omega arith)
+
+pub lent_cell : (a k i : ℕ) (s : List Float) → i < k → line (take k (drop a s)) i ≡ line s (a + i)
+lent_cell a k i s h = get_or-take k (drop a s) i nan h ∙ get_or-drop a s i nan
 
 -- ---- a stage that reads the first part of a slice, which holds the line g
 

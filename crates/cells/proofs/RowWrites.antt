@@ -5,10 +5,11 @@ use mathlib.Core.List.{List, [], ◌∷◌, ◌++◌, append-nil}
 use Prim.Native.Nat.{ℕ, zero, suc, ◌+◌, ◌-◌, ◌<◌, ◌≤◌}
 use native.Mathlib.Nat.{not-suc-le-zero, le_of_suc-le-suc, zero-add, suc-add}
 use native.Mathlib.Omega.{arith}
-use lib.ListN.{length, take, drop, length-drop, drop_of_length-le}
+use lib.ListN.{length, take, drop, set, length-take, length-drop, take-append-drop, drop_of_length-le}
 use lib.Seq.{take_all}
+use Rattle.std.proofs.lemmas.List.{set-append_right}
 use Rattle.cells.specs.Written.{written, Writing}
-use Rattle.cells.proofs.Written.{length_written}
+use Rattle.cells.proofs.Written.{length_written, set_suc}
 use Rattle.cells.specs.inner.Rows.{beside}
 
 module _ {A : Type 0} where
@@ -35,6 +36,36 @@ module _ {A : Type 0} where
   drop_written zero g old = refl
   drop_written (suc a) g [] = refl
   drop_written (suc a) g (x ∷ old) = drop_written a (λ i. g (suc i)) old
+
+  -- cells set one after another from cell a on
+  abbrev pub sets : ℕ → ℕ → (ℕ → A) → List A → List A
+  sets zero a f s = s
+  sets (suc k) a f s = set (sets k a f s) (a + k) (f k)
+
+  sets_part : (k : ℕ) (f : ℕ → A) (xs ys : List A) → k ≤ length ys → xs ++ written k f ys
+      ≡ sets k (length xs) f (xs ++ ys)
+  sets_part zero f xs ys h = refl
+  sets_part (suc k) f xs ys h =
+      let last : set (xs ++ written k f ys) (length xs + k) (f k)
+      ≡ xs ++ set (written k f ys) (length xs + k - length xs) (f k) =
+      set-append_right xs (written k f ys) (length xs) (length xs + k) (f k) refl (omega arith) in
+      let at : length xs + k - length xs ≡ k = omega arith in
+      rw (← sets_part k f xs ys (omega arith), last, at, set_suc k f ys h)
+
+  -- the part from a on was lent, and came back with its first k cells written
+  pub lent_sets : {k : ℕ} {f : ℕ → A} {part : List A} (a : ℕ) (s : List A)
+      → Writing k f (take (length s - a) (drop a s)) part
+      → a + k ≤ length s
+      → take a s ++ (part ++ drop (length s - a) (drop a s)) ≡ sets k a f s
+  lent_sets {k} {f} {part} a s w h =
+      let all : length (drop a s) ≤ length s - a = rw length-drop (omega arith) in
+      let part_is : part ≡ written k f (drop a s) = w.is ∙ ap (written k f) (take_all (length s - a) (drop a s) all) in
+      let before : length (take a s) ≡ a = rw length-take (omega arith) in
+      ap (λ (t : List A). take a s ++ (part ++ t)) (drop_of_length-le (drop a s) all)
+      ∙ ap (λ (t : List A). take a s ++ t) (append-nil part ∙ part_is)
+      ∙ sets_part k f (take a s) (drop a s) (rw length-drop (omega arith))
+      ∙ ap (λ (n : ℕ). sets k n f (take a s ++ drop a s)) before
+      ∙ ap (sets k a f) (take-append-drop a s)
 
   -- the part from a on was lent, and came back with k cells written
   pub lent_on : {a k : ℕ} {g f : ℕ → A} {old mid part : List A}

@@ -17,7 +17,7 @@ use Rattle.cells.specs.inner.Touched.{Touched}
 use Rattle.cells.specs.inner.Rows.{beside}
 use Rattle.cells.proofs.Written.{none_written, one_more, step, read_back, ends, stands, stood, writing_same}
 use Rattle.cells.proofs.Leads.{not_yet}
-use Rattle.cells.proofs.RowWrites.{beside_first, beside_second, lent_on}
+use Rattle.cells.proofs.RowWrites.{beside_first, beside_second, lent_on, lent_sets}
 use Rattle.cells.proofs.Touched.{untouched, touched, touched_then, touched_more, written_over_all}
 use Rattle.cells.specs.inner.Scratch.{seven_cleared, put_at, Scratch}
 
@@ -56,6 +56,12 @@ seven_more {k} w h =
     let four = step (k + 3) (k + 4) (step (k + 2) (k + 3) two refl (omega arith)) refl (omega arith) in
     let six = step (k + 5) (k + 6) (step (k + 4) (k + 5) four refl (omega arith)) refl (omega arith) in
     step (k + 6) (k + 7) six refl (omega arith)
+
+-- the part from `at` on was lent, and came back with seven cells cleared
+pub lent_cleared : {part : List Float} (at : ℕ) (s : List Float)
+    → Writing 7 (λ i. plus_zero) (take (length s - at) (drop at s)) part → at + 7 ≤ length s
+    → take at s ++ (part ++ drop (length s - at) (drop at s)) ≡ seven_cleared at s
+lent_cleared at s w h = let first : at + 0 ≡ at = omega arith in rw first at (lent_sets at s w h)
 
 -- ---- the slice
 

@@ -1,11 +1,11 @@
 -- `written k f old` is the list `old` with its first k cells replaced: cell i by `f i`. Assumes nothing.
 use mathlib.Core.Path.{◌≡◌, refl, sym, ap, ◌∙◌}
-use mathlib.Core.List.{List, [], ◌∷◌}
+use mathlib.Core.List.{List, [], ◌∷◌, ◌++◌}
 use Prim.Native.Nat.{ℕ, zero, suc, ◌+◌, ◌<◌, ◌≤◌, zero-le, suc-le-suc}
 use native.Mathlib.Nat.{not-suc-le-zero, le_of_suc-le-suc, le_refl}
 use native.Mathlib.Numerals.{add-one}
 use native.Mathlib.Omega.{arith}
-use lib.ListN.{length, set, get_or, length-set}
+use lib.ListN.{length, take, drop, set, get_or, length-set}
 use Rattle.cells.specs.Written.{Writing, written}
 
 module _ {A : Type 0} where
@@ -14,7 +14,8 @@ module _ {A : Type 0} where
   length_written (suc k) f [] = refl
   length_written (suc k) f (x ∷ old) = ap suc (length_written k (λ i. f (suc i)) old)
 
-  set_suc : (k : ℕ) (f : ℕ → A) (old : List A) → k < length old → set (written k f old) k (f k) ≡ written (suc k) f old
+  pub set_suc : (k : ℕ) (f : ℕ → A) (old : List A) → k < length old
+      → set (written k f old) k (f k) ≡ written (suc k) f old
   set_suc k f [] h = absurd (not-suc-le-zero h)
   set_suc zero f (x ∷ old) h = refl
   set_suc (suc k) f (x ∷ old) h = ap (λ (t : List A). f 0 ∷ t) (set_suc k (λ i. f (suc i)) old (le_of_suc-le-suc h))
@@ -57,6 +58,11 @@ module _ {A : Type 0} where
       (ap (λ (t : List A). g 0 ∷ t) (written_same k (λ i. f (suc i)) (λ i. g (suc i)) old
       (λ i l. h (suc i) (suc-le-suc l))))
 
+  front : (k : ℕ) (f : ℕ → A) (old : List A) → written k f (take k old) ++ drop k old ≡ written k f old
+  front zero f old = refl
+  front (suc k) f [] = refl
+  front (suc k) f (x ∷ old) = ap (λ (t : List A). f 0 ∷ t) (front k (λ i. f (suc i)) old)
+
 module _ {A : Type 0} {f : ℕ → A} {old : List A} where
   -- nothing is written yet
   pub none_written : Writing 0 f old old
@@ -80,6 +86,13 @@ module _ {A : Type 0} {f : ℕ → A} {old : List A} where
   -- the loop is over, and its count is n
   pub ends : {k n : ℕ} {now : List A} → Writing k f old now → k ≡ n → Writing n f old now
   ends w e = rw (← e) w
+
+  -- the first n cells were lent, and came back written
+  pub lent_front : {k n : ℕ} {part : List A} → Writing k f (take n old) part → k ≡ n
+      → Writing n f old (part ++ drop n old)
+  lent_front {k} {n} {part} w e =
+      let whole : part ++ drop n old ≡ written n f old = rw (w.is, e) (front n f old) in
+      record { is = whole; long = ap length whole ∙ length_written n f old }
 
   -- what is written stands there, also for a call that writes on
   pub stands : {k : ℕ} {now : List A} → Writing k f old now → Writing k f now now

@@ -15,18 +15,16 @@ ghost use Rattle.cells.specs.inner.Kept.{Kept};
 pub fn smaller(a: usize, b: usize) -> usize
     ensures { result ≡ min a b }
 {
-    if a < b { a } else { b }
+    a.min(b)
 }
 
 // Writes x to the first n cells.
-pub fn fill(cells: &mut [f64], n: usize, x: f64)
+pub fn fill<T: Copy>(cells: &mut [T], n: usize, x: T)
     requires { n ≤ length cells.old }
     ensures { Writing n (λ i. x) cells.old cells.new }
 {
-    let mut i = 0;
-    while i < n {
-        cells[i] = x;
-        i += 1;
+    for cell in &mut cells[..n] {
+        *cell = x;
     }
 }
 
@@ -39,7 +37,7 @@ pub fn clear(cells: &mut [f64], n: usize)
 }
 
 // Writes x to the bars before bar b, and gives the bar after them: b, or the end where the bars end before it.
-pub fn fill_lead(cells: &mut [f64], b: usize, bars: usize, x: f64) -> usize
+pub fn fill_lead<T: Copy>(cells: &mut [T], b: usize, bars: usize, x: T) -> usize
     requires { bars ≤ length cells.old }
     ensures { Led b bars x result cells.old cells.new }
 {
@@ -53,7 +51,7 @@ pub fn fill_nan(cells: &mut [f64], b: usize, bars: usize) -> usize
     requires { bars ≤ length cells.old }
     ensures { Led b bars nan result cells.old cells.new }
 {
-    fill_lead(cells, b, bars, 0.0 / 0.0)
+    fill_lead(cells, b, bars, f64::NAN)
 }
 
 // Moves the bytes from `from` to `to` to the front of the block, and gives how many they are.
@@ -61,11 +59,6 @@ pub fn keep(block: &mut [u8], from: usize, to: usize) -> usize
     requires { (from ≤ to) × (to ≤ length block.old) }
     ensures { Kept from to block.old result block.new }
 {
-    let kept = to - from;
-    let mut i = 0;
-    while i < kept {
-        block[i] = block[from + i];
-        i += 1;
-    }
-    kept
+    block.copy_within(from..to, 0);
+    to - from
 }

@@ -1,5 +1,6 @@
 // A work slice that a loop clears while it uses the last row. Each bar has seven cells in the rows before it, so that
-// they are cleared in the time that a loop waits for its last result.
+// they are cleared in the time that a loop waits for its last result. C lends the slice and says the bars, so both are
+// passed.
 ghost use Rattle.std.specs.Prelude.{◌≡◌, ◌*◌, ◌<◌, ◌≤◌, length};
 ghost use Rattle.cells.specs.Line.{plus_zero};
 ghost use Rattle.cells.specs.Written.{Writing};
@@ -10,15 +11,8 @@ pub fn put(work: &mut [f64], bars: usize, i: usize, x: f64)
     requires { (i < bars) × (8 * bars ≤ length work.old) }
     ensures { work.new ≡ put_at bars i x work.old }
 {
-    let at = 7 * i;
     work[7 * bars + i] = x;
-    work[at] = 0.0;
-    work[at + 1] = 0.0;
-    work[at + 2] = 0.0;
-    work[at + 3] = 0.0;
-    work[at + 4] = 0.0;
-    work[at + 5] = 0.0;
-    work[at + 6] = 0.0;
+    crate::clear(&mut work[7 * i..], 7);
 }
 
 // Clears the cells of the first k bars.

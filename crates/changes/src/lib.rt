@@ -12,6 +12,20 @@ pub struct Averages {
     pub loss: f64,
 }
 
+impl Averages {
+    // The averages after a change: each takes the step from its last cell, with the gain or with the loss.
+    pub fn moved<F: Fn(f64, f64) -> f64>(self, change: f64, step: F) -> Averages
+        requires { F.IsAlwaysCallable step }
+        ensures gain { F.post step self.gain (gain change) result.gain }
+        ensures loss { F.post step self.loss (loss change) result.loss }
+    {
+        Averages {
+            gain: step(self.gain, gain_of(change)),
+            loss: step(self.loss, loss_of(change)),
+        }
+    }
+}
+
 // The value of bar i less that of the bar before.
 pub fn change_at(series: &[f64], i: usize) -> f64
     requires { (0 < i) × (i < length series.now) }

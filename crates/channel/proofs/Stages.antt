@@ -13,9 +13,8 @@ use Rattle.limits.specs.Limits.{longest_period}
 use Rattle.values.specs.Accepted.{accepted}
 use Rattle.values.proofs.All.{and_parts}
 use Rattle.calls.specs.declared.Refusal.TheVariants.{SeriesTooShort}
-use Rattle.calls.specs.declared.Answer.{Answer}
-use Rattle.calls.specs.declared.Answer.TheVariants.{Cells}
-use Rattle.calls.specs.Answer.{count_of, cleared_of, unless, checked, limited, unless_empty}
+use Rattle.calls.specs.Answer.{Answer, count_of, cleared_of, unless, checked, limited, unless_empty}
+use Rattle.std.specs.Prelude.{Ok, Option}
 use Rattle.calls.proofs.Call.{AllBars}
 use Rattle.calls.proofs.Room.{asked, and_then_cells, unless_cells, or_parts, nonzero, same_count}
 use Rattle.cells.specs.Line.{Line, line}
@@ -23,7 +22,6 @@ use Rattle.cells.specs.Recur.{carried}
 use Rattle.cells.specs.Written.{Writing}
 use Rattle.cells.proofs.Line.{before_bar}
 use Rattle.cells.proofs.Parts.{through}
-use Rattle.true_range.specs.declared.CloseBefore.{CloseBefore}
 use Rattle.true_range.specs.TrueRange.{accepted_close, close_checked}
 use Rattle.averages_wilder.specs.Wilder.{wilder}
 use Rattle.averages_wilder.proofs.Causal.{causal_wilder}
@@ -36,7 +34,7 @@ use Rattle.channel.specs.inner.ChannelRoom.{ChannelRoom}
 
 -- ---- from period 5 on
 
-module _ (n : ℕ) (first : CloseBefore) (high low close : Line) where
+module _ (n : ℕ) (first : Option Float) (high low close : Line) where
   -- the average begins at bar n - 1
   no_average : (i : ℕ) → i < n - 1 → average_range n first high low close i ≡ nan
   unfolding average_range wilder carried
@@ -62,9 +60,9 @@ averaged n w h v = through w h (wilder n (n - 1)) (causal_wilder n (n - 1) (omeg
 
 -- ---- the call
 
-module _ (high low close : List Float) (n : ℕ) (k : Float) (first : CloseBefore) (a b c work : ℕ) where
+module _ (high low close : List Float) (n : ℕ) (k : Float) (first : Option Float) (a b c work : ℕ) where
   abbrev long : Answer
-  long = unless (leb n (length high + 1)) SeriesTooShort (Cells (length high))
+  long = unless (leb n (length high + 1)) SeriesTooShort (Ok (length high))
 
   abbrev asks : Answer
   asks = limited (k ∷ []) [] (n ∷ []) (unless_empty (length high) [] (n ∷ []) long)

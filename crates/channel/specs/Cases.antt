@@ -1,5 +1,5 @@
 -- ultimate_channel at small series, with the cells that pure.rs gave, and its answers. Assumes nothing.
-use Rattle.std.specs.Prelude.{◌≡◌, refl, List, [], ◌∷◌, ℕ, suc, pos, negsuc, length, Float}
+use Rattle.std.specs.Prelude.{◌≡◌, refl, List, [], ◌∷◌, ℕ, suc, pos, negsuc, length, Float, Ok, Err, Option, None, Some}
 use Rattle.std.specs.Float.{nan}
 use Rattle.std.specs.Float.Ieee.{round, neg, add, sub, mul, div, lt, eq, le, of_int, of_bits, to_bits}
 use Rattle.limits.specs.Limits.{longest_period}
@@ -11,16 +11,12 @@ use Rattle.calls.specs.declared.Refusal.TheVariants.{
   WindowTooLong,
   SeriesTooShort,
 }
-use Rattle.calls.specs.declared.Answer.{Answer}
-use Rattle.calls.specs.declared.Answer.TheVariants.{Cells, Refused}
+use Rattle.calls.specs.Answer.{Answer, slices, checked}
 use Rattle.values.specs.Accepted.{accepted, finite}
-use Rattle.calls.specs.Answer.{slices, checked}
 use Rattle.cells.specs.Line.{line, plus_zero, from_bar}
 use Rattle.cells.specs.Recur.{recur, carried}
 use Rattle.rounding.specs.Leaves.{plus_one, magnitude_of}
 use Rattle.windows.specs.Window.{sum_from}
-use Rattle.true_range.specs.declared.CloseBefore.{CloseBefore}
-use Rattle.true_range.specs.declared.CloseBefore.TheVariants.{Unknown, Known}
 use Rattle.true_range.specs.TrueRange.{true_range, given_before, true_ranges}
 use Rattle.smoother_table.specs.Recorded.{a1_bits, b1_bits}
 use Rattle.smoother_table.specs.Coefficients.{a1_table, b1_table, a1_of, b1_of, of_pair, coefficients}
@@ -38,7 +34,7 @@ use Rattle.channel.specs.Channel.{
 }
 
 -- the first cells of the three outputs, of the close before bar 0 and of high, low and close
-abbrev shown_from : CloseBefore → ℕ → Float → List Float → List Float → List Float → List (List Float)
+abbrev shown_from : Option Float → ℕ → Float → List Float → List Float → List Float → List (List Float)
 shown_from first n k high low close =
     let h = line high in
     let l = line low in
@@ -49,7 +45,7 @@ shown_from first n k high low close =
     ∷ []
 
 abbrev shown : ℕ → Float → List Float → List Float → List Float → List (List Float)
-shown = shown_from Unknown
+shown = shown_from None
 
 -- period 2, multiplier 2; period 3, whose outer lines begin at bar 2
 channel_cases : (shown 2 (num 2) (prices (pos 5 ∷ pos 7 ∷ pos 9 ∷ pos 8 ∷ pos 6 ∷ pos 10 ∷ pos 11
@@ -121,13 +117,13 @@ channel_edges = (refl, refl, refl, refl, refl, refl, refl, refl)
 
 -- a bar from 3 to 5 that closes at 4, of a close before it: above the bar, below it and inside it; and two bars, whose
 -- ranges of 6 and 3 have the mean 4.5
-first_cases : (shown_from (Known (num 9)) 1 plus_one (num 5 ∷ []) (num 3 ∷ []) (num 4 ∷ [])
+first_cases : (shown_from (Some (num 9)) 1 plus_one (num 5 ∷ []) (num 3 ∷ []) (num 4 ∷ [])
     ≡ ((num 4 ∷ []) ∷ (num 10 ∷ []) ∷ prices (negsuc 1 ∷ []) ∷ []))
-    × (shown_from (Known (num 1)) 1 plus_one (num 5 ∷ []) (num 3 ∷ []) (num 4 ∷ [])
+    × (shown_from (Some (num 1)) 1 plus_one (num 5 ∷ []) (num 3 ∷ []) (num 4 ∷ [])
     ≡ ((num 4 ∷ []) ∷ (num 8 ∷ []) ∷ (num 0 ∷ []) ∷ []))
-    × (shown_from (Known (num 4)) 1 plus_one (num 5 ∷ []) (num 3 ∷ []) (num 4 ∷ [])
+    × (shown_from (Some (num 4)) 1 plus_one (num 5 ∷ []) (num 3 ∷ []) (num 4 ∷ [])
     ≡ ((num 4 ∷ []) ∷ (num 6 ∷ []) ∷ (num 2 ∷ []) ∷ []))
-    × (shown_from (Known (num 9)) 2 (num 2) (prices (pos 5 ∷ pos 7 ∷ [])) (prices (pos 3 ∷ pos 4
+    × (shown_from (Some (num 9)) 2 (num 2) (prices (pos 5 ∷ pos 7 ∷ [])) (prices (pos 3 ∷ pos 4
     ∷ [])) (prices (pos 4 ∷ pos 6 ∷ []))
     ≡ (prices (pos 4 ∷ pos 6 ∷ []) ∷ (nan ∷ num 15 ∷ []) ∷ (nan ∷ prices (negsuc 2 ∷ [])) ∷ []))
 unfolding upper_line lower_line channel_width average_range smooth formula coefficients of_pair a1_of b1_of a1_table
@@ -137,38 +133,38 @@ first_cases = (refl, refl, refl, refl)
 
 -- a period of L + 1, and of L + 2; the longest, and longer; 0; a multiplier that is not finite; series of
 -- unequal length; one of three outputs too short; no bars
-channel_answers : channel_answer (plus_zero ∷ []) (plus_zero ∷ []) (plus_zero ∷ []) 2 plus_one Unknown (1 ∷ 1 ∷ 1 ∷ [])
+channel_answers : channel_answer (plus_zero ∷ []) (plus_zero ∷ []) (plus_zero ∷ []) 2 plus_one None (1 ∷ 1 ∷ 1 ∷ [])
     8
-    ∷ channel_answer (plus_zero ∷ []) (plus_zero ∷ []) (plus_zero ∷ []) 3 plus_one Unknown (1 ∷ 1 ∷ 1 ∷ []) 8
-    ∷ channel_answer (plus_zero ∷ []) (plus_zero ∷ []) (plus_zero ∷ []) longest_period plus_one Unknown (1 ∷ 1 ∷ 1 ∷ [])
+    ∷ channel_answer (plus_zero ∷ []) (plus_zero ∷ []) (plus_zero ∷ []) 3 plus_one None (1 ∷ 1 ∷ 1 ∷ []) 8
+    ∷ channel_answer (plus_zero ∷ []) (plus_zero ∷ []) (plus_zero ∷ []) longest_period plus_one None (1 ∷ 1 ∷ 1 ∷ [])
     8
-    ∷ channel_answer (plus_zero ∷ []) (plus_zero ∷ []) (plus_zero ∷ []) (suc longest_period) plus_one Unknown
+    ∷ channel_answer (plus_zero ∷ []) (plus_zero ∷ []) (plus_zero ∷ []) (suc longest_period) plus_one None
     (1 ∷ 1 ∷ 1 ∷ []) 8
-    ∷ channel_answer (plus_zero ∷ []) (plus_zero ∷ []) (plus_zero ∷ []) 0 plus_one Unknown (1 ∷ 1 ∷ 1 ∷ []) 8
-    ∷ channel_answer (plus_zero ∷ []) (plus_zero ∷ []) (plus_zero ∷ []) (suc longest_period) nan Unknown
+    ∷ channel_answer (plus_zero ∷ []) (plus_zero ∷ []) (plus_zero ∷ []) 0 plus_one None (1 ∷ 1 ∷ 1 ∷ []) 8
+    ∷ channel_answer (plus_zero ∷ []) (plus_zero ∷ []) (plus_zero ∷ []) (suc longest_period) nan None
     (1 ∷ 1 ∷ 1 ∷ []) 8
-    ∷ channel_answer (plus_zero ∷ []) (plus_zero ∷ []) [] 2 plus_one Unknown (1 ∷ 1 ∷ 1 ∷ []) 8
-    ∷ channel_answer (plus_zero ∷ []) (plus_zero ∷ []) (plus_zero ∷ []) 2 plus_one Unknown (1 ∷ 1 ∷ 0 ∷ []) 8
-    ∷ channel_answer [] [] [] 9 plus_one Unknown (0 ∷ 0 ∷ 0 ∷ []) 0
+    ∷ channel_answer (plus_zero ∷ []) (plus_zero ∷ []) [] 2 plus_one None (1 ∷ 1 ∷ 1 ∷ []) 8
+    ∷ channel_answer (plus_zero ∷ []) (plus_zero ∷ []) (plus_zero ∷ []) 2 plus_one None (1 ∷ 1 ∷ 0 ∷ []) 8
+    ∷ channel_answer [] [] [] 9 plus_one None (0 ∷ 0 ∷ 0 ∷ []) 0
     ∷ []
-    ≡ Cells 1 ∷ Refused SeriesTooShort ∷ Refused SeriesTooShort ∷ Refused WindowTooLong ∷ Cells 0
-    ∷ Refused ParameterNotFinite ∷ Refused LengthsDiffer ∷ Refused OutputTooShort ∷ Cells 0 ∷ []
+    ≡ Ok 1 ∷ Err SeriesTooShort ∷ Err SeriesTooShort ∷ Err WindowTooLong ∷ Ok 0
+    ∷ Err ParameterNotFinite ∷ Err LengthsDiffer ∷ Err OutputTooShort ∷ Ok 0 ∷ []
 unfolding channel_answer slices checked accepted finite lt eq le to_bits
 channel_answers = refl
 
-abbrev one_bar : ℕ → Float → CloseBefore → Answer
+abbrev one_bar : ℕ → Float → Option Float → Answer
 one_bar n k first =
     channel_answer (plus_zero ∷ []) (plus_zero ∷ []) (plus_zero ∷ []) n k first (1 ∷ 1 ∷ 1 ∷ []) 8
 
 -- a close before bar 0 that is accepted, and one that is not: before a multiplier that is not finite, a period that is
 -- too long or 0, and no bars; after series of unequal length
-first_answers : one_bar 2 plus_one (Known (num 9)) ∷ one_bar 2 plus_one (Known nan) ∷ one_bar 2 nan (Known nan)
-    ∷ one_bar (suc longest_period) plus_one (Known nan)
-    ∷ one_bar 0 plus_one (Known nan)
-    ∷ channel_answer [] [] [] 2 plus_one (Known nan) (0 ∷ 0 ∷ 0 ∷ []) 0
-    ∷ channel_answer (plus_zero ∷ []) (plus_zero ∷ []) [] 2 plus_one (Known nan) (1 ∷ 1 ∷ 1 ∷ []) 8
+first_answers : one_bar 2 plus_one (Some (num 9)) ∷ one_bar 2 plus_one (Some nan) ∷ one_bar 2 nan (Some nan)
+    ∷ one_bar (suc longest_period) plus_one (Some nan)
+    ∷ one_bar 0 plus_one (Some nan)
+    ∷ channel_answer [] [] [] 2 plus_one (Some nan) (0 ∷ 0 ∷ 0 ∷ []) 0
+    ∷ channel_answer (plus_zero ∷ []) (plus_zero ∷ []) [] 2 plus_one (Some nan) (1 ∷ 1 ∷ 1 ∷ []) 8
     ∷ []
-    ≡ Cells 1 ∷ Refused ValueNotAccepted ∷ Refused ValueNotAccepted ∷ Refused ValueNotAccepted
-    ∷ Refused ValueNotAccepted ∷ Refused ValueNotAccepted ∷ Refused LengthsDiffer ∷ []
+    ≡ Ok 1 ∷ Err ValueNotAccepted ∷ Err ValueNotAccepted ∷ Err ValueNotAccepted
+    ∷ Err ValueNotAccepted ∷ Err ValueNotAccepted ∷ Err LengthsDiffer ∷ []
 unfolding channel_answer slices checked accepted finite lt eq le to_bits of_int round
 first_answers = refl

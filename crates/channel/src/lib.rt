@@ -11,8 +11,6 @@ ghost use Rattle.channel.specs.inner.ChannelRoom.{ChannelRoom};
 ghost use Rattle.outer_lines.specs.inner.Lined.{Lined};
 
 use calls::{Answer, Refusal};
-use limits::LONGEST_PERIOD;
-use true_range::CloseBefore;
 
 // Writes the widths to `upper`. True ranges stand there first, and their averages in `lower`.
 pub fn write_widths(
@@ -20,7 +18,7 @@ pub fn write_widths(
     low: &[f64],
     close: &[f64],
     n: usize,
-    first: CloseBefore,
+    first: Option<f64>,
     upper: &mut [f64],
     lower: &mut [f64],
 )
@@ -43,7 +41,7 @@ pub fn answer_channel(
     close: &[f64],
     n: usize,
     k: f64,
-    first: CloseBefore,
+    first: Option<f64>,
     middle: usize,
     upper: usize,
     lower: usize,
@@ -52,13 +50,11 @@ pub fn answer_channel(
     ensures { result ≡ channel_answer high.now low.now close.now n k first
         (middle ∷ upper ∷ lower ∷ []) work }
 {
-    let due = checks::check_channel(high, low, close, middle, upper, lower, work);
     let bars = high.len();
-    let long = checks::unless_refused(n <= bars + 1, Refusal::SeriesTooShort, Answer::Cells(bars));
-    let some = checks::empty_if((n == 0) | (bars == 0), long);
-    let narrow = checks::unless_refused(n <= LONGEST_PERIOD, Refusal::WindowTooLong, some);
-    let finite = checks::unless_refused(values::is_finite(k), Refusal::ParameterNotFinite, narrow);
-    checks::and_then(due, true_range::check_close(first, finite))
+    checks::check_channel(high, low, close, middle, upper, lower, work)?;
+    true_range::check_close(first, Ok(bars))?;
+    let long = checks::unless_refused(n <= bars + 1, Refusal::SeriesTooShort, Ok(bars));
+    checks::check_parameters(bars, &[k], &[], &[n], long)
 }
 
 // Writes the three lines. From period 5 on the outer ones are NaN.
@@ -68,7 +64,7 @@ fn write_channel(
     close: &[f64],
     n: usize,
     k: f64,
-    first: CloseBefore,
+    first: Option<f64>,
     middle: &mut [f64],
     upper: &mut [f64],
     lower: &mut [f64],
@@ -98,7 +94,7 @@ pub fn ultimate_channel(
     close: &[f64],
     period: usize,
     multiplier: f64,
-    first: CloseBefore,
+    first: Option<f64>,
     middle: &mut [f64],
     upper: &mut [f64],
     lower: &mut [f64],

@@ -14,9 +14,8 @@ use Rattle.cells.specs.Written.{Writing}
 use Rattle.cells.specs.inner.Touched.{Touched}
 use Rattle.cells.proofs.Touched.{touched_more, written_over_all}
 use Rattle.calls.specs.declared.Refusal.{Refusal}
-use Rattle.calls.specs.declared.Answer.{Answer}
-use Rattle.calls.specs.declared.Answer.TheVariants.{Cells, Refused}
-use Rattle.calls.specs.Answer.{count_of, cleared_of, and_then, checked, answered}
+use Rattle.calls.specs.Answer.{Answer, count_of, cleared_of, and_then, checked, answered}
+use Rattle.std.specs.Prelude.{Ok, Err}
 use Rattle.calls.specs.Call.{Cleared, WorkCall}
 use Rattle.calls.proofs.Call.{AllBars, all_called, none_called}
 use Rattle.calls.proofs.Room.{Room, room, answered_room, answered_windows, and_then_cells, checked_room}
@@ -25,24 +24,24 @@ use Rattle.checks.specs.inner.Due.{CellsDue, Priced}
 -- ---- the test
 
 -- there is room to clear
-pub clear_room : (l : ℕ) {due : Answer} {k n : ℕ} → due ≡ Cells k → cleared_of due (8 * l) ≤ n → 8 * l ≤ n
+pub clear_room : (l : ℕ) {due : Answer} {k n : ℕ} → due ≡ Ok k → cleared_of due (8 * l) ≤ n → 8 * l ≤ n
 clear_room l e h = rw e at h
 
-module _ {due : Answer} {l k : ℕ} (e : due ≡ Cells k) where
+module _ {due : Answer} {l k : ℕ} (e : due ≡ Ok k) where
   pub yes_due : {w : List Float} → 0 < k → CellsDue due l true w w
   yes_due h = record { some = rw e (sym (lt-ltb 0 k h)); work = refl; long = refl }
 
   pub not_due : {w v : List Float} → k ≤ 0 → Writing (8 * l) (λ i. plus_zero) w v → CellsDue due l false w v
   not_due h c = record { some = rw e (sym (le-ltb 0 k h)); work = rw e c.is; long = c.long }
 
-pub refused_due : {due : Answer} {q : Refusal} {l : ℕ} {w : List Float} → due ≡ Refused q → CellsDue due l false w w
+pub refused_due : {due : Answer} {q : Refusal} {l : ℕ} {w : List Float} → due ≡ Err q → CellsDue due l false w w
 refused_due e = record { some = rw e; work = rw e; long = refl }
 
 -- ---- the work slice
 
 clears : (due : Answer) (n : ℕ) → 0 < count_of due → cleared_of due n ≡ n
-clears (Cells k) n h = refl
-clears (Refused q) n h = let none : 0 < 0 = h in absurd (omega arith)
+clears (Ok k) n h = refl
+clears (Err q) n h = let none : 0 < 0 = h in absurd (omega arith)
 
 module _ {due : Answer} {l : ℕ} {work₀ work₁ : List Float} where
   -- there are cells, and the work slice is as it was
@@ -82,8 +81,8 @@ module _ (s : List Float) (windows : List ℕ) (out work : ℕ) {r : Answer}
   clearable = go r refl
     where
       go : (a : Answer) → r ≡ a → cleared_of a (8 * length s) ≤ work
-      go (Refused q) p = omega arith
-      go (Cells k) p = (room accepted s windows out (work ∷ []) k (sym e ∙ p)).work_long.0
+      go (Err q) p = omega arith
+      go (Ok k) p = (room accepted s windows out (work ∷ []) k (sym e ∙ p)).work_long.0
 
 -- where its cells are due, its window is open, its prices are accepted, and the work slice has eight rows
 pub priced : (s : List Float) (n : ℕ) (rest : List ℕ) (out : ℕ) {r : Answer} {t : Bool} {work₀ work₁ : List Float}
@@ -118,7 +117,7 @@ fewer_rows {s = s} p h =
 module _ (s : List Float) (out work : ℕ) (next : Answer) {r : Answer}
     (e : r ≡ and_then (checked accepted (s ∷ []) (out ∷ []) (work ∷ [])) next) where
   -- where it has a count, there is room for its cells, and the count is that of what comes after
-  pub checked_then : {k : ℕ} → r ≡ Cells k → Room accepted s out (work ∷ []) × (next ≡ Cells k)
+  pub checked_then : {k : ℕ} → r ≡ Ok k → Room accepted s out (work ∷ []) × (next ≡ Ok k)
   checked_then {k} p =
       let parts = and_then_cells (checked accepted (s ∷ []) (out ∷ []) (work ∷ [])) next k (sym e ∙ p) in
       (checked_room accepted s out (work ∷ []) _ parts.0, parts.1)
@@ -128,13 +127,13 @@ module _ (s : List Float) (out work : ℕ) (next : Answer) {r : Answer}
   clearable_then = go r refl
     where
       go : (a : Answer) → r ≡ a → cleared_of a (8 * length s) ≤ work
-      go (Refused q) p = omega arith
-      go (Cells k) p = (checked_then p).0.work_long.0
+      go (Err q) p = omega arith
+      go (Ok k) p = (checked_then p).0.work_long.0
 
   -- there is room where it has cells
   pub room_then : 0 < count_of r → Room accepted s out (work ∷ [])
   room_then h = go r refl h
     where
       go : (a : Answer) → r ≡ a → 0 < count_of a → Room accepted s out (work ∷ [])
-      go (Cells k) p h = (checked_then p).0
-      go (Refused q) p h = let none : 0 < 0 = h in absurd (omega arith)
+      go (Ok k) p h = (checked_then p).0
+      go (Err q) p h = let none : 0 < 0 = h in absurd (omega arith)

@@ -1,5 +1,6 @@
 pub mod Due
 pub mod Passed
+pub mod Steps
 pub mod Table
 pub mod Three
 pub mod Two

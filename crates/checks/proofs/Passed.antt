@@ -6,29 +6,28 @@ use native.Mathlib.Omega.{arith}
 use lib.ListN.{length}
 use lib.Ieee.{Float}
 use Rattle.values.specs.Accepted.{accepted}
-use Rattle.calls.specs.declared.Answer.{Answer}
-use Rattle.calls.specs.declared.Answer.TheVariants.{Cells, Refused}
-use Rattle.calls.specs.Answer.{count_of, cleared_of, and_then, checked}
+use Rattle.calls.specs.Answer.{Answer, count_of, cleared_of, and_then, checked}
+use Rattle.std.specs.Prelude.{Ok, Err}
 use Rattle.calls.proofs.Room.{Room, checked_room, and_then_cells}
 use Rattle.checks.specs.inner.Three.{Three}
 use Rattle.checks.proofs.Three.{checked_three_room}
 
 -- the check passed, and the rest has the cells
 pub passed : (check next : Answer) {r : Answer} → r ≡ and_then check next → 0 < count_of r
-    → (check ≡ Cells (count_of check)) × (next ≡ Cells (count_of r))
-passed check next {r = Cells k} e h = and_then_cells check next k (sym e)
-passed check next {r = Refused q} e h = let none : 0 < 0 = h in absurd (omega arith)
+    → (check ≡ Ok (count_of check)) × (next ≡ Ok (count_of r))
+passed check next {r = Ok k} e h = and_then_cells check next k (sym e)
+passed check next {r = Err q} e h = let none : 0 < 0 = h in absurd (omega arith)
 
 -- where a check that passed leaves room, the work slice can be cleared
 passed_clearable : (check next : Answer) (l : ℕ) {work : ℕ} {r : Answer} → r ≡ and_then check next
-    → ((k : ℕ) → check ≡ Cells k → 8 * l ≤ work) → cleared_of r (8 * l) ≤ work
-passed_clearable check next l {r = Cells k} e room = room _ (and_then_cells check next k (sym e)).0
-passed_clearable check next l {r = Refused q} e room = omega arith
+    → ((k : ℕ) → check ≡ Ok k → 8 * l ≤ work) → cleared_of r (8 * l) ≤ work
+passed_clearable check next l {r = Ok k} e room = room _ (and_then_cells check next k (sym e)).0
+passed_clearable check next l {r = Err q} e room = omega arith
 
 -- one series
 module _ (s : List Float) (out work : ℕ) (next : Answer) {r : Answer}
     (e : r ≡ and_then (checked accepted (s ∷ []) (out ∷ []) (work ∷ [])) next) where
-  pub one_passed : 0 < count_of r → Room accepted s out (work ∷ []) × (next ≡ Cells (count_of r))
+  pub one_passed : 0 < count_of r → Room accepted s out (work ∷ []) × (next ≡ Ok (count_of r))
   one_passed h =
       let p = passed (checked accepted (s ∷ []) (out ∷ []) (work ∷ [])) next e h in
       (checked_room accepted s out (work ∷ []) _ p.0, p.1)
@@ -41,7 +40,7 @@ module _ (s : List Float) (out work : ℕ) (next : Answer) {r : Answer}
 -- three series
 module _ (s t u : List Float) (out work : ℕ) (next : Answer) {r : Answer}
     (e : r ≡ and_then (checked accepted (s ∷ t ∷ u ∷ []) (out ∷ []) (work ∷ [])) next) where
-  pub three_passed : 0 < count_of r → Three s t u out (work ∷ []) × (next ≡ Cells (count_of r))
+  pub three_passed : 0 < count_of r → Three s t u out (work ∷ []) × (next ≡ Ok (count_of r))
   three_passed h =
       let p = passed (checked accepted (s ∷ t ∷ u ∷ []) (out ∷ []) (work ∷ [])) next e h in
       ((checked_three_room s t u out (work ∷ []) _ p.0).0, p.1)

@@ -7,8 +7,7 @@ use Prim.Native.Nat.{ℕ, ◌*◌, ◌<◌, ◌≤◌}
 use lib.ListN.{length}
 use lib.Ieee.{Float}
 use Rattle.values.specs.Accepted.{accepted}
-use Rattle.calls.specs.declared.Answer.{Answer}
-use Rattle.calls.specs.Answer.{cleared_of, answered_with}
+use Rattle.calls.specs.Answer.{Answer, cleared_of, answered_with}
 use Rattle.calls.proofs.Room.{with_windows}
 use Rattle.checks.specs.inner.Due.{CellsDue, Priced}
 use Rattle.checks.proofs.Due.{some_due}

@@ -19,9 +19,8 @@ use Rattle.calls.specs.declared.Refusal.TheVariants.{
   WorkTooShort,
   ValueNotAccepted,
 }
-use Rattle.calls.specs.declared.Answer.{Answer}
-use Rattle.calls.specs.declared.Answer.TheVariants.{Cells, Refused}
-use Rattle.calls.specs.Answer.{first, unless, and_then, slices, checked}
+use Rattle.calls.specs.Answer.{Answer, first, unless, and_then, slices, checked}
+use Rattle.std.specs.Prelude.{Ok, Err}
 use Rattle.calls.proofs.Room.{unless_cells, and_then_cells, at_least}
 use Rattle.checks.specs.inner.Three.{Three}
 use Rattle.limits.specs.Limits.{longest_series}
@@ -38,7 +37,7 @@ pub slices_three : (a b c out : ℕ) (work : List ℕ)
     ≡ unless (leb a longest_series) SeriesTooLong
     (unless (leb b longest_series) SeriesTooLong (unless (leb c longest_series) SeriesTooLong
     (unless (eqb b a) LengthsDiffer (unless (eqb c a) LengthsDiffer
-    (unless (leb a out) OutputTooShort (unless (all (λ room. leb (8 * a) room) work) WorkTooShort (Cells a)))))))
+    (unless (leb a out) OutputTooShort (unless (all (λ room. leb (8 * a) room) work) WorkTooShort (Ok a)))))))
 unfolding slices
 slices_three a b c out work =
     rw (
@@ -68,26 +67,26 @@ three_outputs ok series a b c work =
     rw (and_true (leb l c), and_true (leb l (min a (min b c))), leb_min l a (min b c), leb_min l b c)
 
 in_turn : (a : Answer) (p q r : Bool) (k l m : ℕ)
-    → and_then a (unless (p && (q && r)) ValueNotAccepted (Cells k))
-    ≡ and_then (and_then (and_then a (unless r ValueNotAccepted (Cells m))) (unless q ValueNotAccepted (Cells l)))
-    (unless p ValueNotAccepted (Cells k))
-in_turn (Refused x) p q r k l m = refl
-in_turn (Cells j) true true true k l m = refl
-in_turn (Cells j) true true false k l m = refl
-in_turn (Cells j) true false true k l m = refl
-in_turn (Cells j) true false false k l m = refl
-in_turn (Cells j) false true true k l m = refl
-in_turn (Cells j) false true false k l m = refl
-in_turn (Cells j) false false true k l m = refl
-in_turn (Cells j) false false false k l m = refl
+    → and_then a (unless (p && (q && r)) ValueNotAccepted (Ok k))
+    ≡ and_then (and_then (and_then a (unless r ValueNotAccepted (Ok m))) (unless q ValueNotAccepted (Ok l)))
+    (unless p ValueNotAccepted (Ok k))
+in_turn (Err x) p q r k l m = refl
+in_turn (Ok j) true true true k l m = refl
+in_turn (Ok j) true true false k l m = refl
+in_turn (Ok j) true false true k l m = refl
+in_turn (Ok j) true false false k l m = refl
+in_turn (Ok j) false true true k l m = refl
+in_turn (Ok j) false true false k l m = refl
+in_turn (Ok j) false false true k l m = refl
+in_turn (Ok j) false false false k l m = refl
 
 -- three series' values, in any order, since they give one refusal
 pub checked_three : (ok : Float → Bool) (s t u : List Float) (outputs work : List ℕ)
     → checked ok (s ∷ t ∷ u ∷ []) outputs work
     ≡ and_then (and_then (and_then (slices (length s ∷ length t ∷ length u ∷ []) outputs work)
-    (unless (all ok u) ValueNotAccepted (Cells (length u))))
-    (unless (all ok t) ValueNotAccepted (Cells (length t))))
-    (unless (all ok s) ValueNotAccepted (Cells (length s)))
+    (unless (all ok u) ValueNotAccepted (Ok (length u))))
+    (unless (all ok t) ValueNotAccepted (Ok (length t))))
+    (unless (all ok s) ValueNotAccepted (Ok (length s)))
 unfolding checked
 checked_three ok s t u outputs work =
     rw (and_true (all ok u))
@@ -95,12 +94,12 @@ checked_three ok s t u outputs work =
 
 -- that is so of three series that were checked, and the count is that length
 pub checked_three_room : (s t u : List Float) (out : ℕ) (work : List ℕ) (k : ℕ)
-    → checked accepted (s ∷ t ∷ u ∷ []) (out ∷ []) work ≡ Cells k
-    → Three s t u out work × (Cells (length s) ≡ Cells k)
+    → checked accepted (s ∷ t ∷ u ∷ []) (out ∷ []) work ≡ Ok k
+    → Three s t u out work × (◌≡◌ {A = Answer} (Ok (length s)) (Ok k))
 checked_three_room s t u out work k e =
     let lengths = slices (length s ∷ length t ∷ length u ∷ []) (out ∷ []) work in
-    let last = and_then lengths (unless (all accepted u) ValueNotAccepted (Cells (length u))) in
-    let later = and_then last (unless (all accepted t) ValueNotAccepted (Cells (length t))) in
+    let last = and_then lengths (unless (all accepted u) ValueNotAccepted (Ok (length u))) in
+    let later = and_then last (unless (all accepted t) ValueNotAccepted (Ok (length t))) in
     let one = and_then_cells later _ k (sym (checked_three accepted s t u (out ∷ []) work) ∙ e) in
     let two = and_then_cells last _ _ one.0 in
     let three = and_then_cells lengths _ _ two.0 in

@@ -19,9 +19,8 @@ use Rattle.calls.specs.declared.Refusal.TheVariants.{
   ValueNotAccepted,
   LowAboveHigh,
 }
-use Rattle.calls.specs.declared.Answer.{Answer}
-use Rattle.calls.specs.declared.Answer.TheVariants.{Cells, Refused}
-use Rattle.calls.specs.Answer.{unless, and_then, slices, checked, in_order, ranged}
+use Rattle.calls.specs.Answer.{Answer, unless, and_then, slices, checked, in_order, ranged}
+use Rattle.std.specs.Prelude.{Ok, Err}
 use Rattle.calls.proofs.Room.{unless_cells, and_then_cells}
 use Rattle.cells.specs.Line.{Line, line}
 use Rattle.cells.specs.Search.{every_bar}
@@ -31,26 +30,26 @@ use Rattle.cells.specs.Search.{every_bar}
 pub slices_two : (a b out : ℕ)
     → slices (a ∷ b ∷ []) (out ∷ []) []
     ≡ unless (leb a longest_series && leb b longest_series) SeriesTooLong
-    (unless (eqb b a) LengthsDiffer (unless (leb a out) OutputTooShort (Cells a)))
+    (unless (eqb b a) LengthsDiffer (unless (leb a out) OutputTooShort (Ok a)))
 unfolding slices
 slices_two a b out =
     rw (and_true (leb b longest_series), eq-eqb a a refl, and_true (eqb b a), and_true (leb a out))
 
 in_turn : (a : Answer) (p q : Bool) (k l : ℕ)
-    → and_then a (unless (p && q) ValueNotAccepted (Cells k))
-    ≡ and_then (and_then a (unless q ValueNotAccepted (Cells l))) (unless p ValueNotAccepted (Cells k))
-in_turn (Refused x) p q k l = refl
-in_turn (Cells j) true true k l = refl
-in_turn (Cells j) true false k l = refl
-in_turn (Cells j) false true k l = refl
-in_turn (Cells j) false false k l = refl
+    → and_then a (unless (p && q) ValueNotAccepted (Ok k))
+    ≡ and_then (and_then a (unless q ValueNotAccepted (Ok l))) (unless p ValueNotAccepted (Ok k))
+in_turn (Err x) p q k l = refl
+in_turn (Ok j) true true k l = refl
+in_turn (Ok j) true false k l = refl
+in_turn (Ok j) false true k l = refl
+in_turn (Ok j) false false k l = refl
 
 -- two series' values, in either order, since they give one refusal
 pub checked_two : (s t : List Float) (out : ℕ)
     → checked tick (s ∷ t ∷ []) (out ∷ []) []
     ≡ and_then (and_then (slices (length s ∷ length t ∷ []) (out ∷ []) [])
-    (unless (all tick t) ValueNotAccepted (Cells (length t))))
-    (unless (all tick s) ValueNotAccepted (Cells (length s)))
+    (unless (all tick t) ValueNotAccepted (Ok (length t))))
+    (unless (all tick s) ValueNotAccepted (Ok (length s)))
 unfolding checked
 checked_two s t out =
     rw (and_true (all tick t))
@@ -65,10 +64,10 @@ record Two (s t : List Float) (out : ℕ) : Type 0 where
   ones : all tick s ≡ true
   others : all tick t ≡ true
 
-two : (s t : List Float) (out k : ℕ) → checked tick (s ∷ t ∷ []) (out ∷ []) [] ≡ Cells k → Two s t out
+two : (s t : List Float) (out k : ℕ) → checked tick (s ∷ t ∷ []) (out ∷ []) [] ≡ Ok k → Two s t out
 two s t out k e =
     let lengths = slices (length s ∷ length t ∷ []) (out ∷ []) [] in
-    let a = and_then_cells (and_then lengths (unless (all tick t) ValueNotAccepted (Cells (length t)))) _ k
+    let a = and_then_cells (and_then lengths (unless (all tick t) ValueNotAccepted (Ok (length t)))) _ k
     (sym (checked_two s t out) ∙ e) in
     let b = and_then_cells lengths _ _ a.0 in
     let c = unless_cells (leb (length s) longest_series && leb (length t) longest_series) _ _ _
@@ -84,17 +83,17 @@ two s t out k e =
 -- the bars that both series have are all bars, where the lengths were not refused
 pub ranged_both : (low high : List Float) (out : ℕ)
     → and_then (checked tick (low ∷ high ∷ []) (out ∷ []) [])
-    (unless (in_order (line low) (line high) (min (length low) (length high))) LowAboveHigh (Cells (length low)))
+    (unless (in_order (line low) (line high) (min (length low) (length high))) LowAboveHigh (Ok (length low)))
     ≡ ranged low high out
 unfolding ranged
 ranged_both low high out = go (checked tick (low ∷ high ∷ []) (out ∷ []) []) refl
   where
     go : (a : Answer) → checked tick (low ∷ high ∷ []) (out ∷ []) [] ≡ a
         → and_then a (unless (in_order (line low) (line high) (min (length low) (length high))) LowAboveHigh
-        (Cells (length low)))
-        ≡ and_then a (unless (in_order (line low) (line high) (length low)) LowAboveHigh (Cells (length low)))
-    go (Refused p) e = refl
-    go (Cells k) e =
+        (Ok (length low)))
+        ≡ and_then a (unless (in_order (line low) (line high) (length low)) LowAboveHigh (Ok (length low)))
+    go (Err p) e = refl
+    go (Ok k) e =
         let same = (two low high out k e).same in
         let bars : min (length low) (length high) ≡ length low = omega arith in
         rw bars
@@ -107,7 +106,7 @@ pub record Ranged (low high : List Float) (out : ℕ) : Type 0 where
   pub highs : all tick high ≡ true
   pub order : in_order (line low) (line high) (length low) ≡ true
 
-pub ranged_room : (low high : List Float) (out k : ℕ) → ranged low high out ≡ Cells k → Ranged low high out
+pub ranged_room : (low high : List Float) (out k : ℕ) → ranged low high out ≡ Ok k → Ranged low high out
 unfolding ranged
 ranged_room low high out k e =
     let a = and_then_cells (checked tick (low ∷ high ∷ []) (out ∷ []) []) _ k e in

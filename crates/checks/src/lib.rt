@@ -2,80 +2,79 @@
 // slice or without.
 #![tactic(auto)]
 
-ghost use Rattle.std.specs.Prelude.{◌≡◌, [], ◌∷◌, ◌*◌, min, ◌≤◌, leb, length};
+ghost use Rattle.std.specs.Prelude.{◌≡◌, ◌||◌, [], ◌∷◌, ◌*◌, min, ◌<◌, ◌≤◌, eqb, leb, length, Ok};
 ghost use Rattle.cells.specs.Line.{line};
 ghost use Rattle.values.specs.Accepted.{accepted, tick, all};
-ghost use Rattle.calls.specs.Answer.{unless, and_then, slices, checked, cleared_of, empty_if};
-ghost use Rattle.calls.specs.Answer.{in_order, ranged, windowed, answered, answered_with};
+ghost use Rattle.calls.specs.Answer.{any_zero, limited, unless_empty, unless, and_then, slices, checked, cleared_of, empty_if, in_order, ranged, windowed, answered, answered_with};
 ghost use Rattle.calls.specs.inner.Fits.{window_fits};
-ghost use Rattle.calls.specs.declared.Answer.TheVariants.{Cells};
 ghost use Rattle.calls.specs.declared.Refusal.TheVariants.{WorkTooShort, ValueNotAccepted, LowAboveHigh};
 ghost use Rattle.checks.specs.inner.Due.{CellsDue};
 
 use calls::{Answer, Refusal};
-use limits::{LONGEST_SERIES, LONGEST_WINDOW};
+use limits::{LONGEST_PERIOD, LONGEST_SERIES, LONGEST_WINDOW};
 
-// The first refusal by the lengths of a series and its output; else the series' length.
-fn check_lengths(bars: usize, out: usize) -> Answer
-    ensures { result ≡ slices (bars ∷ []) (out ∷ []) [] }
+// Whether none of the numbers is above `limit`.
+fn none_above(numbers: &[usize], limit: usize) -> bool
+    ensures { result ≡ all (λ n. leb n limit) numbers.now }
 {
-    if bars > LONGEST_SERIES {
-        return Answer::Refused(Refusal::SeriesTooLong);
+    numbers.iter().all(|n| *n <= limit)
+}
+
+// Whether all lengths are this one.
+fn all_of_length(lengths: &[usize], length: usize) -> bool
+    ensures { result ≡ all (λ l. eqb l length) lengths.now }
+{
+    lengths.iter().all(|l| *l == length)
+}
+
+// The first refusal by the lengths of the series and of the output; else the length of the first series.
+fn check_lengths(series: &[usize], out: usize) -> Answer
+    requires { 0 < length series.now }
+    ensures { result ≡ slices series.now (out ∷ []) [] }
+{
+    let bars = series[0];
+    if !none_above(series, LONGEST_SERIES) {
+        return Err(Refusal::SeriesTooLong);
+    }
+    if !all_of_length(series, bars) {
+        return Err(Refusal::LengthsDiffer);
     }
     if out < bars {
-        return Answer::Refused(Refusal::OutputTooShort);
+        return Err(Refusal::OutputTooShort);
     }
-    Answer::Cells(bars)
+    Ok(bars)
 }
 
 // The refusal of a work slice that is too short for a series.
 pub fn check_work(bars: usize, work: usize) -> Answer
-    ensures { result ≡ unless (leb (8 * bars) work) WorkTooShort (Cells bars) }
+    ensures { result ≡ unless (leb (8 * bars) work) WorkTooShort (Ok bars) }
 {
     if bars > work / 8 {
-        Answer::Refused(Refusal::WorkTooShort)
+        Err(Refusal::WorkTooShort)
     } else {
-        Answer::Cells(bars)
+        Ok(bars)
     }
 }
 
-// A refusal stands, and after a count comes what is next.
-pub fn and_then(due: Answer, next: Answer) -> Answer
-    ensures { result ≡ and_then due next }
+// The refusal of a value that is not accepted; else the series' length.
+pub fn check_values(series: &[f64]) -> Answer
+    ensures { result ≡ unless (all accepted series.now) ValueNotAccepted (Ok (length series.now)) }
 {
-    if let Answer::Refused(_) = due {
-        return due;
-    }
-    next
-}
-
-// The refusal of a value that is not accepted, unless there was one before; the values are looked at only then.
-pub fn check_values(due: Answer, series: &[f64]) -> Answer
-    ensures { result ≡ and_then due (unless (all accepted series.now) ValueNotAccepted
-        (Cells (length series.now))) }
-{
-    if let Answer::Refused(_) = due {
-        return due;
-    }
     if values::series::all_accepted(series) {
-        Answer::Cells(series.len())
+        Ok(series.len())
     } else {
-        Answer::Refused(Refusal::ValueNotAccepted)
+        Err(Refusal::ValueNotAccepted)
     }
 }
 
-// The same for whole ticks.
-fn check_tick_values(due: Answer, series: &[f64]) -> Answer
-    ensures { result ≡ and_then due (unless (all tick series.now) ValueNotAccepted
-        (Cells (length series.now))) }
+// The same for whole ticks. One function for both would take the test and its contract: no plainer.
+fn check_tick_values(series: &[f64]) -> Answer
+    ensures { result ≡ unless (all tick series.now) ValueNotAccepted (Ok (length series.now)) }
 {
-    if let Answer::Refused(_) = due {
-        return due;
-    }
     if values::series::all_ticks(series) {
-        Answer::Cells(series.len())
+        Ok(series.len())
     } else {
-        Answer::Refused(Refusal::ValueNotAccepted)
+        Err(Refusal::ValueNotAccepted)
     }
 }
 
@@ -84,8 +83,8 @@ fn check_tick_values(due: Answer, series: &[f64]) -> Answer
 pub fn check(series: &[f64], out: usize) -> Answer
     ensures { result ≡ checked accepted (series.now ∷ []) (out ∷ []) [] }
 {
-    let due = check_lengths(series.len(), out);
-    check_values(due, series)
+    check_lengths(&[series.len()], out)?;
+    check_values(series)
 }
 
 // The same with a work slice.
@@ -93,62 +92,71 @@ pub fn check_with_work(series: &[f64], out: usize, work: usize) -> Answer
     ensures { result ≡ checked accepted (series.now ∷ []) (out ∷ []) (work ∷ []) }
 {
     let bars = series.len();
-    let lengths = check_lengths(bars, out);
-    let room = check_work(bars, work);
-    let due = and_then(lengths, room);
-    check_values(due, series)
+    check_lengths(&[bars], out)?;
+    check_work(bars, work)?;
+    check_values(series)
 }
 
 // The same for whole ticks and no work slice.
 pub fn check_ticks(series: &[f64], out: usize) -> Answer
     ensures { result ≡ checked tick (series.now ∷ []) (out ∷ []) [] }
 {
-    let due = check_lengths(series.len(), out);
-    check_tick_values(due, series)
+    check_lengths(&[series.len()], out)?;
+    check_tick_values(series)
 }
 
 // Refused for this reason, unless the test holds.
 pub fn unless_refused(test: bool, reason: Refusal, next: Answer) -> Answer
     ensures { result ≡ unless test reason next }
 {
-    if test { next } else { Answer::Refused(reason) }
+    if test { next } else { Err(reason) }
 }
 
 // The empty answer, where the test holds.
 pub fn empty_if(test: bool, next: Answer) -> Answer
     ensures { result ≡ empty_if test next }
 {
-    if test { Answer::Cells(0) } else { next }
+    if test { Ok(0) } else { next }
 }
 
-// Refusal 7 and the empty answer for one window, then what is next.
-pub fn check_window(bars: usize, n: usize, next: Answer) -> Answer
-    ensures { result ≡ windowed bars (n ∷ []) next }
+// Whether there are no bars, or a window or a period of none.
+fn is_empty(bars: usize, windows: &[usize], periods: &[usize]) -> bool
+    ensures { result ≡ any_zero periods.now || any_zero (bars ∷ windows.now) }
 {
-    let none = (bars == 0) | (n == 0);
-    unless_refused(
-        n <= LONGEST_WINDOW,
-        Refusal::WindowTooLong,
-        empty_if(none, next),
-    )
+    periods.contains(&0) || bars == 0 || windows.contains(&0)
 }
 
-// The same for two windows.
-pub fn check_two_windows(bars: usize, n: usize, m: usize, next: Answer) -> Answer
-    ensures { result ≡ windowed bars (n ∷ m ∷ []) next }
+// Refusals 6 and 7 and the empty answer, by f64 parameters, integer windows and smoother periods; then what is next.
+pub fn check_parameters(
+    bars: usize,
+    numbers: &[f64],
+    windows: &[usize],
+    periods: &[usize],
+    next: Answer,
+) -> Answer
+    ensures { result ≡ limited numbers.now windows.now periods.now
+        (unless_empty bars windows.now periods.now next) }
 {
-    let narrow = (n <= LONGEST_WINDOW) & (m <= LONGEST_WINDOW);
-    let none = (bars == 0) | ((n == 0) | (m == 0));
-    unless_refused(narrow, Refusal::WindowTooLong, empty_if(none, next))
+    if !values::all_finite(numbers) {
+        return Err(Refusal::ParameterNotFinite);
+    }
+    if !none_above(periods, LONGEST_PERIOD) {
+        return Err(Refusal::WindowTooLong);
+    }
+    if !none_above(windows, LONGEST_WINDOW) {
+        return Err(Refusal::WindowTooLong);
+    }
+    if is_empty(bars, windows, periods) {
+        return Ok(0);
+    }
+    next
 }
 
-// The same for three windows.
-pub fn check_three_windows(bars: usize, a: usize, b: usize, c: usize, next: Answer) -> Answer
-    ensures { result ≡ windowed bars (a ∷ b ∷ c ∷ []) next }
+// The same for integer windows alone.
+pub fn check_windows(bars: usize, windows: &[usize], next: Answer) -> Answer
+    ensures { result ≡ windowed bars windows.now next }
 {
-    let narrow = (a <= LONGEST_WINDOW) & ((b <= LONGEST_WINDOW) & (c <= LONGEST_WINDOW));
-    let none = (bars == 0) | ((a == 0) | ((b == 0) | (c == 0)));
-    unless_refused(narrow, Refusal::WindowTooLong, empty_if(none, next))
+    check_parameters(bars, &[], windows, &[], next)
 }
 
 // Whether a window is whole and all lengths are in order, so that only the values are left to be refused.
@@ -162,20 +170,18 @@ pub fn window_fits(bars: usize, n: usize, out: usize) -> bool
 pub fn answer_window(series: &[f64], n: usize, out: usize) -> Answer
     ensures { result ≡ answered accepted series.now (n ∷ []) out [] }
 {
-    let due = check(series, out);
     let bars = series.len();
-    let next = check_window(bars, n, Answer::Cells(bars));
-    and_then(due, next)
+    check(series, out)?;
+    check_windows(bars, &[n], Ok(bars))
 }
 
 // The same with a work slice.
 pub fn answer_window_with_work(series: &[f64], n: usize, out: usize, work: usize) -> Answer
     ensures { result ≡ answered accepted series.now (n ∷ []) out (work ∷ []) }
 {
-    let due = check_with_work(series, out, work);
     let bars = series.len();
-    let next = check_window(bars, n, Answer::Cells(bars));
-    and_then(due, next)
+    check_with_work(series, out, work)?;
+    check_windows(bars, &[n], Ok(bars))
 }
 
 // The answer of a call with one series, f64 parameters, one window, its output and a work slice: refusal 6 for the
@@ -190,32 +196,18 @@ pub fn answer_numbers_and_window(
     ensures { result ≡ answered_with accepted series.now numbers.now (n ∷ []) out
         (work ∷ []) }
 {
-    let due = check_with_work(series, out, work);
     let bars = series.len();
-    let window = check_window(bars, n, Answer::Cells(bars));
-    let finite = values::all_finite(numbers);
-    let next = unless_refused(finite, Refusal::ParameterNotFinite, window);
-    and_then(due, next)
+    check_with_work(series, out, work)?;
+    check_parameters(bars, numbers, &[n], &[], Ok(bars))
 }
 
 // The answer of a call with one series of whole ticks, one window, its output and no work slice.
 pub fn answer_tick_window(series: &[f64], n: usize, out: usize) -> Answer
     ensures { result ≡ answered tick series.now (n ∷ []) out [] }
 {
-    let due = check_ticks(series, out);
     let bars = series.len();
-    let next = check_window(bars, n, Answer::Cells(bars));
-    and_then(due, next)
-}
-
-// The first refusal by the lengths of two series and an output; else the length.
-fn check_lengths_of_two(bars: usize, second: usize, out: usize) -> Answer
-    ensures { result ≡ slices (bars ∷ second ∷ []) (out ∷ []) [] }
-{
-    let short = (bars <= LONGEST_SERIES) & (second <= LONGEST_SERIES);
-    let room = unless_refused(bars <= out, Refusal::OutputTooShort, Answer::Cells(bars));
-    let same = unless_refused(second == bars, Refusal::LengthsDiffer, room);
-    unless_refused(short, Refusal::SeriesTooLong, same)
+    check_ticks(series, out)?;
+    check_windows(bars, &[n], Ok(bars))
 }
 
 // Whether no low is above its high, at the bars that both series have.
@@ -223,30 +215,24 @@ fn in_order(low: &[f64], high: &[f64]) -> bool
     ensures { result ≡ in_order (line low.now) (line high.now)
         (min (length low.now) (length high.now)) }
 {
-    let bars = cells::smaller(low.len(), high.len());
+    let bars = low.len().min(high.len());
     let mut all = true;
-    let mut i = 0;
-    while i < bars {
-        all = all & (low[i] <= high[i]);
-        i += 1;
+    for i in 0..bars {
+        all &= low[i] <= high[i];
     }
     all
 }
 
-// The refusal of a low above its high, unless there was one before; the bars are looked at only then.
-fn check_order(due: Answer, low: &[f64], high: &[f64]) -> Answer
-    ensures { result ≡ and_then due (unless (in_order (line low.now) (line high.now)
-        (min (length low.now) (length high.now))) LowAboveHigh
-        (Cells (length low.now))) }
+// The refusal of a low above its high; else the length.
+fn check_order(low: &[f64], high: &[f64]) -> Answer
+    ensures { result ≡ unless (in_order (line low.now) (line high.now)
+        (min (length low.now) (length high.now))) LowAboveHigh (Ok (length low.now)) }
 {
-    if let Answer::Refused(_) = due {
-        return due;
+    if in_order(low, high) {
+        Ok(low.len())
+    } else {
+        Err(Refusal::LowAboveHigh)
     }
-    unless_refused(
-        in_order(low, high),
-        Refusal::LowAboveHigh,
-        Answer::Cells(low.len()),
-    )
 }
 
 // The first refusal of a call with a low and a high of whole ticks for each bar, its output and no work slice, before
@@ -254,35 +240,10 @@ fn check_order(due: Answer, low: &[f64], high: &[f64]) -> Answer
 pub fn check_ranges(low: &[f64], high: &[f64], out: usize) -> Answer
     ensures { result ≡ ranged low.now high.now out }
 {
-    let lengths = check_lengths_of_two(low.len(), high.len(), out);
-    let highs = check_tick_values(lengths, high);
-    let due = check_tick_values(highs, low);
-    check_order(due, low, high)
-}
-
-// The first refusal by the lengths of three series and an output; else the length.
-fn check_lengths_of_three(bars: usize, second: usize, third: usize, out: usize) -> Answer
-    ensures { result ≡ slices (bars ∷ second ∷ third ∷ []) (out ∷ []) [] }
-{
-    if bars > LONGEST_SERIES {
-        return Answer::Refused(Refusal::SeriesTooLong);
-    }
-    if second > LONGEST_SERIES {
-        return Answer::Refused(Refusal::SeriesTooLong);
-    }
-    if third > LONGEST_SERIES {
-        return Answer::Refused(Refusal::SeriesTooLong);
-    }
-    if second != bars {
-        return Answer::Refused(Refusal::LengthsDiffer);
-    }
-    if third != bars {
-        return Answer::Refused(Refusal::LengthsDiffer);
-    }
-    if out < bars {
-        return Answer::Refused(Refusal::OutputTooShort);
-    }
-    Answer::Cells(bars)
+    check_lengths(&[low.len(), high.len()], out)?;
+    check_tick_values(high)?;
+    check_tick_values(low)?;
+    check_order(low, high)
 }
 
 // The first refusal of a call with three series, one output and no work slice, before its parameters; else the length.
@@ -290,10 +251,10 @@ pub fn check_three(first: &[f64], second: &[f64], third: &[f64], out: usize) -> 
     ensures { result ≡ checked accepted (first.now ∷ second.now ∷ third.now ∷ [])
         (out ∷ []) [] }
 {
-    let lengths = check_lengths_of_three(first.len(), second.len(), third.len(), out);
-    let one = check_values(lengths, third);
-    let two = check_values(one, second);
-    check_values(two, first)
+    check_lengths(&[first.len(), second.len(), third.len()], out)?;
+    check_values(third)?;
+    check_values(second)?;
+    check_values(first)
 }
 
 // The same with a work slice.
@@ -307,12 +268,11 @@ pub fn check_three_with_work(
     ensures { result ≡ checked accepted (first.now ∷ second.now ∷ third.now ∷ [])
         (out ∷ []) (work ∷ []) }
 {
-    let lengths = check_lengths_of_three(first.len(), second.len(), third.len(), out);
-    let room = check_work(first.len(), work);
-    let sizes = and_then(lengths, room);
-    let one = check_values(sizes, third);
-    let two = check_values(one, second);
-    check_values(two, first)
+    check_lengths(&[first.len(), second.len(), third.len()], out)?;
+    check_work(first.len(), work)?;
+    check_values(third)?;
+    check_values(second)?;
+    check_values(first)
 }
 
 // The shortest of three outputs.
@@ -352,7 +312,7 @@ pub fn cells_due(due: Answer, bars: usize, work: &mut [f64]) -> bool
     requires { cleared_of due (8 * bars) ≤ length work.old }
     ensures { CellsDue due bars result work.old work.new }
 {
-    let Answer::Cells(count) = due else {
+    let Ok(count) = due else {
         return false;
     };
     if count > 0 {

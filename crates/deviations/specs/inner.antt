@@ -1,3 +1,2 @@
 -- What the crate's own functions ask of each other.
-pub mod Eight
 pub mod Spread

@@ -89,10 +89,6 @@ module _ {high : Bool} {f : Line} where
   unfolding pick_from
   one_bar_lem a = record { order = omega arith; is = rw sub_self }
 
-  -- the same bars, said otherwise
-  pub spans : {a e a' e' : ℕ} {x : Float} → Best high f a e x → (a ≡ a') × (e ≡ e') → Best high f a' e' x
-  spans p (d, g) = rw (← d, ← g) p
-
   module _ {bars : ℕ} (all : Numbers f bars) where
     -- the bars after bar e joined to those up to it
     pub joins : {a e e' g : ℕ} {x y z : Float} → Best high f a e x → Best high f e' g y → z ≡ pick_of high x y

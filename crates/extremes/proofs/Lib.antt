@@ -3,5 +3,5 @@ pub mod Order
 pub mod Best
 pub mod Part
 pub mod Range
-pub mod InBlocks
+pub mod Lead
 pub mod Parts

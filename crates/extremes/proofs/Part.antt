@@ -32,21 +32,6 @@ abbrev pub stored : ℕ → List Float → ℕ → HighLow → List Float
 stored bars cells i x = set (set cells i x.high) (bars + i) x.low
 
 module _ {bars : ℕ} {Q : ℕ → HighLow → Type 0} {old : List Float} where
-  pub none_replaced : {lo hi : ℕ} → lo ≡ hi → Replacing bars lo hi Q old old
-  none_replaced e = record {
-    long = refl;
-    inside = λ i h. absurd (omega arith);
-    below = λ i l. refl;
-    above = λ i
-        l. refl;
-    after = λ i l. refl;
-  }
-
-  -- the loop is over, and the part ends at hi
-  pub part_ends : {lo k hi : ℕ} {now : List Float} → Replacing bars lo k Q old now → k ≡ hi
-      → Replacing bars lo hi Q old now
-  part_ends w e = rw (← e) w
-
   -- the range of one bar is as Q asks already
   pub one_stands : {lo hi : ℕ} (i : ℕ) → Q i (range_at bars old i) → (lo ≡ i) × (i + 1 ≡ hi)
       → Replacing bars lo hi Q old old
@@ -58,10 +43,6 @@ module _ {bars : ℕ} {Q : ℕ → HighLow → Type 0} {old : List Float} where
     after = λ j l. refl;
   }
 
-  -- what is written stands there, also for a call that writes it over
-  pub stays : {lo hi : ℕ} {now : List Float} → Replacing bars lo hi Q old now → Replacing bars lo hi Q now now
-  stays w = record { long = refl; inside = w.inside; below = λ j l. refl; above = λ j l. refl; after = λ j l. refl }
-
   -- a part of the bars written, and then all of these and more
   pub replaced_again : {lo hi lo' hi' : ℕ} {R : ℕ → HighLow → Type 0} {mid now : List Float}
       → Replacing bars lo' hi' R old mid → Replacing bars lo hi Q mid now
@@ -70,19 +51,6 @@ module _ {bars : ℕ} {Q : ℕ → HighLow → Type 0} {old : List Float} where
     long = w.long ∙ v.long;
     inside = w.inside;
     below = λ j l. w.below j l ∙ v.below j (omega arith);
-    above = λ j l. w.above j l ∙ v.above j (omega arith);
-    after = λ j l. w.after j l ∙ v.after j l;
-  }
-
-  -- the bars from k on are written after those before
-  pub goes_on : {lo k hi : ℕ} {mid now : List Float} → Replacing bars lo k Q old mid → Replacing bars k hi Q mid now
-      → (lo ≤ k) × (k ≤ hi)
-      → Replacing bars lo hi Q old now
-  goes_on {k = k} v w h = record {
-    long = w.long ∙ v.long;
-    inside = λ j l. ⊎_elim (λ m. rw (w.below j m) (v.inside j (omega arith))) (λ m. w.inside j (omega arith))
-        (before_or_not j k);
-    below = λ j l. w.below j (omega arith) ∙ v.below j l;
     above = λ j l. w.above j l ∙ v.above j (omega arith);
     after = λ j l. w.after j l ∙ v.after j l;
   }

@@ -37,10 +37,8 @@ pub fn join_from(cells: &[f64], n: usize, e: usize, last: usize, rows: &mut [f64
         rows.old rows.new }
 {
     let bars = cells.len();
-    let mut i = e;
     let mut best = of_one(cells[e]);
-    while i < last {
-        i += 1;
+    for i in e + 1..last + 1 {
         best = join(best, of_one(cells[i]));
         let up_to = HighLow {
             high: rows[i],

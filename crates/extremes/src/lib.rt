@@ -8,7 +8,7 @@ pub mod ranges;
 ghost use Rattle.std.specs.Prelude.{◌≡◌};
 ghost use Rattle.extremes.specs.Extreme.{larger, smaller};
 
-// The larger of two, the first of equals.
+// The larger of two, the first of equals, as the definitions have it; std's `max` may give either zero.
 pub fn larger_of(x: f64, y: f64) -> f64
     ensures { result ≡ larger x y }
 {

@@ -19,32 +19,29 @@ fn range_of(cells: &[f64], a: usize, e: usize) -> HighLow
     requires { (a ≤ e) × (e < length cells.now) × Numbers (line cells.now) (length cells.now) }
     ensures { RangeOf (line cells.now) a e result }
 {
-    let mut i = a;
     let mut best = crate::blocks::of_one(cells[a]);
-    while i < e {
-        i += 1;
-        best = crate::blocks::join(best, crate::blocks::of_one(cells[i]));
+    for x in &cells[a + 1..e + 1] {
+        best = crate::blocks::join(best, crate::blocks::of_one(*x));
     }
     best
 }
 
 // Writes for each bar from `last` down to e the range of its window's bars up to e.
+// The five arguments are no struct: `WindowsOver` names each one, and each function would take the struct apart.
 fn write_up_to(cells: &[f64], n: usize, e: usize, last: usize, rows: &mut [f64])
     requires { WindowsOver cells.now n e last (length rows.old) }
     ensures { Replacing (length cells.now) e (last + 1) (UpTo cells.now n e)
         rows.old rows.new }
 {
     let bars = cells.len();
-    let mut i = last;
     let mut best = range_of(cells, last + 1 - n, e);
-    while e < i {
+    rows[last] = best.high;
+    rows[bars + last] = best.low;
+    for i in (e..last).rev() {
+        best = crate::blocks::join(crate::blocks::of_one(cells[i + 1 - n]), best);
         rows[i] = best.high;
         rows[bars + i] = best.low;
-        i -= 1;
-        best = crate::blocks::join(crate::blocks::of_one(cells[i + 1 - n]), best);
     }
-    rows[i] = best.high;
-    rows[bars + i] = best.low;
 }
 
 // Writes the ranges of the windows that end at bars e to `last`.
@@ -62,7 +59,7 @@ fn last_of(e: usize, n: usize, bars: usize) -> usize
     requires { (0 < n) × (n ≤ longest_window) × (e < bars) × (bars ≤ longest_series) }
     ensures { (e ≤ result) × (result < e + n) × (result < bars) × (min (e + n) bars ≡ result + 1) }
 {
-    if e + n < bars { e + n - 1 } else { bars - 1 }
+    cells::smaller(e + n, bars) - 1
 }
 
 // Writes the range of every whole window, block after block.
@@ -71,10 +68,8 @@ fn write_blocks(cells: &[f64], n: usize, rows: &mut [f64])
     ensures { Replacing (length cells.now) 0 (length cells.now)
         (Whole cells.now n) rows.old rows.new }
 {
-    let mut e = n - 1;
-    while e < cells.len() {
+    for e in (n - 1..cells.len()).step_by(n) {
         write_block(cells, n, e, last_of(e, n, cells.len()), rows);
-        e += n;
     }
 }
 
@@ -85,24 +80,14 @@ fn write_pairs(cells: &[f64], n: usize, rows: &mut [f64])
         (Whole cells.now n) rows.old rows.new }
 {
     let bars = cells.len();
-    let mut i = n - 1;
-    while i < bars {
+    for i in n - 1..bars {
         let whole = crate::blocks::join(
             crate::blocks::of_one(cells[i + 1 - n]),
             crate::blocks::of_one(cells[i]),
         );
         rows[i] = whole.high;
         rows[bars + i] = whole.low;
-        i += 1;
     }
-}
-
-// The first bar with a whole window, or the end.
-fn first_whole(n: usize, bars: usize) -> usize
-    requires { 0 < n }
-    ensures { result ≡ min (n - 1) bars }
-{
-    if n <= bars { n - 1 } else { bars }
 }
 
 // Writes 0.0 to both rows before the first whole window.
@@ -112,12 +97,8 @@ fn write_lead(cells: &[f64], n: usize, first: usize, rows: &mut [f64])
         rows.old rows.new }
 {
     let bars = cells.len();
-    let mut i = 0;
-    while i < first {
-        rows[i] = 0.0;
-        rows[bars + i] = 0.0;
-        i += 1;
-    }
+    cells::clear(rows, first);
+    cells::clear(&mut rows[bars..], first);
 }
 
 // Writes the highest of the last n cells of each bar to one row and the lowest to the next, 0.0 before the first
@@ -129,7 +110,7 @@ pub fn write_ranges(cells: &[f64], n: usize, rows: &mut [f64])
         (extreme smaller n (line cells.now)))
         rows.old rows.new }
 {
-    write_lead(cells, n, first_whole(n, cells.len()), rows);
+    write_lead(cells, n, cells::smaller(n - 1, cells.len()), rows);
     if n > 2 {
         write_blocks(cells, n, rows);
     } else {

@@ -1,7 +1,7 @@
 -- Baskets. In an answered call the groups add up to the whole, at every bar. Neither the order of the contracts nor
 -- their groups move the whole. No cell needs a later bar. A contract's positions are the cells of its own call. Assumes
 -- nothing.
-use Rattle.std.specs.Prelude.{◌≡◌, ℤ, pos, ◌+ℤ◌, ◌*ℤ◌, length, get_or, Float}
+use Rattle.std.specs.Prelude.{◌≡◌, ℤ, pos, ◌+ℤ◌, ◌*ℤ◌, length, get_or, Float, Ok}
 use Rattle.std.proofs.Math.Path.{refl}
 use Rattle.std.proofs.Common.{sym, ap, ◌∙◌, arith}
 use Rattle.std.proofs.Math.Logic.{∥∥₁_elim}
@@ -15,9 +15,7 @@ use Rattle.std.proofs.Math.IntN.{ℤ_set}
 use Rattle.std.specs.Float.{nan}
 use Rattle.values.specs.Accepted.{accepted}
 use Rattle.cells.specs.Line.{Line, line}
-use Rattle.calls.specs.declared.Answer.{Answer}
-use Rattle.calls.specs.declared.Answer.TheVariants.{Cells}
-use Rattle.calls.specs.Answer.{count_of, first, answered}
+use Rattle.calls.specs.Answer.{Answer, count_of, first, answered}
 use Rattle.calls.specs.Call.{Call}
 use Rattle.calls.proofs.Cells.{cell_at}
 use Rattle.rules_single.specs.Single.{SingleCall}
@@ -48,7 +46,7 @@ pub record Answered (series : List Float) (table : List ℕ) (weights out : List
   pub out_before : List ℤ
   pub work_before : List Float
   pub work_after : List Float
-  pub call : BasketCall series table weights out_before work_before (Cells count) out work_after
+  pub call : BasketCall series table weights out_before work_before (Ok count) out work_after
 
 -- the cell of bar j in row r, with l bars in each row: row g - 1 is that of group g, and row 32 that of the whole
 abbrev pub row_cell : ℕ → List ℤ → ℕ → ℕ → ℤ
@@ -133,8 +131,8 @@ pub record EqualUpTo (b : ℕ) (c d : Contract) : Type 0 where
   pub weight : c.weight ≡ d.weight
   pub bars : EqualBars c.prices d.prices b
 
-alike : {c d : Contract} {b : ℕ} (j : ℕ) → EqualUpTo b c d → j ≤ b → own_answer c ≡ Cells (count_of (own_answer c))
-    → own_answer d ≡ Cells (count_of (own_answer d)) → Alike j c d
+alike : {c d : Contract} {b : ℕ} (j : ℕ) → EqualUpTo b c d → j ≤ b → own_answer c ≡ Ok (count_of (own_answer c))
+    → own_answer d ≡ Ok (count_of (own_answer d)) → Alike j c d
 alike {c} {d} {b} j e h p q =
     record {
       group = e.group;
@@ -182,8 +180,8 @@ pub record HasPositions (c : Contract) (count : ℕ) (out : List Float) : Type 0
   pub flat : (j : ℕ) → count ≤ j → position_of c j ≡ pos 0
 
 module _ (c : Contract) {out₀ out₁ : List Float} {k : ℕ} where
-  has_positions : {due : Answer} {f : Line} → Call due f out₀ (Cells k) out₁ → own_line c ≡ f
-      → (own_answer c ≡ Cells k) × (k ≤ length out₀) → HasPositions c k out₁
+  has_positions : {due : Answer} {f : Line} → Call due f out₀ (Ok k) out₁ → own_line c ≡ f
+      → (own_answer c ≡ Ok k) × (k ≤ length out₀) → HasPositions c k out₁
   has_positions call is (e, h) =
       record {
         cells = λ j u.
@@ -192,24 +190,24 @@ module _ (c : Contract) {out₀ out₁ : List Float} {k : ℕ} where
         flat = position_after_lem c e;
       }
 
-  pub double_positions : c.rule ≡ 2 → DoubleCall c.prices c.n c.m out₀ (Cells k) out₁ → HasPositions c k out₁
+  pub double_positions : c.rule ≡ 2 → DoubleCall c.prices c.n c.m out₀ (Ok k) out₁ → HasPositions c k out₁
   unfolding own_line
   double_positions e call = has_positions call (rw e) (double_own c (length out₀) k e (sym call.answer))
 
   afresh_positions : (work : ℕ) {f : Line}
-      → Call (answered accepted c.prices (c.n ∷ []) (length out₀) (work ∷ [])) f out₀ (Cells k) out₁
+      → Call (answered accepted c.prices (c.n ∷ []) (length out₀) (work ∷ [])) f out₀ (Ok k) out₁
       → own_line c ≡ f → (c.rule ≡ 2 → ⊥) → HasPositions c k out₁
   afresh_positions work call is other =
       has_positions call is (afresh_own c (length out₀) k work other (sym call.answer))
 
   module _ {work₀ work₁ : List Float} where
-    pub single_positions : c.rule ≡ 1 → SingleCall c.prices c.n out₀ work₀ (Cells k) out₁ work₁
+    pub single_positions : c.rule ≡ 1 → SingleCall c.prices c.n out₀ work₀ (Ok k) out₁ work₁
         → HasPositions c k out₁
     unfolding own_line
     single_positions e call =
         afresh_positions (length work₀) call.call (rw e) (λ (f : c.rule ≡ 2). omega arith)
 
-    pub mid_positions : c.rule ≡ 3 → MidCall c.prices c.n out₀ work₀ (Cells k) out₁ work₁
+    pub mid_positions : c.rule ≡ 3 → MidCall c.prices c.n out₀ work₀ (Ok k) out₁ work₁
         → HasPositions c k out₁
     unfolding own_line
     mid_positions e call = afresh_positions (length work₀) call.call (rw e) (λ (f : c.rule ≡ 2). omega arith)

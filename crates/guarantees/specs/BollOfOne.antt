@@ -1,6 +1,6 @@
 -- `boll_positions` with n 1: a window of one mean has no deviation over n - 1, which is 0, so every cell is flat, for
 -- every k. Assumes nothing.
-use Rattle.std.specs.Prelude.{◌≡◌, refl, Bool, true, false, List, [], ◌∷◌, ◌⊎◌, ℕ, zero, suc, ◌+◌, ◌-◌, ◌*◌, ◌<◌, T, ℤ, length, get_or, Float}
+use Rattle.std.specs.Prelude.{◌≡◌, refl, Bool, true, false, List, [], ◌∷◌, ◌⊎◌, ℕ, zero, suc, ◌+◌, ◌-◌, ◌*◌, ◌<◌, T, ℤ, length, get_or, Float, Ok}
 use Rattle.std.proofs.Common.{sym, inl, inr, zero-add, zero-mul, mul-one, one-mul, arith, lt-ltb}
 use Rattle.std.proofs.Math.Nat.{sub-zero}
 use Rattle.std.specs.Float.{nan, inf, fin, binary64}
@@ -10,7 +10,6 @@ use Rattle.rounding.proofs.Opposite.{own}
 use Rattle.rounding.proofs.NotANumber.{nan_last, nan_factor, not_below_nan}
 use Rattle.rounding_order.proofs.Itself.{less_itself}
 use Rattle.rounding_root.specs.Root.{sqrt_of}
-use Rattle.calls.specs.declared.Answer.TheVariants.{Cells}
 use Rattle.calls.proofs.Cells.{cell_at, room_after}
 use Rattle.values.specs.Accepted.{accepted}
 use Rattle.cells.specs.Line.{Line, line, plus_zero, minus_zero}
@@ -85,7 +84,7 @@ boll_of_one k f i =
 
 -- Bollinger with n 1: every cell is 0.
 pub boll_of_one_is_flat : (s : List Float) {out₀ out₁ : List ℤ} {work₀ work₁ : List Float} (k : Float)
-    → BollCall s 1 k out₀ work₀ (Cells (length s)) out₁ work₁
+    → BollCall s 1 k out₀ work₀ (Ok (length s)) out₁ work₁
     → (i : ℕ) → i < length s → get_or out₁ i flat ≡ flat
 unfolding answered_with
 boll_of_one_is_flat s {out₀ = out₀} {work₀ = work₀} k c i h =

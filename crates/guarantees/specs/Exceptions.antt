@@ -1,7 +1,7 @@
 -- The two functions that look ahead, each with a series to which one bar is added, so that a cell of answered calls
 -- changes which it had before: no statement of no look-ahead can hold of them. And what does hold of the exponential
 -- rule: from the first mean that is not 0 on no cell depends on a later bar. Assumes nothing.
-use Rattle.std.specs.Prelude.{◌≡◌, refl, true, false, List, [], ◌∷◌, ◌++◌, ℕ, ◌<◌, ◌≤◌, pos, length, get_or, Float}
+use Rattle.std.specs.Prelude.{◌≡◌, refl, true, false, List, [], ◌∷◌, ◌++◌, ℕ, ◌<◌, ◌≤◌, pos, length, get_or, Float, Ok}
 use Rattle.std.proofs.Common.{sym, ◌∙◌, arith}
 use Rattle.std.specs.Float.Ieee.{round, neg, add, sub, mul, div, eq, of_int, is_nan}
 use Rattle.std.specs.Float.{nan}
@@ -29,9 +29,7 @@ use Rattle.jurik.specs.Jurik.{
 use Rattle.rules_ema.specs.SingleEma.{first_usable, ema_of_means, single_ema_from, single_ema_line, SingleEmaCall}
 use Rattle.rules_ema.proofs.SingleEma.{single_ema_settles}
 use Rattle.values.specs.Accepted.{accepted}
-use Rattle.calls.specs.declared.Answer.{Answer}
-use Rattle.calls.specs.Answer.{answered_with}
-use Rattle.calls.specs.declared.Answer.TheVariants.{Cells}
+use Rattle.calls.specs.Answer.{Answer, answered_with}
 use Rattle.calls.proofs.Cells.{due_cell, bar}
 use Rattle.guarantees.specs.NoLookAhead.{EqualBars, EqualCells}
 
@@ -41,20 +39,20 @@ use Rattle.guarantees.specs.NoLookAhead.{EqualBars, EqualCells}
 pub record Changed (Contract : List Float → List Float → List Float → Answer → List Float → List Float → Type 0)
     (s : List Float) (x : Float) (b : ℕ) (first then : Float) : Type 0 where
   pub inside : b < length s
-  pub before : {out₀ work₀ out₁ work₁ : List Float} → Contract s out₀ work₀ (Cells (length s)) out₁ work₁
+  pub before : {out₀ work₀ out₁ work₁ : List Float} → Contract s out₀ work₀ (Ok (length s)) out₁ work₁
       → get_or out₁ b nan ≡ first
   pub after : {out₀ work₀ out₁ work₁ : List Float}
-      → Contract (s ++ (x ∷ [])) out₀ work₀ (Cells (length (s ++ (x ∷ [])))) out₁ work₁ → get_or out₁ b nan ≡ then
+      → Contract (s ++ (x ∷ [])) out₀ work₀ (Ok (length (s ++ (x ∷ [])))) out₁ work₁ → get_or out₁ b nan ≡ then
   pub differ : eq first then ≡ false
 
 jurik_cell : (s : List Float) (n : ℕ) (power : Float) {out₀ work₀ out₁ work₁ : List Float}
-    → JurikCall s n power out₀ work₀ (Cells (length s)) out₁ work₁ → (i : ℕ) → i < length s
+    → JurikCall s n power out₀ work₀ (Ok (length s)) out₁ work₁ → (i : ℕ) → i < length s
     → get_or out₁ i nan ≡ jurik_line (length s) n power (line s) i
 unfolding answered_with
 jurik_cell s n power {work₀ = work₀} c = due_cell nan s (length work₀) _ c.call
 
 single_ema_cell : (s : List Float) (n : ℕ) {out₀ work₀ out₁ work₁ : List Float}
-    → SingleEmaCall s n out₀ work₀ (Cells (length s)) out₁ work₁ → (i : ℕ) → i < length s
+    → SingleEmaCall s n out₀ work₀ (Ok (length s)) out₁ work₁ → (i : ℕ) → i < length s
     → get_or out₁ i nan ≡ single_ema_line (length s) n (line s) i
 single_ema_cell s n c i h = (bar nan accepted s (n ∷ []) _ c.call i h).cell
 
@@ -89,8 +87,8 @@ single_ema_looks_ahead =
 -- Two answered calls with equal bars up to bar b, where the mean of some bar j up to b is not 0: equal cells up to b.
 pub single_ema_settles_calls : {s t out₀ work₀ out₁ work₁ out₀' work₀' out₁' work₁' : List Float} {b : ℕ} (n j : ℕ)
     → EqualBars s t b → j ≤ b → non_zero (mean n (line s) j) ≡ true
-    → SingleEmaCall s n out₀ work₀ (Cells (length s)) out₁ work₁
-    → SingleEmaCall t n out₀' work₀' (Cells (length t)) out₁' work₁' → EqualCells nan out₁ out₁' b
+    → SingleEmaCall s n out₀ work₀ (Ok (length s)) out₁ work₁
+    → SingleEmaCall t n out₀' work₀' (Ok (length t)) out₁' work₁' → EqualCells nan out₁ out₁' b
 single_ema_settles_calls {s = s} {t} {b = b} n j equal k e c c' i h =
     let p = equal.left in
     let q = equal.right in

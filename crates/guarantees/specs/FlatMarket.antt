@@ -1,6 +1,6 @@
 -- `wilder_rsi` of a flat market: where all prices are equal, both averages are 0 and every cell from bar n on is 50.
 -- Assumes nothing.
-use Rattle.std.specs.Prelude.{◌≡◌, true, List, [], ◌∷◌, pos, length, get_or, Float}
+use Rattle.std.specs.Prelude.{◌≡◌, true, List, [], ◌∷◌, pos, length, get_or, Float, Ok}
 use Rattle.std.proofs.Math.Path.{refl}
 use Rattle.std.proofs.Common.{◌∙◌, zero-mul, arith}
 use Rattle.std.proofs.lemmas.Bool.{false≢true}
@@ -15,7 +15,6 @@ use Rattle.limits.specs.Limits.{Window}
 use Rattle.values.specs.Accepted.{accepted, all}
 use Rattle.values.proofs.All.{all_at}
 use Rattle.values.proofs.Numbers.{accepted_finite}
-use Rattle.calls.specs.declared.Answer.TheVariants.{Cells}
 use Rattle.calls.proofs.Cells.{bar}
 use Rattle.cells.specs.Line.{Line, line, plus_zero}
 use Rattle.cells.proofs.Line.{from_bar_lem}
@@ -95,7 +94,7 @@ module _ (s : List Float) (flat : Flat s) (ok : all accepted s ≡ true) where
 
 -- A flat market reads 50: in an answered call of equal prices every cell from bar n on is 50.
 pub flat_market_reads_50 : (s : List Float) (n : ℕ) {out₀ out₁ work₀ work₁ : List Float} {k : ℕ} → Flat s
-    → WilderRsiCall s n out₀ work₀ (Cells k) out₁ work₁ → (i : ℕ) → n ≤ i → i < k → get_or out₁ i nan ≡ fifty
+    → WilderRsiCall s n out₀ work₀ (Ok k) out₁ work₁ → (i : ℕ) → n ≤ i → i < k → get_or out₁ i nan ≡ fifty
 unfolding wilder_rsi_line eq
 flat_market_reads_50 s n {work₀ = work₀} flat c i b h =
     let r = bar nan accepted s (n ∷ []) (length work₀ ∷ []) c.call i h in

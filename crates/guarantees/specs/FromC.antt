@@ -2,14 +2,13 @@
 -- the function, so that each statement of this crate speaks to a C caller: `from_c` for those about `Cells k`,
 -- `from_c_of` for those about `Cells (length s)`. Shown here for a function of each shape: one output, a work slice,
 -- whole-number cells, three outputs, two series, three series, and two calls. Assumes nothing.
-use Rattle.std.specs.Prelude.{◌≡◌, true, List, ℕ, ◌+◌, ◌<◌, ◌≤◌, ℤ, pos, length, get_or, Float}
+use Rattle.std.specs.Prelude.{◌≡◌, true, List, ℕ, ◌+◌, ◌<◌, ◌≤◌, ℤ, pos, length, get_or, Float, Ok}
 use Rattle.std.specs.Float.{nan, binary64}
 use Rattle.std.specs.Float.Ieee.{fits}
 use Rattle.rounding.specs.Leaves.{plus_one}
 use Rattle.cells.specs.Line.{plus_zero, line}
 use Rattle.values.specs.Accepted.{all}
-use Rattle.calls.specs.declared.Answer.{Answer}
-use Rattle.calls.specs.declared.Answer.TheVariants.{Cells}
+use Rattle.calls.specs.Answer.{Answer}
 use Rattle.calls.specs.declared.numbers.CAnswer.{CAnswer}
 use Rattle.calls.specs.Numbers.{InNumbers}
 use Rattle.calls.proofs.InNumbers.{accepted_call}
@@ -26,11 +25,11 @@ use Rattle.guarantees.specs.NanLines.{bands_outer_lines_nan}
 
 module _ {P : Answer → Type 0} {r : CAnswer} (c : InNumbers P r) (e : r.refusal ≡ 0) where
   -- Any C function: what its call promises with refusal 0.
-  pub from_c : P (Cells r.count)
+  pub from_c : P (Ok r.count)
   from_c = accepted_call c e
 
   -- The same where the count is known, as the number of bars.
-  pub from_c_of : (l : ℕ) → r.count ≡ l → P (Cells l)
+  pub from_c_of : (l : ℕ) → r.count ≡ l → P (Ok l)
   from_c_of l k = rw k at from_c
 
 -- With a work slice: each cell of `tegbalowu_single_sma_positions` is a position.

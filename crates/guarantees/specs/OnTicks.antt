@@ -2,7 +2,7 @@
 -- (`WholeTicks`). Every sum and product named below is one of whole numbers, never rounded; what is said from a bar
 -- on holds there and at every later bar below the count k of the call's answer. Windows are all that a call takes, from
 -- 1 to `longest_window` bars. Assumes nothing.
-use Rattle.std.specs.Prelude.{◌≡◌, cond, Bool, false, true, List, [], ◌∷◌, ℕ, ◌+◌, ◌-◌, ◌*◌, ◌^◌, ◌<◌, ◌≤◌, ℤ, pos, nat_abs, ◌+ℤ◌, ◌*ℤ◌, length, get_or, Float, T}
+use Rattle.std.specs.Prelude.{◌≡◌, cond, Bool, false, true, List, [], ◌∷◌, ℕ, ◌+◌, ◌-◌, ◌*◌, ◌^◌, ◌<◌, ◌≤◌, ℤ, pos, nat_abs, ◌+ℤ◌, ◌*ℤ◌, length, get_or, Float, T, Ok}
 use Rattle.std.proofs.Common.{sym, ◌∙◌, true≢false, arith}
 use Rattle.std.specs.Int.Signed.{lt_z}
 use Rattle.std.specs.Float.{nan, binary64}
@@ -12,7 +12,6 @@ use Rattle.rounding.specs.Whole.{is_negative}
 use Rattle.rounding.specs.Nearest.{NearestTo, Number, distance}
 use Rattle.rounding_laws.proofs.About.{About, fine}
 use Rattle.rounding_laws.proofs.Quotient.{quotient, Whole, quotient_is, quotient_nearest, quotient_zero}
-use Rattle.calls.specs.declared.Answer.TheVariants.{Cells}
 use Rattle.cells.specs.Line.{plus_zero, line}
 use Rattle.cells.proofs.Line.{from_bar_lem}
 use Rattle.rules_double.proofs.Open.{double_opened, double_room, double_whole}
@@ -89,7 +88,7 @@ whole_ticks {s} w = tick_line s (λ i h. is_true _ (all_at (fits binary64) s i w
 
 module _ {s out₀ out₁ : List Float} (w : WholeTicks s) (n : ℕ) {k : ℕ} where
   -- sma: from bar n - 1 each cell is the mean of the last n prices.
-  pub sma_on_ticks : SmaCall s n out₀ (Cells k) out₁ → (i : ℕ) → n ≤ i + 1 → i < k
+  pub sma_on_ticks : SmaCall s n out₀ (Ok k) out₁ → (i : ℕ) → n ≤ i + 1 → i < k
       → IsMean (window_sum_of n s i) n (get_or out₁ i nan)
   sma_on_ticks c i b h =
       let r = bar nan accepted s (n ∷ []) [] c i h in
@@ -106,7 +105,7 @@ module _ {s out₀ out₁ : List Float} (w : WholeTicks s) (n : ℕ) {k : ℕ} w
 
   -- Double: from bar m - 1 the cell is +1 exactly when m times the last n prices' sum is at least n times the last m
   -- prices' sum, else -1.
-  pub double_on_ticks : (m : ℕ) → DoubleCall s n m out₀ (Cells k) out₁ → (i : ℕ) → m ≤ i + 1 → i < k
+  pub double_on_ticks : (m : ℕ) → DoubleCall s n m out₀ (Ok k) out₁ → (i : ℕ) → m ≤ i + 1 → i < k
       → get_or out₁ i nan ≡ side_of (window_sum_of n s i *ℤ pos m) (window_sum_of m s i *ℤ pos n)
   double_on_ticks m c i b h =
       let e = sym c.answer in
@@ -119,7 +118,7 @@ module _ {s out₀ out₁ : List Float} (w : WholeTicks s) (n : ℕ) {k : ℕ} w
 
   module _ {work₀ work₁ : List Float} where
     -- One average: from bar 2n - 2 the cell has the sign of n · n · price - D, where that difference and D are not 0.
-    pub single_on_ticks : SingleCall s n out₀ work₀ (Cells k) out₁ work₁ → (i : ℕ) → 2 * n ≤ i + 2 → i < k
+    pub single_on_ticks : SingleCall s n out₀ work₀ (Ok k) out₁ work₁ → (i : ℕ) → 2 * n ≤ i + 2 → i < k
         → ¬ (D n s i ≡ pos 0) → ¬ (price s i *ℤ pos (n * n) ≡ D n s i) → get_or out₁ i nan
         ≡ side_of (price s i *ℤ pos (n * n)) (D n s i)
     single_on_ticks c i b h x y =
@@ -130,7 +129,7 @@ module _ {s out₀ out₁ : List Float} (w : WholeTicks s) (n : ℕ) {k : ℕ} w
     -- Middle, with H and W the highest and the lowest of the last n window sums and S the
     -- present one: from bar 2n - 2 the cell has the sign of 2 · S - (H + W), where that difference, H and W are not
     -- 0.
-    pub mid_on_ticks : MidCall s n out₀ work₀ (Cells k) out₁ work₁ → (i : ℕ) → 2 * n ≤ i + 2 → i < k
+    pub mid_on_ticks : MidCall s n out₀ work₀ (Ok k) out₁ work₁ → (i : ℕ) → 2 * n ≤ i + 2 → i < k
         → ¬ (H n s i ≡ pos 0) → ¬ (W n s i ≡ pos 0) → ¬ (window_sum_of n s i *ℤ pos 2 ≡ H n s i +ℤ W n s i)
         → get_or out₁ i nan ≡ side_of (window_sum_of n s i *ℤ pos 2) (H n s i +ℤ W n s i)
     mid_on_ticks c i b h x y z =
@@ -140,7 +139,7 @@ module _ {s out₀ out₁ : List Float} (w : WholeTicks s) (n : ℕ) {k : ℕ} w
 
 -- tick_mean, for every window: from bar n - 1 each cell is a whole number nearest to the mean of the last n prices;
 -- where another is as near it is even, and where no other is, it is what a half away from zero gives.
-pub tick_mean_on_ticks : (s : List Float) {out₀ out₁ : List ℤ} (n : ℕ) {k : ℕ} → TickMeanCall s n out₀ (Cells k) out₁
+pub tick_mean_on_ticks : (s : List Float) {out₀ out₁ : List ℤ} (n : ℕ) {k : ℕ} → TickMeanCall s n out₀ (Ok k) out₁
     → (i : ℕ) → n ≤ i + 1 → i < k → NearestWhole (window_sum_of n s i) n (get_or out₁ i (pos 0))
 unfolding tick_mean_line
 tick_mean_on_ticks s n c i b h =

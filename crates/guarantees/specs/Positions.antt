@@ -1,11 +1,10 @@
 -- Positions: every cell of an answered call of the sheet's rules and of the exponential rule is +1.0, -1.0 or +0.0, and
 -- so none is a NaN; the cells of the min-max and the tanh rule and ranks lie from -1 to 1. Assumes nothing.
-use Rattle.std.specs.Prelude.{◌≡◌, refl, ◌⊎◌, Bool, true, false, cond, ◌||◌, List, [], ◌∷◌, ℕ, ◌+◌, ◌-◌, ◌*◌, ◌^◌, ◌<◌, ◌≤◌, length, get_or, Float}
+use Rattle.std.specs.Prelude.{◌≡◌, refl, ◌⊎◌, Bool, true, false, cond, ◌||◌, List, [], ◌∷◌, ℕ, ◌+◌, ◌-◌, ◌*◌, ◌^◌, ◌<◌, ◌≤◌, length, get_or, Float, Ok}
 use Rattle.std.proofs.Common.{sym, inl, inr, le_refl, arith}
 use Rattle.std.specs.Float.{nan}
 use Rattle.std.specs.Float.Ieee.{binary64, add, sub, div, eq, le, is_nan}
 use Rattle.rounding.specs.Leaves.{one, plus_one, minus_one, sign_of, two}
-use Rattle.calls.specs.declared.Answer.TheVariants.{Cells}
 use Rattle.values.specs.Accepted.{accepted}
 use Rattle.cells.specs.Line.{Line, plus_zero, line}
 use Rattle.windows.specs.Window.{mean}
@@ -112,7 +111,7 @@ FromMinusOneToOne x = (le minus_one x ≡ true) × (le x plus_one ≡ true)
 
 module _ (n : ℕ) (s : List Float) {out₀ out₁ : List Float} {k : ℕ} where
   -- Double: each of its cells is a position.
-  pub double_writes_positions : (m : ℕ) → DoubleCall s n m out₀ (Cells k) out₁ → (i : ℕ) → i < k
+  pub double_writes_positions : (m : ℕ) → DoubleCall s n m out₀ (Ok k) out₁ → (i : ℕ) → i < k
       → Position (get_or out₁ i nan)
   double_writes_positions m c i h =
       let e = sym c.answer in
@@ -126,7 +125,7 @@ module _ (n : ℕ) (s : List Float) {out₀ out₁ : List Float} {k : ℕ} where
 
   module _ {work₀ work₁ : List Float} where
     -- One average: likewise.
-    pub single_writes_positions : SingleCall s n out₀ work₀ (Cells k) out₁ work₁ → (i : ℕ) → i < k
+    pub single_writes_positions : SingleCall s n out₀ work₀ (Ok k) out₁ work₁ → (i : ℕ) → i < k
         → Position (get_or out₁ i nan)
     single_writes_positions c i h =
         let b = bar nan accepted s (n ∷ []) (length work₀ ∷ []) c.call i h in
@@ -135,7 +134,7 @@ module _ (n : ℕ) (s : List Float) {out₀ out₁ : List Float} {k : ℕ} where
         (omega arith))
 
     -- Middle: likewise.
-    pub mid_writes_positions : MidCall s n out₀ work₀ (Cells k) out₁ work₁ → (i : ℕ) → i < k
+    pub mid_writes_positions : MidCall s n out₀ work₀ (Ok k) out₁ work₁ → (i : ℕ) → i < k
         → Position (get_or out₁ i nan)
     mid_writes_positions c i h =
         let b = bar nan accepted s (n ∷ []) (length work₀ ∷ []) c.call i h in
@@ -144,7 +143,7 @@ module _ (n : ℕ) (s : List Float) {out₀ out₁ : List Float} {k : ℕ} where
         (omega arith))
 
     -- Exponential: likewise.
-    pub single_ema_writes_positions : SingleEmaCall s n out₀ work₀ (Cells k) out₁ work₁ → (i : ℕ) → i < k
+    pub single_ema_writes_positions : SingleEmaCall s n out₀ work₀ (Ok k) out₁ work₁ → (i : ℕ) → i < k
         → Position (get_or out₁ i nan)
     single_ema_writes_positions c i h =
         let b = bar nan accepted s (n ∷ []) (length work₀ ∷ []) c.call i h in
@@ -153,7 +152,7 @@ module _ (n : ℕ) (s : List Float) {out₀ out₁ : List Float} {k : ℕ} where
         b.each.0.some (omega arith) (let l = b.inside in let u = b.short in omega arith))
 
     -- Min-max: a number from -1 to 1.
-    pub mms_writes_shares : (w : ℕ) → MmsCall s n w out₀ work₀ (Cells k) out₁ work₁ → (i : ℕ) → i < k
+    pub mms_writes_shares : (w : ℕ) → MmsCall s n w out₀ work₀ (Ok k) out₁ work₁ → (i : ℕ) → i < k
         → FromMinusOneToOne (get_or out₁ i nan)
     mms_writes_shares w c i h =
         let b = bar nan accepted s (n ∷ w ∷ []) (length work₀ ∷ []) c.call i h in
@@ -164,7 +163,7 @@ module _ (n : ℕ) (s : List Float) {out₀ out₁ : List Float} {k : ℕ} where
         rw b.cell (within.least, within.most)
 
     -- Tanh: likewise.
-    pub tanh_writes_shares : TanhCall s n out₀ work₀ (Cells k) out₁ work₁ → (i : ℕ) → i < k
+    pub tanh_writes_shares : TanhCall s n out₀ work₀ (Ok k) out₁ work₁ → (i : ℕ) → i < k
         → FromMinusOneToOne (get_or out₁ i nan)
     tanh_writes_shares c i h =
         let b = bar nan accepted s (n ∷ []) (length work₀ ∷ []) c.call i h in
@@ -174,7 +173,7 @@ module _ (n : ℕ) (s : List Float) {out₀ out₁ : List Float} {k : ℕ} where
         rw b.cell (within.least, within.most)
 
     -- Rank: likewise, for a window of 2 bars or more.
-    pub rank_writes_shares : 2 ≤ n → RankCall s n out₀ work₀ (Cells k) out₁ work₁ → (i : ℕ) → i < k
+    pub rank_writes_shares : 2 ≤ n → RankCall s n out₀ work₀ (Ok k) out₁ work₁ → (i : ℕ) → i < k
         → FromMinusOneToOne (get_or out₁ i nan)
     rank_writes_shares h c i l =
         let b = bar nan accepted s (n ∷ []) (length work₀ ∷ []) c.call i l in

@@ -1,13 +1,12 @@
 -- What the cells of the two-average rule on ranges mean: of an answered call on lists of f64, for every series of whole
 -- ticks inside the ranges, by the double rule's own line. What is said from bar m - 1 on holds there and at every later
 -- bar below the count k. Assumes nothing.
-use Rattle.std.specs.Prelude.{◌≡◌, refl, true, List, ◌⊎◌, ℕ, ◌+◌, ◌-◌, ◌^◌, ◌<◌, ◌≤◌, ℤ, pos, negsuc, length, get_or, Float}
+use Rattle.std.specs.Prelude.{◌≡◌, refl, true, List, ◌⊎◌, ℕ, ◌+◌, ◌-◌, ◌^◌, ◌<◌, ◌≤◌, ℤ, pos, negsuc, length, get_or, Float, Ok}
 use Rattle.std.proofs.Common.{sym, ◌∙◌, arith}
 use Rattle.std.specs.Float.{binary64}
 use Rattle.std.specs.Float.Ieee.{of_int, le, fits}
 use Rattle.rounding.specs.Leaves.{plus_one, minus_one}
 use Rattle.values.specs.Accepted.{tick, all}
-use Rattle.calls.specs.declared.Answer.TheVariants.{Cells}
 use Rattle.calls.proofs.Cells.{cell_at}
 use Rattle.checks.proofs.Two.{in_order_at}
 use Rattle.cells.specs.Line.{line}
@@ -64,7 +63,7 @@ seam_whole k f g same room v w = record {
 }
 
 module _ (low high : List Float) (n m : ℕ) {k : ℕ} {out₀ out₁ : List ℤ} (v : all (fits binary64) low ≡ true)
-    (w : all (fits binary64) high ≡ true) (c : RangesCall low high n m out₀ (Cells k) out₁) (i : ℕ) (h : i < k) where
+    (w : all (fits binary64) high ≡ true) (c : RangesCall low high n m out₀ (Ok k) out₁) (i : ℕ) (h : i < k) where
   opened : RangesRoom n m low high (length out₀)
   opened = ranges_opened low high n m (length out₀) k (sym c.answer) (omega arith)
 
@@ -158,7 +157,7 @@ module _ (low high : List Float) (n m : ℕ) {k : ℕ} {out₀ out₁ : List ℤ
 
 -- With low equal to high each cell is the double rule's, at every bar.
 pub ranges_equal_ends : (s : List Float) (n m : ℕ) {k : ℕ} {out₀ out₁ : List ℤ} → all (fits binary64) s ≡ true
-    → RangesCall s s n m out₀ (Cells k) out₁ → (i : ℕ) → i < k
+    → RangesCall s s n m out₀ (Ok k) out₁ → (i : ℕ) → i < k
     → double_line n m (line s) i ≡ of_int binary64 (get_or out₁ i (pos 0))
 ranges_equal_ends s n m v c i h =
     let o = opened s s n m v v c i h in

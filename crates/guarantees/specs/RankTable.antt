@@ -1,13 +1,11 @@
 -- The rank table: which tables are taken, and what is written where one is. `Rattle.rules_rank_table.specs.Taken` says
 -- what a row read is and what it covers. Assumes nothing.
-use Rattle.std.specs.Prelude.{◌≡◌, List, [], ◌∷◌, ℕ, ◌-◌, ◌*◌, ◌<◌, ◌≤◌, ℤ, length, get_or, Float}
+use Rattle.std.specs.Prelude.{◌≡◌, List, [], ◌∷◌, ℕ, ◌-◌, ◌*◌, ◌<◌, ◌≤◌, ℤ, length, get_or, Float, Ok}
 use Rattle.std.proofs.Common.{arith}
 use Rattle.limits.specs.Limits.{Window}
 use Rattle.values.specs.Accepted.{accepted}
 use Rattle.cells.specs.Line.{line}
-use Rattle.calls.specs.declared.Answer.{Answer}
-use Rattle.calls.specs.declared.Answer.TheVariants.{Cells}
-use Rattle.calls.specs.Answer.{refusal_of, checked}
+use Rattle.calls.specs.Answer.{Answer, refusal_of, checked}
 use Rattle.calls.proofs.Cells.{due_cell}
 use Rattle.windows.specs.Window.{mean}
 use Rattle.rules_held.specs.Held.{flat}
@@ -39,7 +37,7 @@ module _ (s : List Float) (n : ℕ) (table : List ℤ) {out₀ out₁ : List ℤ
   -- With a bar and a window at least, and none of refusals 1 to 7: refusal 0 if and only if every number from -100 to
   -- 100 is covered by just one row read and every position read is -1, 0 or 1.
   pub taken_exactly_if : {r : Answer} → RankTableCall s n table out₀ work₀ r out₁ work₁ → 0 < length s → Window n
-      → checked accepted (s ∷ []) (length out₀ ∷ []) (length work₀ ∷ []) ≡ Cells (length s)
+      → checked accepted (s ∷ []) (length out₀ ∷ []) (length work₀ ∷ []) ≡ Ok (length s)
       → (refusal_of r ≡ 0 → Complete table) × (Complete table → refusal_of r ≡ 0)
   taken_exactly_if c bars window passes =
       let e = c.call.answer in (
@@ -47,7 +45,7 @@ module _ (s : List Float) (n : ℕ) (table : List ℤ) {out₀ out₁ : List ℤ
         taken_if_complete s n table (length out₀) (length work₀) passes window bars e,
       )
 
-  module _ (c : RankTableCall s n table out₀ work₀ (Cells (length s)) out₁ work₁) (i : ℕ) (h : i < length s) where
+  module _ (c : RankTableCall s n table out₀ work₀ (Ok (length s)) out₁ work₁) (i : ℕ) (h : i < length s) where
     -- Each cell is +1, -1 or 0.
     pub rank_table_writes_positions : WholePosition (get_or out₁ i flat)
     unfolding rank_table_answer

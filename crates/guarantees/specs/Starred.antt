@@ -1,15 +1,13 @@
 -- Document 01's starred cases, as one table: each function's own contract, of a call with slices just long enough,
 -- gives this answer and these cells. Assumes nothing.
-use Rattle.std.specs.Prelude.{◌≡◌, refl, false, List, [], ◌∷◌, map, ℕ, zero, suc, ◌*◌, ℤ, pos, negsuc, length, Float}
+use Rattle.std.specs.Prelude.{◌≡◌, refl, false, List, [], ◌∷◌, map, ℕ, zero, suc, ◌*◌, ℤ, pos, negsuc, length, Float, Ok}
 use Rattle.std.proofs.Common.{ap, ◌∙◌, arith}
 use Rattle.std.specs.Float.{nan, fin, binary64}
 use Rattle.std.specs.Float.Ieee.{add, sub, mul, div, of_int, to_signed, whole, lt, eq, le, to_bits, neg, round}
 use Rattle.rounding.specs.Whole.{total}
 use Rattle.rounding.specs.Leaves.{sign_of, magnitude_of, round_to_whole}
-use Rattle.calls.specs.declared.Answer.{Answer}
-use Rattle.calls.specs.declared.Answer.TheVariants.{Cells}
+use Rattle.calls.specs.Answer.{Answer, slices, checked, windowed, answered, answered_with}
 use Rattle.values.specs.Accepted.{accepted, tick, finite}
-use Rattle.calls.specs.Answer.{slices, checked, windowed, answered, answered_with}
 use Rattle.calls.specs.Call.{Call, WorkCall}
 use Rattle.cells.specs.Line.{from_bar}
 use Rattle.cells.specs.Written.{written}
@@ -89,7 +87,7 @@ table =
 module _ {A : Type 0} (cell : A → Cell) where
   -- the call is answered with a cell for each bar, and these are the whole output
   pub record Leaves (s : List Float) (cells : List Cell) (r : Answer) (out₁ : List A) : Type 0 where
-    pub answer : r ≡ Cells (length s)
+    pub answer : r ≡ Ok (length s)
     pub output : map cell out₁ ≡ cells
 
   -- of every call of this contract whose output is just long enough
@@ -136,19 +134,19 @@ all_written (suc k) f (x ∷ old) e =
     ap (λ (t : List _). f 0 ∷ t) (all_written k (λ i. f (suc i)) old (omega arith))
 
 module _ {A : Type 0} (cell : A → Cell) (f : ℕ → A) (s : List Float) (cells : List Cell) where
-  leaves : {due r : Answer} {out₀ out₁ : List A} → due ≡ Cells (length s)
+  leaves : {due r : Answer} {out₀ out₁ : List A} → due ≡ Ok (length s)
       → map cell (first_cells (length s) f) ≡ cells → length out₀ ≡ length s
       → Call due f out₀ r out₁ → Leaves cell s cells r out₁
   leaves {out₀ = out₀} d e long c =
       let a = c.answer ∙ d in
       record { answer = a; output = rw (c.cells, a, all_written (length s) f out₀ long) e }
 
-  plain : (due : List Float → ℕ → Answer) → due s (length s) ≡ Cells (length s)
+  plain : (due : List Float → ℕ → Answer) → due s (length s) ≡ Ok (length s)
       → map cell (first_cells (length s) f) ≡ cells
       → Plain cell (λ out₀. Call (due s (length out₀)) f out₀) s cells
   plain due d e out₀ out₁ r long c = leaves (rw long d) e long c
 
-  working : (due : List Float → ℕ → ℕ → Answer) → due s (length s) (8 * length s) ≡ Cells (length s)
+  working : (due : List Float → ℕ → ℕ → Answer) → due s (length s) (8 * length s) ≡ Ok (length s)
       → map cell (first_cells (length s) f) ≡ cells
       → Working cell (λ out₀ work₀. WorkCall (due s (length out₀) (length work₀)) f out₀ (length s) work₀) s cells
   working due d e out₀ out₁ work₀ work₁ r long wide c = leaves (rw (long, wide) d) e long c.call

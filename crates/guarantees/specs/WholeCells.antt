@@ -1,12 +1,10 @@
 -- Cells that are whole numbers: every cell of an answered call of the triple rule, of both Bollinger rules and of the
 -- rule against the relative strength index is +1, -1 or 0; of two neighbouring cells of a reverse rule never is one +1
 -- and the other -1; a rolling rank lies from 1 to its window. Assumes nothing.
-use Rattle.std.specs.Prelude.{◌≡◌, refl, ◌⊎◌, ◌&&◌, List, [], ◌∷◌, ℕ, suc, ◌+◌, ◌-◌, ◌<◌, ◌≤◌, leb, ℤ, length, get_or, Float}
+use Rattle.std.specs.Prelude.{◌≡◌, refl, ◌⊎◌, ◌&&◌, List, [], ◌∷◌, ℕ, suc, ◌+◌, ◌-◌, ◌<◌, ◌≤◌, leb, ℤ, length, get_or, Float, Ok}
 use Rattle.std.proofs.Common.{inl, inr, arith}
 use Rattle.std.specs.Float.Ieee.{lt}
-use Rattle.calls.specs.declared.Answer.{Answer}
-use Rattle.calls.specs.declared.Answer.TheVariants.{Cells}
-use Rattle.calls.specs.Answer.{and_then, checked, answered_with}
+use Rattle.calls.specs.Answer.{Answer, and_then, checked, answered_with}
 use Rattle.calls.specs.Call.{Call}
 use Rattle.calls.proofs.Cells.{due_cell}
 use Rattle.values.specs.Accepted.{accepted}
@@ -49,7 +47,7 @@ ClosesFirst s out = (i : ℕ) → suc i < length s
 
 -- as it is of the line
 closes_first : (s : List Float) (work : ℕ) (next : Answer) {f : ℕ → ℤ} {out₀ out₁ : List ℤ}
-    → Call (and_then (checked accepted (s ∷ []) (length out₀ ∷ []) (work ∷ [])) next) f out₀ (Cells (length s)) out₁
+    → Call (and_then (checked accepted (s ∷ []) (length out₀ ∷ []) (work ∷ [])) next) f out₀ (Ok (length s)) out₁
     → ((i : ℕ) → (f i ≡ long → f (suc i) ≡ short → ⊥) × (f i ≡ short → f (suc i) ≡ long → ⊥)) → ClosesFirst s out₁
 closes_first s work next c law i h =
     rw (due_cell flat s work next c i (omega arith), due_cell flat s work next c (suc i) h) (law i)
@@ -58,7 +56,7 @@ closes_first s work next c law i h =
 
 module _ (s : List Float) {out₀ out₁ : List ℤ} {work₀ work₁ : List Float} where
   -- Triple: each cell is +1, -1 or 0.
-  pub triple_writes_positions : (m1 m2 m3 : ℕ) → TripleCall s m1 m2 m3 out₀ work₀ (Cells (length s)) out₁ work₁
+  pub triple_writes_positions : (m1 m2 m3 : ℕ) → TripleCall s m1 m2 m3 out₀ work₀ (Ok (length s)) out₁ work₁
       → (i : ℕ) → i < length s
       → WholePosition (get_or out₁ i flat)
   unfolding triple_answer
@@ -67,14 +65,14 @@ module _ (s : List Float) {out₀ out₁ : List ℤ} {work₀ work₁ : List Flo
 
   module _ (n : ℕ) (k : Float) where
     -- Bollinger: likewise.
-    pub boll_writes_positions : BollCall s n k out₀ work₀ (Cells (length s)) out₁ work₁ → (i : ℕ) → i < length s
+    pub boll_writes_positions : BollCall s n k out₀ work₀ (Ok (length s)) out₁ work₁ → (i : ℕ) → i < length s
         → WholePosition (get_or out₁ i flat)
     unfolding answered_with
     boll_writes_positions c i h =
         rw (due_cell flat s (length work₀) _ c.call i h) (whole (boll_position n k (line s) i))
 
     -- The reverse rule: likewise.
-    pub boll_reverse_writes_positions : BollReverseCall s n k out₀ work₀ (Cells (length s)) out₁ work₁ → (i : ℕ)
+    pub boll_reverse_writes_positions : BollReverseCall s n k out₀ work₀ (Ok (length s)) out₁ work₁ → (i : ℕ)
         → i < length s
         → WholePosition (get_or out₁ i flat)
     unfolding answered_with
@@ -82,13 +80,13 @@ module _ (s : List Float) {out₀ out₁ : List ℤ} {work₀ work₁ : List Flo
         rw (due_cell flat s (length work₀) _ c.call i h) (whole (boll_reverse_position n k (line s) i))
 
     -- The reverse rule: a position closes before the other one opens.
-    pub boll_reverse_closes_first : BollReverseCall s n k out₀ work₀ (Cells (length s)) out₁ work₁ → ClosesFirst s out₁
+    pub boll_reverse_closes_first : BollReverseCall s n k out₀ work₀ (Ok (length s)) out₁ work₁ → ClosesFirst s out₁
     unfolding answered_with
     boll_reverse_closes_first c =
         closes_first s (length work₀) _ c.call (boll_reverse_neighbours n k (line s))
 
   module _ (n : ℕ) (upper lower exit : Float)
-      (c : RsiReverseCall s n upper lower exit out₀ work₀ (Cells (length s)) out₁ work₁) where
+      (c : RsiReverseCall s n upper lower exit out₀ work₀ (Ok (length s)) out₁ work₁) where
     -- The relative strength index: each cell is +1, -1 or 0.
     pub rsi_reverse_writes_positions : (i : ℕ) → i < length s → WholePosition (get_or out₁ i flat)
     unfolding answered_with
@@ -103,14 +101,14 @@ module _ (s : List Float) {out₀ out₁ : List ℤ} {work₀ work₁ : List Flo
 
 module _ (s : List Float) (w : ℕ) {out₀ out₁ : List ℕ} {work₀ work₁ : List Float} where
   -- A rolling rank: from 1 to the window where that is whole, and 0 before.
-  pub rolling_rank_writes_places : RollingRankCall s w out₀ work₀ (Cells (length s)) out₁ work₁ → (i : ℕ)
+  pub rolling_rank_writes_places : RollingRankCall s w out₀ work₀ (Ok (length s)) out₁ work₁ → (i : ℕ)
       → i < length s → 0 < w → w ≤ i + 1
       → (1 ≤ get_or out₁ i 0) × (get_or out₁ i 0 ≤ w)
   unfolding rolling_rank_answer
   rolling_rank_writes_places c i h p q =
       rw (due_cell 0 s (length work₀) _ c.call i h) (rolling_within w (line s) i p q)
 
-  pub rolling_rank_writes_none : RollingRankCall s w out₀ work₀ (Cells (length s)) out₁ work₁ → (i : ℕ)
+  pub rolling_rank_writes_none : RollingRankCall s w out₀ work₀ (Ok (length s)) out₁ work₁ → (i : ℕ)
       → i < length s → i < w - 1
       → get_or out₁ i 0 ≡ 0
   unfolding rolling_rank_answer

@@ -8,9 +8,8 @@ use lib.Dec.{ltb}
 use lib.ListN.{length, set}
 use lib.Ieee.{Float, binary64, sub}
 use Rattle.values.specs.Accepted.{accepted}
-use Rattle.calls.specs.declared.Answer.{Answer}
-use Rattle.calls.specs.declared.Answer.TheVariants.{Cells}
-use Rattle.calls.specs.Answer.{count_of, cleared_of, checked, limited, unless_empty, empty_if}
+use Rattle.calls.specs.Answer.{Answer, count_of, cleared_of, checked, limited, unless_empty, empty_if}
+use Rattle.std.specs.Prelude.{Ok}
 use Rattle.calls.proofs.Call.{AllBars}
 use Rattle.calls.proofs.Room.{asked, and_then_cells, empty_if_cells, same_count}
 use Rattle.checks.proofs.Passed.{one_passed, one_clearable}
@@ -88,7 +87,7 @@ module _ (s : List Float) (m : ℕ) (w : Weights) (out work : ℕ) where
   numbers = w.alpha ∷ w.beta ∷ w.gamma ∷ []
 
   abbrev whole : Answer
-  whole = empty_if (ltb (length s) m) (Cells (length s))
+  whole = empty_if (ltb (length s) m) (Ok (length s))
 
   abbrev rest : Answer
   rest = limited numbers (m ∷ []) [] (unless_empty (length s) (m ∷ []) [] whole)

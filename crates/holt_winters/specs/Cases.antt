@@ -1,13 +1,11 @@
 -- holt_winters at small series, with the cells that pure.rs gave, and its answers. Assumes nothing.
-use Rattle.std.specs.Prelude.{◌≡◌, refl, true, false, [], ◌∷◌, ℕ, suc, pos, negsuc, Float}
+use Rattle.std.specs.Prelude.{◌≡◌, refl, true, false, [], ◌∷◌, ℕ, suc, pos, negsuc, Float, Ok, Err}
 use Rattle.std.specs.Float.{nan, inf, fin, binary64}
 use Rattle.std.specs.Float.Ieee.{round, add, sub, mul, div, lt, eq, le, of_int, of_bits, to_bits}
 use Rattle.limits.specs.Limits.{longest_window}
 use Rattle.calls.specs.declared.Refusal.TheVariants.{ParameterNotFinite, WindowTooLong}
-use Rattle.calls.specs.declared.Answer.{Answer}
-use Rattle.calls.specs.declared.Answer.TheVariants.{Cells, Refused}
+use Rattle.calls.specs.Answer.{Answer, slices, checked}
 use Rattle.values.specs.Accepted.{accepted, finite}
-use Rattle.calls.specs.Answer.{slices, checked}
 use Rattle.cells.specs.Line.{plus_zero, from_bar}
 use Rattle.rounding.specs.Leaves.{minus_one}
 use Rattle.windows.specs.Window.{sum_from, window_sum, mean}
@@ -65,7 +63,7 @@ holt_winters_answers : one_bar 1 halves ∷ one_bar 2 halves ∷ one_bar 0 halve
     ∷ one_bar (suc longest_window) (weights nan half half) ∷ one_bar (suc longest_window) (weights half (inf true) half)
     ∷ one_bar (suc longest_window) (weights half half (inf false)) ∷ one_bar (suc longest_window) halves
     ∷ holt_winters_answer [] 1 halves 0 0 ∷ []
-    ≡ Cells 1 ∷ Cells 0 ∷ Cells 0 ∷ Refused ParameterNotFinite ∷ Refused ParameterNotFinite
-    ∷ Refused ParameterNotFinite ∷ Refused WindowTooLong ∷ Cells 0 ∷ []
+    ≡ Ok 1 ∷ Ok 0 ∷ Ok 0 ∷ Err ParameterNotFinite ∷ Err ParameterNotFinite
+    ∷ Err ParameterNotFinite ∷ Err WindowTooLong ∷ Ok 0 ∷ []
 unfolding holt_winters_answer slices checked accepted finite lt eq le to_bits
 holt_winters_answers = refl

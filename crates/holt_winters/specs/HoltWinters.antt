@@ -1,6 +1,6 @@
 -- Additive Holt-Winters smoothing: what `holt_winters` answers and writes. C. C. Holt, 1957; P. R. Winters, Forecasting
 -- Sales by Exponentially Weighted Moving Averages, 1960. Every operation is rounded once. Assumes nothing.
-use Rattle.std.specs.Prelude.{cond, List, [], ◌∷◌, ℕ, zero, suc, ◌-◌, Float, ltb, length}
+use Rattle.std.specs.Prelude.{cond, List, [], ◌∷◌, ℕ, zero, suc, ◌-◌, Float, ltb, length, Ok}
 use Rattle.std.specs.Float.{binary64}
 use Rattle.std.specs.Float.Ieee.{add, sub}
 use Rattle.averages.specs.Blend.{blend}
@@ -9,9 +9,7 @@ use Rattle.holt_winters.specs.declared.Weights.{Weights}
 use Rattle.cells.specs.Line.{Line, line, plus_zero}
 use Rattle.windows.specs.Window.{mean}
 use Rattle.values.specs.Accepted.{accepted}
-use Rattle.calls.specs.declared.Answer.{Answer}
-use Rattle.calls.specs.declared.Answer.TheVariants.{Cells}
-use Rattle.calls.specs.Answer.{and_then, checked, limited, unless_empty, empty_if}
+use Rattle.calls.specs.Answer.{Answer, and_then, checked, limited, unless_empty, empty_if}
 use Rattle.calls.specs.Call.{WorkCall}
 
 -- A later bar, of price x: `last` is the bar before it, and `old` the seasonal part one season before it. Each part
@@ -58,7 +56,7 @@ holt_winters_answer s m w output work =
     (limited (w.alpha ∷ w.beta ∷ w.gamma ∷ []) (m ∷ []) []
     (unless_empty (length s) (m ∷ []) []
     (empty_if (ltb (length s) m)
-    (Cells (length s)))))
+    (Ok (length s)))))
 
 -- what a call of `holt_winters` promises
 abbrev pub HoltWintersCall : List Float → ℕ → Float → Float → Float → List Float → List Float → Answer → List Float

@@ -7,7 +7,7 @@ ghost use Rattle.holt_winters.specs.HoltWinters.{next_fit, total, holt_winters_a
 ghost use Rattle.windows.specs.Window.{mean};
 ghost use Rattle.holt_winters.specs.inner.Stages.{SeasonRoom, First, Smoothed};
 
-use calls::{Answer, Refusal};
+use calls::Answer;
 
 // How much a new price weighs in the level, in the trend and in the seasonal part.
 #[derive(Clone, Copy)]
@@ -61,11 +61,9 @@ fn write_first(series: &[f64], m: usize, average: f64, out: &mut [f64], work: &m
         out.new work.old work.new }
 {
     let bars = series.len();
-    let mut i = 0;
-    while i < m {
+    for i in 0..m {
         out[i] = series[i];
         cells::rows::put(work, bars, i, series[i] - average);
-        i += 1;
     }
 }
 
@@ -90,13 +88,11 @@ fn write_later(
         trend: 0.0,
         season: series[m - 1] - average,
     };
-    let mut i = m;
-    while i < series.len() {
+    for i in m..bars {
         let old = season_before(work, bars, m, i);
         last = next(w, last, old, series[i]);
         out[i] = cell(last);
         cells::rows::put(work, bars, i, last.season);
-        i += 1;
     }
 }
 
@@ -115,14 +111,10 @@ fn write_smoothed(series: &[f64], m: usize, w: Weights, out: &mut [f64], work: &
 fn answer_holt_winters(series: &[f64], m: usize, w: Weights, out: usize, work: usize) -> Answer
     ensures { result ≡ holt_winters_answer series.now m w out work }
 {
-    let due = checks::check_with_work(series, out, work);
     let bars = series.len();
-    let whole = checks::empty_if(bars < m, Answer::Cells(bars));
-    let season = checks::check_window(bars, m, whole);
-    let finite = values::is_finite(w.alpha)
-        & (values::is_finite(w.beta) & values::is_finite(w.gamma));
-    let next = checks::unless_refused(finite, Refusal::ParameterNotFinite, season);
-    checks::and_then(due, next)
+    checks::check_with_work(series, out, work)?;
+    let whole = checks::empty_if(bars < m, Ok(bars));
+    checks::check_parameters(bars, &[w.alpha, w.beta, w.gamma], &[m], &[], whole)
 }
 
 // Additive Holt-Winters smoothing: see `holt_winters_line`.

@@ -1,5 +1,5 @@
 -- jurik_volty at small series, with the cells that pure.rs gave, and its answers. Assumes nothing.
-use Rattle.std.specs.Prelude.{◌≡◌, refl, [], ◌∷◌, suc, pos, negsuc}
+use Rattle.std.specs.Prelude.{◌≡◌, refl, [], ◌∷◌, suc, pos, negsuc, Ok, Err}
 use Rattle.std.specs.Float.{nan, binary64}
 use Rattle.std.specs.Float.Ieee.{round, neg, add, sub, mul, div, lt, eq, le, of_int, of_bits, to_bits, is_nan}
 use Rattle.limits.specs.Limits.{longest_window}
@@ -7,7 +7,6 @@ use Rattle.rounding.specs.Leaves.{plus_one, magnitude_of}
 use Rattle.rounding.specs.Literals.{half}
 use Rattle.values.specs.Accepted.{accepted, finite}
 use Rattle.calls.specs.declared.Refusal.TheVariants.{ParameterNotFinite, WindowTooLong}
-use Rattle.calls.specs.declared.Answer.TheVariants.{Cells, Refused}
 use Rattle.calls.specs.Answer.{slices, checked, answered_with}
 use Rattle.cells.specs.Line.{plus_zero, from_bar}
 use Rattle.cells.specs.Recur.{recur, carried}
@@ -80,6 +79,6 @@ jurik_answers : answered_with accepted (plus_zero ∷ []) (half ∷ []) (longest
     ∷ answered_with accepted (plus_zero ∷ []) (half ∷ []) (0 ∷ []) 1 (8 ∷ [])
     ∷ answered_with accepted [] (half ∷ []) (3 ∷ []) 0 (0 ∷ [])
     ∷ []
-    ≡ Cells 1 ∷ Refused ParameterNotFinite ∷ Refused WindowTooLong ∷ Cells 0 ∷ Cells 0 ∷ []
+    ≡ Ok 1 ∷ Err ParameterNotFinite ∷ Err WindowTooLong ∷ Ok 0 ∷ Ok 0 ∷ []
 unfolding answered_with slices checked accepted finite lt eq le to_bits
 jurik_answers = refl

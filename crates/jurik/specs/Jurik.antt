@@ -4,8 +4,7 @@
 use Rattle.std.specs.Prelude.{Bool, not, cond, ◌&&◌, List, [], ◌∷◌, ℕ, suc, ◌-◌, ◌/◌, leb, length, Float}
 use Rattle.std.specs.Float.{nan, binary64}
 use Rattle.std.specs.Float.Ieee.{add, sub, mul, eq, is_nan}
-use Rattle.calls.specs.declared.Answer.{Answer}
-use Rattle.calls.specs.Answer.{answered_with}
+use Rattle.calls.specs.Answer.{Answer, answered_with}
 use Rattle.calls.specs.Call.{WorkCall}
 use Rattle.values.specs.Accepted.{accepted}
 use Rattle.cells.specs.Line.{Line, line, plus_zero, from_bar}

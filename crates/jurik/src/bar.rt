@@ -1,67 +1,75 @@
 // The volatility smoothed three times: which bars a pass may use.
-ghost use Rattle.std.specs.Prelude.{◌≡◌, ◌≤◌, length};
-ghost use Rattle.std.specs.Float.{nan};
-ghost use Rattle.cells.specs.Line.{line, plus_zero};
-ghost use Rattle.cells.specs.Search.{first_bar, non_zero};
-ghost use Rattle.jurik.specs.Jurik.{copied, all_same};
-ghost use Rattle.jurik.specs.inner.Passes.{valid_by, differs};
+ghost use Rattle.std.specs.Prelude.{◌≡◌, ◌<◌, not, leb, true, false, length, MatchOption};
+ghost use Rattle.cells.specs.Line.{line};
+ghost use Rattle.cells.specs.Search.{first_bar};
+ghost use Rattle.jurik.specs.Jurik.{all_same};
+ghost use Rattle.jurik.specs.inner.Passes.{valid_by, none_by, differs};
 
-// Whether a pass takes x: a value other than 0, or a number.
-pub fn valid(not_zero: bool, x: f64) -> bool
-    ensures { result ≡ valid_by not_zero x }
-{
-    if not_zero {
-        return x != 0.0;
-    }
-    x == x
+// Which values a pass takes: numbers, or those other than 0.
+#[derive(Clone, Copy)]
+pub enum Taken {
+    Numbers,
+    Nonzero,
 }
 
-// The first bar with a valid value that is not equal to x, or the end.
-fn first_differing(cells: &[f64], bars: usize, not_zero: bool, x: f64) -> usize
-    requires { bars ≤ length cells.now }
-    ensures { result ≡ first_bar (λ j. differs (valid_by not_zero) x (line cells.now j)) bars }
-{
-    let mut i = 0;
-    while i < bars {
-        if valid(not_zero, cells[i]) & (cells[i] != x) {
-            return i;
+impl Taken {
+    // Whether it takes x.
+    pub fn takes(self, x: f64) -> bool
+        ensures { result ≡ valid_by self x }
+    {
+        match self {
+            Taken::Numbers => !x.is_nan(),
+            Taken::Nonzero => x != 0.0,
         }
-        i += 1;
     }
-    i
-}
 
-// No number.
-pub fn no_number() -> f64
-    ensures { result ≡ nan }
-{
-    0.0 / 0.0
-}
-
-// The first bar with a valid value, or the end: nothing is equal to a NaN.
-pub fn first_valid(cells: &[f64], bars: usize, not_zero: bool) -> usize
-    requires { bars ≤ length cells.now }
-    ensures { result ≡ first_bar (λ j. valid_by not_zero (line cells.now j)) bars }
-{
-    first_differing(cells, bars, not_zero, no_number())
-}
-
-// Whether the valid values are equal: `first` is the bar of the first one, or the end.
-pub fn all_same(cells: &[f64], bars: usize, not_zero: bool, first: usize) -> bool
-    requires { (bars ≤ length cells.now)
-        × (first ≡ first_bar (λ j. valid_by not_zero (line cells.now j)) bars) }
-    ensures { result ≡ all_same (valid_by not_zero) bars (line cells.now) }
-{
-    if first < bars {
-        bars <= first_differing(cells, bars, not_zero, cells[first])
-    } else {
-        true
+    // What stands for the values that it does not take.
+    pub fn none(self) -> f64
+        ensures { result ≡ none_by self }
+    {
+        match self {
+            Taken::Numbers => f64::NAN,
+            Taken::Nonzero => 0.0,
+        }
     }
 }
 
-// x where it is not 0, else 0.0.
-pub fn copied_nonzero(x: f64) -> f64
-    ensures { result ≡ copied non_zero plus_zero (λ i. x) 0 }
+// The first bar with a value that is taken.
+fn first_taken(cells: &[f64], taken: Taken) -> Option<usize>
+    ensures { MatchOption result (first_bar (λ j. valid_by taken (line cells.now j)) (length cells.now)
+        ≡ length cells.now) (λ k. (k < length cells.now)
+        × (k ≡ first_bar (λ j. valid_by taken (line cells.now j)) (length cells.now))) }
 {
-    if valid(true, x) { x } else { 0.0 }
+    for i in 0..cells.len() {
+        if taken.takes(cells[i]) {
+            return Some(i);
+        }
+    }
+    None
+}
+
+// Whether a value that is taken is not equal to x.
+fn other_taken(cells: &[f64], taken: Taken, x: f64) -> bool
+    ensures { result ≡ not (leb (length cells.now)
+        (first_bar (λ j. differs (valid_by taken) x (line cells.now j)) (length cells.now))) }
+{
+    for i in 0..cells.len() {
+        if taken.takes(cells[i]) & (cells[i] != x) {
+            return true;
+        }
+    }
+    false
+}
+
+// The first bar with a value that is taken, where not all of them are equal: the average starts there.
+pub fn average_start(cells: &[f64], taken: Taken) -> Option<usize>
+    ensures { MatchOption result (all_same (valid_by taken) (length cells.now) (line cells.now) ≡ true)
+        (λ k. (k < length cells.now)
+        × (k ≡ first_bar (λ j. valid_by taken (line cells.now j)) (length cells.now))
+        × (all_same (valid_by taken) (length cells.now) (line cells.now) ≡ false)) }
+{
+    match first_taken(cells, taken) {
+        Some(first) if other_taken(cells, taken, cells[first]) => Some(first),
+        _ => None,
+    }
 }

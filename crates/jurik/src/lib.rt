@@ -10,6 +10,7 @@ ghost use Rattle.cells.specs.Written.{Writing};
 ghost use Rattle.jurik.specs.Jurik.{is_number, price_change, jv_of, jv, jurik_line, JurikCall};
 ghost use Rattle.jurik.specs.inner.Passes.{differs, jv_at, Ready, Differing, JvWritten, BothAverage};
 
+use bar::Taken;
 use calls::Answer;
 
 // The size of the change of bar i.
@@ -26,10 +27,9 @@ fn write_price_changes(close: &[f64], out: &mut [f64])
     ensures { Writing (length close.now) (price_change (line close.now)) out.old
         out.new }
 {
-    let mut i = cells::fill_nan(out, 1, close.len());
-    while i < close.len() {
+    let first = cells::fill_nan(out, 1, close.len());
+    for i in first..close.len() {
         out[i] = price_change_at(close, i);
-        i += 1;
     }
 }
 
@@ -37,7 +37,7 @@ fn write_price_changes(close: &[f64], out: &mut [f64])
 fn jv_of(power: f64, last: f64, x: f64) -> f64
     ensures { result ≡ jv_of power last x }
 {
-    if (x == x) & (last == last) {
+    if !x.is_nan() & !last.is_nan() {
         (x + (x - last) * 0.5) * power
     } else {
         0.0
@@ -52,43 +52,38 @@ fn jv_at(i: usize, power: f64, last: f64, x: f64) -> f64
 }
 
 // Writes over each value that of itself and the one before it.
-fn write_jv(cells: &mut [f64], bars: usize, power: f64)
-    requires { bars ≤ length cells.old }
-    ensures { Writing bars (jv power (line cells.old)) cells.old
+fn write_jv(cells: &mut [f64], power: f64)
+    ensures { Writing (length cells.old) (jv power (line cells.old)) cells.old
         cells.new }
 {
     let mut last = 0.0;
-    let mut i = 0;
-    while i < bars {
+    for i in 0..cells.len() {
         let x = cells[i];
         cells[i] = jv_at(i, power, last, x);
         last = x;
-        i += 1;
     }
 }
 
 // Writes the cells pass by pass.
 fn write_passes(close: &[f64], n: usize, power: f64, out: &mut [f64])
-    requires { Ready n (length close.now) (length out.old) }
+    requires { Ready n (length close.now) (length out.old) × (length out.old ≡ length close.now) }
     ensures { Writing (length close.now)
         (jurik_line (length close.now) n power (line close.now)) out.old
         out.new }
 {
-    let bars = close.len();
-    let none = bar::no_number();
     let alpha1 = 2.0 / ((n / 2 + 1) as f64);
     write_price_changes(close, out);
-    passes::pass(out, bars, false, none, alpha1);
-    passes::pass(out, bars, false, none, alpha1);
-    write_jv(out, bars, power);
-    passes::third_pass(out, bars, n);
+    passes::pass(out, Taken::Numbers, alpha1);
+    passes::pass(out, Taken::Numbers, alpha1);
+    write_jv(out, power);
+    passes::third_pass(out, n);
 }
 
 // Whether x is a number that is not equal to `first`.
 fn differing(first: f64, x: f64) -> bool
     ensures { result ≡ differs is_number first x }
 {
-    bar::valid(false, x) & (x != first)
+    !x.is_nan() & (x != first)
 }
 
 // Whether the first pass averages: some change is of another size than the first.
@@ -100,12 +95,10 @@ fn changes_differ(close: &[f64]) -> bool
         return false;
     }
     let first = price_change_at(close, 1);
-    let mut i = 2;
-    while i < bars {
-        if bar::valid(false, first) & differing(first, price_change_at(close, i)) {
+    for i in 2..bars {
+        if !first.is_nan() & differing(first, price_change_at(close, i)) {
             return true;
         }
-        i += 1;
     }
     false
 }
@@ -121,14 +114,13 @@ fn average_twice(close: &[f64], alpha: f64, power: f64, out: &mut [f64]) -> bool
     let mut smooth1 = first;
     let mut smooth2 = first;
     let mut differ = false;
-    let mut i = cells::fill_lead(out, 2, bars, 0.0);
-    while i < bars {
+    let start = cells::fill_lead(out, 2, bars, 0.0);
+    for i in start..bars {
         let last = smooth2;
         smooth1 = averages::blend::blended(alpha, smooth1, price_change_at(close, i));
         smooth2 = averages::blend::blended(alpha, smooth2, smooth1);
-        differ = differ | differing(first, smooth1);
+        differ |= differing(first, smooth1);
         out[i] = jv_of(power, last, smooth2);
-        i += 1;
     }
     differ
 }
@@ -149,13 +141,13 @@ fn write_averaged_jv(close: &[f64], n: usize, power: f64, out: &mut [f64]) -> bo
 
 // Writes the cells: the first two passes in one loop, or all of them one by one where one of those copies.
 fn write_jurik(close: &[f64], n: usize, power: f64, out: &mut [f64])
-    requires { Ready n (length close.now) (length out.old) }
+    requires { Ready n (length close.now) (length out.old) × (length out.old ≡ length close.now) }
     ensures { Writing (length close.now)
         (jurik_line (length close.now) n power (line close.now)) out.old
         out.new }
 {
     if write_averaged_jv(close, n, power, out) {
-        passes::third_pass(out, close.len(), n);
+        passes::third_pass(out, n);
     } else {
         write_passes(close, n, power, out);
     }
@@ -174,7 +166,7 @@ pub fn jurik_volty(
 {
     let due = checks::answer_numbers_and_window(close, &[power], period, out.len(), work.len());
     if checks::cells_due(due, close.len(), work) {
-        write_jurik(close, period, power, out);
+        write_jurik(close, period, power, &mut out[..close.len()]);
         cells::clear(work, 8 * close.len());
     }
     due

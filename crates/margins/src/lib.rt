@@ -10,10 +10,8 @@ fn largest(series: &[f64]) -> f64
     ensures { result ≡ largest_of (line series.now) (length series.now) }
 {
     let mut most = 0.0;
-    let mut i = 0;
-    while i < series.len() {
-        most = extremes::larger_of(most, rounding::magnitude(series[i]));
-        i += 1;
+    for price in series {
+        most = extremes::larger_of(most, rounding::magnitude(*price));
     }
     most
 }
@@ -35,11 +33,7 @@ pub fn margin(series: &[f64]) -> f64
 pub fn is_far(d: f64, price: f64, average: f64) -> bool
     ensures { result ≡ far d price average }
 {
-    if d < rounding::magnitude(price - average) {
-        d < rounding::magnitude(average)
-    } else {
-        false
-    }
+    d < rounding::magnitude(price - average) && d < rounding::magnitude(average)
 }
 
 // Whether that holds of every bar from `first` on. All are looked at, so that the loop takes several at a time.
@@ -50,10 +44,8 @@ pub fn all_far(series: &[f64], averages: &[f64], first: usize, d: f64) -> bool
         (length series.now) }
 {
     let mut far = true;
-    let mut i = first;
-    while i < series.len() {
-        far = far & is_far(d, series[i], averages[i]);
-        i += 1;
+    for i in first..series.len() {
+        far &= is_far(d, series[i], averages[i]);
     }
     far
 }

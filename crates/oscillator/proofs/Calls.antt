@@ -8,9 +8,8 @@ use lib.Dec.{T}
 use lib.ListN.{length}
 use lib.Ieee.{Float, binary64, fits}
 use Rattle.values.specs.Accepted.{accepted}
-use Rattle.calls.specs.declared.Answer.{Answer}
-use Rattle.calls.specs.declared.Answer.TheVariants.{Cells}
-use Rattle.calls.specs.Answer.{count_of, cleared_of, checked, windowed}
+use Rattle.calls.specs.Answer.{Answer, count_of, cleared_of, checked, windowed}
+use Rattle.std.specs.Prelude.{Ok, Option}
 use Rattle.calls.proofs.Call.{AllBars}
 use Rattle.calls.proofs.Room.{asked, and_then_cells, unless_cells, same_count}
 use Rattle.checks.proofs.Passed.{three_passed, three_clearable}
@@ -19,19 +18,18 @@ use Rattle.cells.specs.Written.{Writing}
 use Rattle.cells.proofs.Written.{writing_same}
 use Rattle.cells.specs.inner.Rows.{beside}
 use Rattle.window_means.specs.inner.Row.{row_at}
-use Rattle.true_range.specs.declared.CloseBefore.{CloseBefore}
 use Rattle.true_range.specs.TrueRange.{true_ranges, close_before, accepted_close, close_checked}
 use Rattle.oscillator.specs.Oscillator.{pressures, weighed_shares, oscillator_line, oscillator_answer}
 use Rattle.oscillator.specs.inner.Rows.{Ready}
 use Rattle.oscillator.proofs.Oscillator.{shares_either, from_rows}
 use Rattle.oscillator.proofs.Zeros.{Plain, FitClose, plain_values, plain_close, either_pressures, either_ranges}
 
-module _ (high low close : List Float) (n m k : ℕ) (first : CloseBefore) (out work : ℕ) where
+module _ (high low close : List Float) (n m k : ℕ) (first : Option Float) (out work : ℕ) where
   abbrev due : Answer
   due = checked accepted (high ∷ low ∷ close ∷ []) (out ∷ []) (work ∷ [])
 
   abbrev asks : Answer
-  asks = windowed (length high) (n ∷ m ∷ k ∷ []) (Cells (length high))
+  asks = windowed (length high) (n ∷ m ∷ k ∷ []) (Ok (length high))
 
   abbrev rest : Answer
   rest = close_checked first asks
@@ -46,7 +44,7 @@ module _ (high low close : List Float) (n m k : ℕ) (first : CloseBefore) (out 
   unfolding oscillator_answer windowed
   oscillator_bars j e h =
       let next = (unless_cells (accepted_close first) _ asks j (and_then_cells due rest j e).1).1 in
-      sym (same_count _ _ (asked (length high) [] (n ∷ m ∷ k ∷ []) [] (Cells (length high)) j next h).rest)
+      sym (same_count _ _ (asked (length high) [] (n ∷ m ∷ k ∷ []) [] (Ok (length high)) j next h).rest)
 
   -- and where they are due, all is in order
   pub oscillator_ready : {r : Answer} → r ≡ oscillator_answer high low close n m k first out work → 0 < count_of r
@@ -55,7 +53,7 @@ module _ (high low close : List Float) (n m k : ℕ) (first : CloseBefore) (out 
   oscillator_ready {r} e h =
       let p = three_passed high low close out work rest e h in
       let windows = unless_cells (accepted_close first) _ asks (count_of r) p.1 in
-      let a = asked (length high) [] (n ∷ m ∷ k ∷ []) [] (Cells (length high)) (count_of r) windows.1 h in
+      let a = asked (length high) [] (n ∷ m ∷ k ∷ []) [] (Ok (length high)) (count_of r) windows.1 h in
       record {
         lows = p.0.second;
         closes = p.0.third;
@@ -73,7 +71,7 @@ module _ (high low close : List Float) (n m k : ℕ) (first : CloseBefore) (out 
 abbrev Fit : List Float → Type 0
 Fit s = (i : ℕ) → T (fits binary64 (line s i))
 
-pub oscillator_cells : (high low close : List Float) (first : CloseBefore) {n m k out room : ℕ}
+pub oscillator_cells : (high low close : List Float) (first : Option Float) {n m k out room : ℕ}
     → Ready high low close first n m k out room
     → Fit high → Fit low → Fit close → FitClose first
     → {work rows old now : List Float}

@@ -13,18 +13,18 @@ use Rattle.cells.proofs.Written.{read_back, ends, writing_same}
 use Rattle.cells.specs.inner.Rows.{beside}
 use Rattle.cells.proofs.RowWrites.{beside_first, beside_second}
 use Rattle.window_means.specs.inner.Row.{row_at}
-use Rattle.windows.specs.declared.Eight.{Eight}
-use Rattle.windows.specs.inner.Eight.{EightOf}
+use Rattle.windows.specs.inner.Lanes.{LanesOf}
+use Rattle.windows.proofs.Lanes.{lanes_written}
 use Rattle.windows.specs.Window.{window_sum}
 use Rattle.windows.proofs.Window.{sum_from_same}
 use Rattle.windows.proofs.Zeros.{EitherZero, sums_from_either}
-use Rattle.true_range.specs.declared.CloseBefore.{CloseBefore}
+use Rattle.std.specs.Prelude.{Option}
 use Rattle.true_range.specs.TrueRange.{true_ranges, close_before}
 use Rattle.true_range.proofs.TrueRange.{Causal₃, causal_close, causal_ranges}
-use Rattle.oscillator.specs.Oscillator.{pressure, pressures, share, weighed_shares, oscillator_line}
+use Rattle.oscillator.specs.Oscillator.{pressure, pressures, ratio, weighed, share, weighed_shares, oscillator_line}
+use Rattle.oscillator.specs.declared.periods.Periods.{Periods}
 use Rattle.oscillator.specs.inner.Begun.{afresh}
 use Rattle.oscillator.proofs.Cells.{cell_is}
-use Rattle.oscillator.specs.inner.Rows.{each_ratio, each_weighed}
 
 -- ---- lines that agree
 
@@ -61,52 +61,38 @@ module _ (f g : Line) (i : ℕ) (p : (j : ℕ) → j ≤ i → EitherZero (f j))
 
 -- ---- the cells, as the loops find them
 
-pub pressure_at : (low close : Line) (first : CloseBefore) (i : ℕ) {x : Float} {before : CloseBefore}
+pub pressure_at : (low close : Line) (first : Option Float) (i : ℕ) {x : Float} {before : Option Float}
     → x ≡ pressure (low i) (close i) before → before ≡ close_before first close i → x ≡ pressures first low close i
 unfolding pressures
 pressure_at low close first i e h = rw (e, h)
 
-pub eight_shares : (n i : ℕ) (f g : Line) {x y : Eight} → EightOf (window_sum n f) i x → EightOf (window_sum n g) i y
-    → EightOf (share minus_zero n f g) i (each_ratio x y)
+-- the sums of the first k lanes over others, each a share
+pub shares_of_lanes : {N k : ℕ} (n i : ℕ) (f g : Line) {x y now : List Float} → LanesOf N (window_sum n f) i x
+    → LanesOf N (window_sum n g) i y → Writing k (λ j. ratio (line x j) (line y j)) x now → k ≡ N
+    → LanesOf N (share minus_zero n f g) i now
 unfolding share window_sum
-eight_shares n i f g p q =
-    record {
-      lane0 = rw (p.lane0, q.lane0);
-      lane1 = rw (p.lane1, q.lane1);
-      lane2 = rw (p.lane2, q.lane2);
-      lane3 = rw (p.lane3, q.lane3);
-      lane4 = rw (p.lane4, q.lane4);
-      lane5 = rw (p.lane5, q.lane5);
-      lane6 = rw (p.lane6, q.lane6);
-      lane7 = rw (p.lane7, q.lane7);
-    }
+shares_of_lanes n i f g p q w e = lanes_written (ends w e) p.long (λ j l. rw (p.lane j l, q.lane j l))
 
-pub eight_cells : (z : Float) (n m k i : ℕ) (f g : Line) {x y w : Eight} → EightOf (share z n f g) i x
-    → EightOf (share z m f g) i y
-    → EightOf (share z k f g) i w → max n (max m k) ≤ i + 1
-    → EightOf (weighed_shares z n m k f g) i (each_weighed x y w)
-eight_cells z n m k i f g a b c h =
-    record {
-      lane0 = cell_is z n m k i f g a.lane0 b.lane0 c.lane0 h;
-      lane1 = cell_is z n m k (i + 1) f g a.lane1 b.lane1 c.lane1 (omega arith);
-      lane2 = cell_is z n m k (i + 2) f g a.lane2 b.lane2 c.lane2 (omega arith);
-      lane3 = cell_is z n m k (i + 3) f g a.lane3 b.lane3 c.lane3 (omega arith);
-      lane4 = cell_is z n m k (i + 4) f g a.lane4 b.lane4 c.lane4 (omega arith);
-      lane5 = cell_is z n m k (i + 5) f g a.lane5 b.lane5 c.lane5 (omega arith);
-      lane6 = cell_is z n m k (i + 6) f g a.lane6 b.lane6 c.lane6 (omega arith);
-      lane7 = cell_is z n m k (i + 7) f g a.lane7 b.lane7 c.lane7 (omega arith);
-    }
+-- three shares of the first k lanes, weighed
+pub cells_of_lanes : {N k : ℕ} (z : Float) (n m l i : ℕ) (f g : Line) {x y w now : List Float}
+    → LanesOf N (share z n f g) i x → LanesOf N (share z m f g) i y → LanesOf N (share z l f g) i w
+    → Writing k (λ j. weighed (line x j) (line y j) (line w j)) x now → (k ≡ N) × (max n (max m l) ≤ i + 1)
+    → LanesOf N (weighed_shares z n m l f g) i now
+cells_of_lanes z n m l i f g a b c v (e, h) =
+    lanes_written (ends v e) a.long
+    (λ j s. cell_is z n m l (i + j) f g (a.lane j s) (b.lane j s) (c.lane j s) (omega arith))
 
 -- ---- from slices to lines
 
 -- the rows are parts of slices that hold f and g
-pub from_parts : (n m k b : ℕ) (f g : Line) (p q : List Float) {old now : List Float}
-    → Writing (length p) (afresh n m k p q) old now → length p ≡ b
+pub from_parts : (w : Periods) (b : ℕ) (f g : Line) (p q : List Float) {old now : List Float}
+    → Writing (length p) (afresh w p q) old now → length p ≡ b
     → ((j : ℕ) → j < b → line p j ≡ f j) → ((j : ℕ) → j < b → line q j ≡ g j)
-    → Writing b (weighed_shares minus_zero n m k f g) old now
-from_parts n m k b f g p q w e x y =
-    writing_same (ends w e)
-    (λ i l. shares_same minus_zero (line p) f (line q) g i (λ j h. x j (omega arith)) (λ j h. y j (omega arith)) n m k)
+    → Writing b (weighed_shares minus_zero w.short w.medium w.long f g) old now
+from_parts w b f g p q v e x y =
+    writing_same (ends v e)
+    (λ i l. shares_same minus_zero (line p) f (line q) g i (λ j h. x j (omega arith)) (λ j h. y j (omega arith))
+    w.short w.medium w.long)
 
 -- the rows hold pressures and ranges
 pub from_rows : (n m k b : ℕ) (f g : Line) {work rows old now : List Float} → Writing (b + b) (beside b f g) work rows
@@ -121,12 +107,12 @@ from_rows n m k b f g {rows = rows} r h w =
 
 -- ---- no look-ahead
 
-pub causal_pressures : (first : CloseBefore) (l l' c c' : Line) (b : ℕ) → Same l l' b → Same c c' b
+pub causal_pressures : (first : Option Float) (l l' c c' : Line) (b : ℕ) → Same l l' b → Same c c' b
     → pressures first l c b ≡ pressures first l' c' b
 unfolding pressures
 causal_pressures first l l' c c' b y z = rw (y b (le_refl b), z b (le_refl b), causal_close first c c' b z)
 
-pub causal_oscillator : (n m k : ℕ) (first : CloseBefore) → Causal₃ (oscillator_line n m k first)
+pub causal_oscillator : (n m k : ℕ) (first : Option Float) → Causal₃ (oscillator_line n m k first)
 unfolding oscillator_line
 causal_oscillator n m k first h h' l l' c c' b x y z =
     shares_same plus_zero (pressures first l c) (pressures first l' c') (true_ranges h l (close_before first c))

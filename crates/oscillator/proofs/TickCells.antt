@@ -1,18 +1,19 @@
 -- The cells of whole ticks from running sums, and what a slide of them asks. Assumes nothing.
-use mathlib.Core.Path.{◌≡◌, ◌∙◌, subst}
-use mathlib.Core.Bool.{true}
+use mathlib.Core.Path.{◌≡◌, ◌∙◌}
 use mathlib.Core.List.{List}
 use Prim.Native.Nat.{ℕ, ◌+◌, ◌-◌, ◌<◌, ◌≤◌, max}
 use native.Mathlib.Omega.{arith}
-use lib.ListN.{length}
+use lib.ListN.{length, set}
 use lib.Ieee.{Float}
-use Rattle.limits.specs.Limits.{Window}
-use Rattle.values.specs.Accepted.{tick, all}
 use Rattle.cells.specs.Line.{Line, line, minus_zero}
+use Rattle.cells.specs.Written.{Writing}
+use Rattle.cells.proofs.Written.{one_more}
 use Rattle.windows.specs.Window.{window_sum}
 use Rattle.oscillator.specs.declared.bar.Sums.{Sums}
 use Rattle.oscillator.specs.Oscillator.{ratio, weighed, share, weighed_shares}
-use Rattle.oscillator.specs.inner.Sliding.{SumsOf, TickRows}
+use Rattle.oscillator.specs.declared.periods.Periods.{Periods}
+use Rattle.oscillator.specs.inner.Begun.{longest, afresh}
+use Rattle.oscillator.specs.inner.Sliding.{SumsOf}
 use Rattle.oscillator.proofs.Cells.{cell_is}
 
 -- the share of the sums
@@ -29,12 +30,21 @@ pub cell_of_sums : {n m k i : ℕ} {f g : Line} {a b c : Sums} {x : Float} → S
 cell_of_sums {n} {m} {k} {i} {f} {g} p q r e h =
     e ∙ cell_is minus_zero n m k i f g (share_of p) (share_of q) (share_of r) h
 
--- what the next slide asks
-pub may_slide : {n i : ℕ} {f g : List Float} {r : Sums} → Window n → length g ≡ length f
-    → (all tick f ≡ true) × (all tick g ≡ true) → SumsOf n (line f) (line g) i r → (n ≤ i + 1) × (i + 1 < length f)
-    → TickRows n f g (i + 1) × SumsOf n (line f) (line g) (i + 1 - 1) r
-may_slide {n} {i} {f} {g} {r} o same ticks p (h, q) =
-    let bar : i ≡ i + 1 - 1 = omega arith in (
-      record { window = o; full = h; inside = q; same = same; ticks = ticks },
-      subst (λ (j : ℕ). SumsOf n (line f) (line g) j r) bar p,
-    )
+-- the bar, written in another way
+pub same_bar : {n i j : ℕ} {f g : Line} {r : Sums} → SumsOf n f g i r → i ≡ j → SumsOf n f g j r
+same_bar p e = rw (← e) p
+
+-- one more cell, and the windows' sums for the next bar
+pub more_cells : {w : Periods} {i : ℕ} (f g : List Float) {a b c : Sums} {x : Float} {old now : List Float}
+    → Writing i (afresh w f g) old now
+    → (let s = SumsOf w.short (line f) (line g) i a in
+    let t = SumsOf w.medium (line f) (line g) i b in
+    let u = SumsOf w.long (line f) (line g) i c in s × t × u)
+    → x ≡ weighed (ratio a.over a.under) (ratio b.over b.under) (ratio c.over c.under)
+    → (longest w ≤ i + 1) × (i < length old)
+    → Writing (i + 1) (afresh w f g) old (set now i x) × SumsOf w.short (line f) (line g) (i + 1 - 1) a
+    × SumsOf w.medium (line f) (line g) (i + 1 - 1) b
+    × SumsOf w.long (line f) (line g) (i + 1 - 1) c
+more_cells {i = i} f g v (p, q, r) e (h, l) =
+    let bar : i ≡ i + 1 - 1 = omega arith in
+    (one_more v (cell_of_sums p q r e h) l, same_bar p bar, same_bar q bar, same_bar r bar)

@@ -29,8 +29,7 @@ use Rattle.cells.specs.Line.{Line, line}
 use Rattle.extremes.specs.Extreme.{larger, smaller}
 use Rattle.exact_ticks.proofs.Bounds.{prices_bounded}
 use Rattle.windows.proofs.Zeros.{EitherZero, either_nan, either_inf, either_fin, either_plus, either_rounded}
-use Rattle.true_range.specs.declared.CloseBefore.{CloseBefore}
-use Rattle.true_range.specs.declared.CloseBefore.TheVariants.{Unknown, Known}
+use Rattle.std.specs.Prelude.{Option, None, Some}
 use Rattle.true_range.specs.TrueRange.{true_range, true_ranges, given_before, close_before, accepted_close}
 use Rattle.oscillator.specs.Oscillator.{pressure, pressures}
 
@@ -145,28 +144,28 @@ either_larger : (x y : Float) → EitherZero x → EitherZero y → EitherZero (
 either_larger x y p q = of_two (λ z. EitherZero z) (lt x y) q p
 
 -- a close before a bar that is unknown or plain
-abbrev pub PlainClose : CloseBefore → Type 0
-PlainClose Unknown = Unit {0}
-PlainClose (Known close) = Plain close
+abbrev pub PlainClose : Option Float → Type 0
+PlainClose None = Unit {0}
+PlainClose (Some close) = Plain close
 
-either_pressure : (low close : Float) (before : CloseBefore) → Plain low → Plain close → PlainClose before
+either_pressure : (low close : Float) (before : Option Float) → Plain low → Plain close → PlainClose before
     → EitherZero (pressure low close before)
 unfolding pressure
-either_pressure low close Unknown p q b = either_difference q (plain_smaller low close p q)
-either_pressure low close (Known before) p q b = either_difference q (plain_smaller low before p b)
+either_pressure low close None p q b = either_difference q (plain_smaller low close p q)
+either_pressure low close (Some before) p q b = either_difference q (plain_smaller low before p b)
 
-either_range : (high low : Float) (before : CloseBefore) → Plain high → Plain low
+either_range : (high low : Float) (before : Option Float) → Plain high → Plain low
     → EitherZero (true_range high low before)
 unfolding true_range
-either_range high low Unknown p q = either_difference p q
-either_range high low (Known before) p q =
+either_range high low None p q = either_difference p q
+either_range high low (Some before) p q =
     let own = sub binary64 high low in
     let above = magnitude_of (sub binary64 high before) in
     let below = magnitude_of (sub binary64 low before) in
     either_larger (larger own above) below (either_larger own above (either_difference p q) (either_magnitude _))
     (either_magnitude _)
 
-module _ {l : ℕ} {high low close : Line} (first : CloseBefore) (hs : (i : ℕ) → i < l → Plain (high i))
+module _ {l : ℕ} {high low close : Line} (first : Option Float) (hs : (i : ℕ) → i < l → Plain (high i))
     (ls : (i : ℕ) → i < l → Plain (low i))
     (cs : (i : ℕ) → i < l → Plain (close i))
     (f : PlainClose first) where
@@ -216,12 +215,12 @@ plain_values s fit h i l =
     (all_at accepted s i h l)
 
 -- a close before a bar, where it is known, is an f64
-abbrev pub FitClose : CloseBefore → Type 0
-FitClose Unknown = Unit {0}
-FitClose (Known close) = T (fits binary64 close)
+abbrev pub FitClose : Option Float → Type 0
+FitClose None = Unit {0}
+FitClose (Some close) = T (fits binary64 close)
 
-pub plain_close : (first : CloseBefore) → FitClose first → accepted_close first ≡ true → PlainClose first
-plain_close Unknown fit a = tt
-plain_close (Known close) fit a =
+pub plain_close : (first : Option Float) → FitClose first → accepted_close first ≡ true → PlainClose first
+plain_close None fit a = tt
+plain_close (Some close) fit a =
     let one : all accepted (close ∷ []) ≡ true = rw a in
     plain close (record { fit = fit; ends = rw (prices_bounded (close ∷ []) 0 one (lit< tt) 0 (le_refl 0)).is tt }) a

@@ -1,32 +1,28 @@
 -- Larry Williams, The Ultimate Oscillator, Technical Analysis of Stocks & Commodities, 1985: buying pressure over true
 -- range in three windows, weighed 4, 2 and 1. What `ultimate_oscillator` answers and writes. Assumes nothing.
-use Rattle.std.specs.Prelude.{false, cond, List, [], ◌∷◌, ℕ, ◌+◌, ◌-◌, max, pos, length, Float}
+use Rattle.std.specs.Prelude.{false, cond, List, [], ◌∷◌, ℕ, ◌+◌, ◌-◌, max, pos, length, Float, Ok, Option, None, Some}
 use Rattle.std.specs.Float.{nan, fin, binary64}
 use Rattle.std.specs.Float.Ieee.{add, sub, mul, div, eq}
 use Rattle.rounding.specs.Literals.{hundred}
 use Rattle.values.specs.Accepted.{accepted}
-use Rattle.calls.specs.declared.Answer.{Answer}
-use Rattle.calls.specs.declared.Answer.TheVariants.{Cells}
-use Rattle.calls.specs.Answer.{and_then, checked, windowed}
+use Rattle.calls.specs.Answer.{Answer, and_then, checked, windowed}
 use Rattle.calls.specs.Call.{WorkCall}
 use Rattle.cells.specs.Line.{Line, line, plus_zero, from_bar}
 use Rattle.windows.specs.Window.{sum_from}
 use Rattle.extremes.specs.Extreme.{smaller}
-use Rattle.true_range.specs.declared.CloseBefore.{CloseBefore}
-use Rattle.true_range.specs.declared.CloseBefore.TheVariants.{Unknown, Known}
 use Rattle.true_range.specs.TrueRange.{close_before, true_ranges, close_checked}
 
 -- the close before a bar, and the bar's own where that is unknown
-abbrev pub last_close : Float → CloseBefore → Float
-last_close close Unknown = close
-last_close close (Known before) = before
+abbrev pub last_close : Float → Option Float → Float
+last_close close None = close
+last_close close (Some before) = before
 
 -- Buying pressure: the close less the smaller of the low and the close before.
-unfoldable pub pressure : Float → Float → CloseBefore → Float
+unfoldable pub pressure : Float → Float → Option Float → Float
 pressure low close before = sub binary64 close (smaller low (last_close close before))
 
 -- the pressure of every bar
-unfoldable pub pressures : CloseBefore → Line → Line → Line
+unfoldable pub pressures : Option Float → Line → Line → Line
 pressures first low close i = pressure (low i) (close i) (close_before first close i)
 
 -- x over y, and 0 where y is 0
@@ -52,18 +48,18 @@ weighed_shares z short medium long f g = from_bar (max short (max medium long) -
     (λ i. weighed (share z short f g i) (share z medium f g i) (share z long f g i))
 
 -- the shares of pressure in true range, with a short, a medium and a long window and sums from 0.0
-unfoldable pub oscillator_line : ℕ → ℕ → ℕ → CloseBefore → Line → Line → Line → Line
+unfoldable pub oscillator_line : ℕ → ℕ → ℕ → Option Float → Line → Line → Line → Line
 oscillator_line short medium long first high low close =
     weighed_shares plus_zero short medium long (pressures first low close)
     (true_ranges high low (close_before first close))
 
-unfoldable pub oscillator_answer : List Float → List Float → List Float → ℕ → ℕ → ℕ → CloseBefore → ℕ → ℕ → Answer
+unfoldable pub oscillator_answer : List Float → List Float → List Float → ℕ → ℕ → ℕ → Option Float → ℕ → ℕ → Answer
 oscillator_answer high low close short medium long first output work =
     and_then (checked accepted (high ∷ low ∷ close ∷ []) (output ∷ []) (work ∷ []))
-    (close_checked first (windowed (length high) (short ∷ medium ∷ long ∷ []) (Cells (length high))))
+    (close_checked first (windowed (length high) (short ∷ medium ∷ long ∷ []) (Ok (length high))))
 
 -- what a call of `ultimate_oscillator` promises
-abbrev pub OscillatorCall : List Float → List Float → List Float → ℕ → ℕ → ℕ → CloseBefore → List Float → List Float
+abbrev pub OscillatorCall : List Float → List Float → List Float → ℕ → ℕ → ℕ → Option Float → List Float → List Float
     → Answer → List Float → List Float → Type 0
 OscillatorCall high low close short medium long first out₀ work₀ =
     WorkCall (oscillator_answer high low close short medium long first (length out₀) (length work₀))

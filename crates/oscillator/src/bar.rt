@@ -4,20 +4,15 @@ ghost use Rattle.cells.specs.Line.{line};
 ghost use Rattle.oscillator.specs.Oscillator.{last_close, pressure, ratio, weighed};
 ghost use Rattle.oscillator.specs.inner.Sliding.{SumsOf, TickRows};
 
-use true_range::CloseBefore;
-
 // The close before a bar, and the bar's own where that is unknown.
-fn last_close(close: f64, before: CloseBefore) -> f64
+fn last_close(close: f64, before: Option<f64>) -> f64
     ensures { result ≡ last_close close before }
 {
-    let CloseBefore::Known(last) = before else {
-        return close;
-    };
-    last
+    before.unwrap_or(close)
 }
 
 // The buying pressure of a bar.
-pub fn pressure_of(low: f64, close: f64, before: CloseBefore) -> f64
+pub fn pressure_of(low: f64, close: f64, before: Option<f64>) -> f64
     ensures { result ≡ pressure low close before }
 {
     let last = last_close(close, before);

@@ -3,12 +3,13 @@ ghost use Rattle.std.specs.Prelude.{◌≡◌, ◌<◌, true, length};
 ghost use Rattle.values.specs.Accepted.{tick, all};
 ghost use Rattle.cells.specs.Line.{line};
 ghost use Rattle.cells.specs.Written.{Writing};
-ghost use Rattle.windows.specs.inner.Eight.{Windows};
+ghost use Rattle.windows.specs.inner.Windows.{Windows};
 ghost use Rattle.oscillator.specs.Oscillator.{ratio, weighed};
 ghost use Rattle.oscillator.specs.inner.Sliding.{SumsOf};
 ghost use Rattle.oscillator.specs.inner.Begun.{Begun, afresh};
 
 use crate::bar::Sums;
+use crate::periods::Periods;
 
 // The sums of the n cells up to bar i.
 fn sums_at(pressures: &[f64], ranges: &[f64], n: usize, i: usize) -> Sums
@@ -35,29 +36,25 @@ fn cell_of(short: Sums, medium: Sums, long: Sums) -> f64
 pub fn cells_of_ticks(
     pressures: &[f64],
     ranges: &[f64],
-    short: usize,
-    medium: usize,
-    long: usize,
+    periods: Periods,
     from: usize,
     out: &mut [f64],
 )
-    requires begun { Begun short medium long pressures.now ranges.now from out.old
+    requires begun { Begun periods pressures.now ranges.now from out.old
         × (from < length pressures.now) }
     requires pressures_value { (all tick pressures.now ≡ true) × (all tick ranges.now ≡ true) }
     ensures { Writing (length pressures.now)
-        (afresh short medium long pressures.now ranges.now) out.old
+        (afresh periods pressures.now ranges.now) out.old
         out.new }
 {
-    let mut i = from;
-    let mut short_sums = sums_at(pressures, ranges, short, i);
-    let mut medium_sums = sums_at(pressures, ranges, medium, i);
-    let mut long_sums = sums_at(pressures, ranges, long, i);
-    while i + 1 < pressures.len() {
+    let mut short_sums = sums_at(pressures, ranges, periods.short, from);
+    let mut medium_sums = sums_at(pressures, ranges, periods.medium, from);
+    let mut long_sums = sums_at(pressures, ranges, periods.long, from);
+    out[from] = cell_of(short_sums, medium_sums, long_sums);
+    for i in from + 1..pressures.len() {
+        short_sums = crate::bar::slid(pressures, ranges, periods.short, i, short_sums);
+        medium_sums = crate::bar::slid(pressures, ranges, periods.medium, i, medium_sums);
+        long_sums = crate::bar::slid(pressures, ranges, periods.long, i, long_sums);
         out[i] = cell_of(short_sums, medium_sums, long_sums);
-        i += 1;
-        short_sums = crate::bar::slid(pressures, ranges, short, i, short_sums);
-        medium_sums = crate::bar::slid(pressures, ranges, medium, i, medium_sums);
-        long_sums = crate::bar::slid(pressures, ranges, long, i, long_sums);
     }
-    out[i] = cell_of(short_sums, medium_sums, long_sums);
 }

@@ -10,9 +10,8 @@ use Rattle.values.specs.Accepted.{accepted}
 use Rattle.cells.specs.Line.{Line, plus_zero}
 use Rattle.cells.specs.Written.{Writing}
 use Rattle.cells.specs.inner.Touched.{Touched}
-use Rattle.calls.specs.declared.Answer.{Answer}
-use Rattle.calls.specs.declared.Answer.TheVariants.{Cells}
-use Rattle.calls.specs.Answer.{count_of, cleared_of, and_then, checked}
+use Rattle.calls.specs.Answer.{Answer, count_of, cleared_of, and_then, checked}
+use Rattle.std.specs.Prelude.{Ok}
 use Rattle.calls.specs.Call.{BandCall}
 use Rattle.calls.proofs.Call.{AllBars, all_called, none_called}
 use Rattle.calls.proofs.Room.{Room}
@@ -28,7 +27,7 @@ use Rattle.outer_lines.specs.inner.Lined.{Lined}
 module _ (a b c work : ℕ) (next : Answer) {r : Answer} where
   -- one series
   module _ (s : List Float) (e : r ≡ and_then (checked accepted (s ∷ []) (a ∷ b ∷ c ∷ []) (work ∷ [])) next) where
-    pub one_band_passed : 0 < count_of r → Room accepted s (min a (min b c)) (work ∷ []) × (next ≡ Cells (count_of r))
+    pub one_band_passed : 0 < count_of r → Room accepted s (min a (min b c)) (work ∷ []) × (next ≡ Ok (count_of r))
     one_band_passed =
         one_passed s (min a (min b c)) work next (rw (three_outputs accepted (s ∷ []) a b c (work ∷ [])) at e)
 
@@ -39,7 +38,7 @@ module _ (a b c work : ℕ) (next : Answer) {r : Answer} where
   -- three series
   module _ (s t u : List Float)
       (e : r ≡ and_then (checked accepted (s ∷ t ∷ u ∷ []) (a ∷ b ∷ c ∷ []) (work ∷ [])) next) where
-    pub three_band_passed : 0 < count_of r → Three s t u (min a (min b c)) (work ∷ []) × (next ≡ Cells (count_of r))
+    pub three_band_passed : 0 < count_of r → Three s t u (min a (min b c)) (work ∷ []) × (next ≡ Ok (count_of r))
     three_band_passed =
         three_passed s t u (min a (min b c)) work next
         (rw (three_outputs accepted (s ∷ t ∷ u ∷ []) a b c (work ∷ [])) at e)

@@ -15,12 +15,10 @@ pub fn write_outer_lines(middle: &[f64], k: f64, bars: usize, upper: &mut [f64],
         × Writing bars (lower_line k (line middle.now) (line upper.old))
         lower.old lower.new }
 {
-    let mut i = 0;
-    while i < bars {
+    for i in 0..bars {
         let reach = k * upper[i];
         upper[i] = middle[i] + reach;
         lower[i] = middle[i] - reach;
-        i += 1;
     }
 }
 
@@ -30,6 +28,6 @@ pub fn fill_outer_lines(bars: usize, upper: &mut [f64], lower: &mut [f64])
     ensures { Writing bars (λ i. nan) upper.old upper.new
         × Writing bars (λ i. nan) lower.old lower.new }
 {
-    cells::fill(upper, bars, 0.0 / 0.0);
-    cells::fill(lower, bars, 0.0 / 0.0);
+    cells::fill(upper, bars, f64::NAN);
+    cells::fill(lower, bars, f64::NAN);
 }

@@ -1,13 +1,16 @@
 -- Counts of neighbouring cells: what equal cells and tests give, how many there are at most, and counting one by one.
 -- Assumes nothing.
-use mathlib.Core.Path.{◌≡◌, refl}
+use mathlib.Core.Path.{◌≡◌, refl, ap, ◌∙◌}
 use mathlib.Core.Bool.{Bool, true, false, cond}
-use Prim.Native.Nat.{ℕ, zero, suc, ◌+◌, ◌<◌, ◌≤◌}
-use native.Mathlib.Nat.{add-zero}
+use Prim.Native.Nat.{ℕ, zero, suc, ◌+◌, ◌-◌, ◌<◌, ◌≤◌}
+use native.Mathlib.Nat.{add-zero, zero-add}
 use native.Mathlib.Numerals.{add-one}
 use native.Mathlib.Omega.{arith}
+use mathlib.Core.List.{List}
+use lib.ListN.{length, take, drop}
 use lib.Ieee.{Float}
-use Rattle.cells.specs.Line.{Line}
+use Rattle.cells.specs.Line.{Line, line}
+use Rattle.cells.proofs.Parts.{lent_long, lent_cell}
 use Rattle.ranks.specs.Counted.{count_from}
 use Rattle.ranks.specs.inner.Counting.{Counting}
 
@@ -18,6 +21,14 @@ unfolding count_from
 count_from_same t u f g a zero h = refl
 count_from_same t u f g a (suc k) h =
     rw (count_from_same t u f g a k (λ j l. h j (omega arith)), h (a + k) (omega arith))
+
+-- equal cells that stand elsewhere
+count_from_moved : (test : Float → Bool) (f g : Line) (a k : ℕ) → ((j : ℕ) → j < k → f j ≡ g (a + j))
+    → count_from test f 0 k ≡ count_from test g a k
+unfolding count_from
+count_from_moved test f g a zero h = refl
+count_from_moved test f g a (suc k) h =
+    rw (count_from_moved test f g a k (λ j l. h j (omega arith)), zero-add, h k (omega arith))
 
 -- at most all of them
 pub count_from_most : (t : Float → Bool) (f : Line) (a k : ℕ) → count_from t f a k ≤ k
@@ -50,9 +61,19 @@ module _ {test : Float → Bool} {f : Line} {a : ℕ} where
       few true h = omega arith
       few false h = omega arith
 
-  -- all n of them
-  pub all_counted : {k n x : ℕ} → Counting test f a k x → k ≡ n → Counting test f a n x
-  all_counted c e = rw (← e) c
+-- the cells of a series from index a on, lent
+pub counted_part : {test : Float → Bool} {x : ℕ} (s : List Float) (a k : ℕ)
+    → let part = take (a + k - a) (drop a s) in
+    Counting test (line part) 0 (length part) x → a + k ≤ length s → Counting test (line s) a k x
+counted_part {test} {x} s a k c h =
+    let part = take (a + k - a) (drop a s) in
+    let long : length part ≡ k = lent_long a (a + k) s h ∙ (let e : a + k - a ≡ k = omega arith in e) in
+    let most = c.most in
+    record {
+      is = c.is ∙ ap (count_from test (line part) 0) long
+          ∙ count_from_moved test (line part) (line s) a k (λ j l. lent_cell a (a + k - a) j s (omega arith));
+      most = omega arith;
+    }
 
 -- the last cell changes nothing where it does not pass
 pub last_failed : (test : Float → Bool) (f : Line) (a k : ℕ) → test (f (a + k)) ≡ false

@@ -1,16 +1,22 @@
 // How many of neighbouring cells lie below a value, or below it by a distance.
 #![tactic(auto)]
 
-ghost use Rattle.std.specs.Prelude.{◌≡◌, cond, ◌+◌, ◌≤◌, length};
+ghost use Rattle.std.specs.Prelude.{◌≡◌, Bool, ◌+◌, ◌≤◌, length, Float};
 ghost use Rattle.cells.specs.Line.{line};
 ghost use Rattle.ranks.specs.Counted.{below, below_by};
-ghost use Rattle.ranks.specs.inner.Counting.{Counting};
+ghost use Rattle.ranks.specs.inner.Counting.{Answers, Counting};
 
-// 1 where the test is passed, and 0 where it is not.
-fn one_if(test: bool) -> usize
-    ensures { result ≡ cond test 1 0 }
+// How many of the cells pass a test.
+fn count_passing<F: Fn(f64) -> bool>(cells: &[f64], passes: F) -> usize
+    requires { F.IsAlwaysCallable passes }
+    ensures { (test : Float → Bool) → Answers test (F.post passes)
+        → Counting test (line cells.now) 0 (length cells.now) result }
 {
-    if test { 1 } else { 0 }
+    let mut passed = 0;
+    for x in cells {
+        passed += usize::from(passes(*x));
+    }
+    passed
 }
 
 // How many of the `count` cells from `from` on lie below the value.
@@ -18,13 +24,7 @@ pub fn count_below(cells: &[f64], from: usize, count: usize, value: f64) -> usiz
     requires { from + count ≤ length cells.now }
     ensures { Counting (below value) (line cells.now) from count result }
 {
-    let mut passed = 0;
-    let mut k = 0;
-    while k < count {
-        passed += one_if(cells[from + k] < value);
-        k += 1;
-    }
-    passed
+    count_passing(&cells[from..from + count], |x| x < value)
 }
 
 // How many of them lie below the value by the distance or more.
@@ -32,11 +32,5 @@ pub fn count_below_by(cells: &[f64], from: usize, count: usize, value: f64, dist
     requires { from + count ≤ length cells.now }
     ensures { Counting (below_by distance value) (line cells.now) from count result }
 {
-    let mut passed = 0;
-    let mut k = 0;
-    while k < count {
-        passed += one_if(value - cells[from + k] >= distance);
-        k += 1;
-    }
-    passed
+    count_passing(&cells[from..from + count], |x| value - x >= distance)
 }

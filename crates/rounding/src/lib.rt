@@ -8,10 +8,11 @@ ghost use Rattle.rounding.specs.Leaves.{magnitude_of, sign_of, round_to_whole};
 pub fn is_nan(x: f64) -> bool
     ensures { result ≡ is_nan x }
 {
-    x != x
+    x.is_nan()
 }
 
-// x without its sign: the larger of x and its opposite, which is +0.0 for both zeros.
+// x without its sign: the larger of x and its opposite, which is +0.0 for both zeros. std's `abs` asks for a number,
+// and this takes a NaN too.
 pub fn magnitude(x: f64) -> f64
     ensures { result ≡ magnitude_of x }
 {

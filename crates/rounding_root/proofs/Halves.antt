@@ -1,17 +1,7 @@
 -- The product of a number of 53 digits with itself, by its halves of 26 digits. Assumes nothing.
 use mathlib.Core.Path.{◌≡◌, sym, ap, ◌∙◌}
-use Prim.Native.Nat.{ℕ, ◌+◌, ◌*◌, ◌/◌, ◌%◌, ◌^◌, ◌≤◌, ◌<◌}
-use native.Mathlib.Nat.{
-  mul_assoc,
-  mul_comm,
-  mul_left_comm,
-  mul-add,
-  add-mul,
-  mul-le-mul,
-  div-add-mod',
-  div-div-eq-div-mul,
-  mul-add-div_right,
-}
+use Prim.Native.Nat.{ℕ, ◌+◌, ◌*◌, ◌/◌, ◌%◌, ◌^◌}
+use native.Mathlib.Nat.{mul_assoc, mul_comm, mul_left_comm, mul-add, add-mul, div-add-mod', div-div-eq-div-mul, mul-add-div_right}
 use native.Mathlib.Omega.{arith}
 use lib.Pow.{pow_pos}
 
@@ -38,21 +28,3 @@ by_halves h e =
     ap (λ (x : ℕ). x / w) whole ∙ mul-add-div_right (pow_pos 26) (a * a * w + 2 * a * b) (b * b + e) ∙ (omega arith) in
     sym (sym (div-div-eq-div-mul (h * h + e) w w) ∙ ap (λ (x : ℕ). x / w) once
     ∙ mul-add-div_right (pow_pos 26) (a * a) (2 * a * b + (b * b + e) / w))
-
--- so no number on the way has more than 64 bits
-pub record Small (h : ℕ) : Type 0 where
-  pub high : h / 2 ^ 26 * (h / 2 ^ 26) < 2 ^ 54
-  pub cross : 2 * (h / 2 ^ 26) * (h % 2 ^ 26) < 2 ^ 54
-  pub low : h % 2 ^ 26 * (h % 2 ^ 26) < 2 ^ 52
-
-pub small : (h : ℕ) → h < 2 ^ 53 → Small h
-small h l =
-    let a = h / 2 ^ 26 in
-    let b = h % 2 ^ 26 in
-    let a_le : a ≤ 134217727 = omega arith in
-    let twice : 2 * a ≤ 268435454 = omega arith in
-    let b_le : b ≤ 67108863 = omega arith in
-    let aa : a * a ≤ 134217727 * 134217727 = mul-le-mul a_le a_le in
-    let ab : 2 * a * b ≤ 268435454 * 67108863 = mul-le-mul twice b_le in
-    let bb : b * b ≤ 67108863 * 67108863 = mul-le-mul b_le b_le in
-    record { high = omega arith; cross = omega arith; low = omega arith }

@@ -4,7 +4,6 @@ use Prim.Native.Nat.{ℕ, ◌+◌, ◌-◌, ◌*◌, ◌/◌, ◌^◌, ◌≤◌
 use native.Mathlib.Omega.{arith}
 use Rattle.rounding_root.proofs.WholeSquares.{square_next}
 use Rattle.rounding_root.specs.inner.Squares.{Closest}
-use Rattle.rounding_root.specs.inner.Steps.{Rooted}
 
 -- h * (h + 1) < m * 2 ^ 52 at the low end, m * 2 ^ 52 ≤ (h + 1) * (h + 2) at the high one: where they meet, h + 1 is
 -- closest
@@ -17,14 +16,6 @@ pub record Span (m lo hi : ℕ) : Type 0 where
 
 closest_next : (m h : ℕ) → h * h + h < m * 2 ^ 52 → m * 2 ^ 52 ≤ h * h + (3 * h + 2) → Closest (m * 2 ^ 52) (h + 1)
 closest_next m h a b = let next = square_next h in record { above = omega arith; below = omega arith }
-
-pub found : {m lo hi : ℕ} → Span m lo hi → hi ≤ lo → Rooted m (lo + 1)
-found {m} {lo} {hi} s h =
-    let same : hi ≡ lo = omega arith in
-    record {
-      digits = record { low = s.first; high = omega arith };
-      closest = closest_next m lo s.above (subst (λ (x : ℕ). m * 2 ^ 52 ≤ x * x + (3 * x + 2)) same s.below);
-    }
 
 -- what the test of a guess q shows, with h = q - 1
 pub passed : (m q : ℕ) → 0 < q → let h = q - 1 in (h * h + h) / 2 ^ 52 < m → m ≤ (h * h + (3 * h + 2)) / 2 ^ 52

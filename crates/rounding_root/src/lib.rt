@@ -95,7 +95,7 @@ pub fn root_by(x: f64, guess: f64) -> f64
     if x == 0.0 {
         return x;
     }
-    0.0 / 0.0
+    f64::NAN
 }
 
 // The same by a guess of its own.
@@ -111,10 +111,8 @@ fn write_guesses(xs: &[f64], count: usize, guesses: &mut [f64])
     requires { (count ≤ length xs.now) × (count ≤ length guesses.old) }
     ensures { Touched count guesses.old guesses.new }
 {
-    let mut i = 0;
-    while i < count {
+    for i in 0..count {
         guesses[i] = guess(scaled(xs[i]));
-        i += 1;
     }
 }
 
@@ -125,9 +123,7 @@ pub fn write_roots(xs: &[f64], count: usize, roots: &mut [f64])
         roots.new }
 {
     write_guesses(xs, count, roots);
-    let mut i = 0;
-    while i < count {
+    for i in 0..count {
         roots[i] = root_by(xs[i], roots[i]);
-        i += 1;
     }
 }

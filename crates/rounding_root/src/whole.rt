@@ -23,10 +23,7 @@ fn is_closest(m: u64, q: u64) -> bool
     ensures { result ≡ true → Closest (m * 2 ^ 52) q }
 {
     let h = q - 1;
-    if high(h, h) < m {
-        return m <= high(h, 3 * h + 2);
-    }
-    false
+    high(h, h) < m && m <= high(h, 3 * h + 2)
 }
 
 // The number closest to √(m * 2 ^ 52), by halving the range that it lies in.
@@ -34,6 +31,7 @@ fn searched(m: u64) -> u64
     requires { Square m }
     ensures { Rooted m result }
 {
+    // The library searches slices by halving, and no range of numbers: so the loop stands here.
     let mut lo = FIRST - 1;
     let mut hi = 2 * FIRST - 2;
     while lo < hi {

@@ -11,9 +11,8 @@ use Rattle.limits.specs.Limits.{longest_period}
 use Rattle.rounding.specs.Leaves.{plus_one}
 use Rattle.values.specs.Accepted.{accepted}
 use Rattle.values.proofs.All.{and_parts}
-use Rattle.calls.specs.declared.Answer.{Answer}
-use Rattle.calls.specs.declared.Answer.TheVariants.{Cells}
-use Rattle.calls.specs.Answer.{count_of, cleared_of, checked, limited, unless_empty}
+use Rattle.calls.specs.Answer.{Answer, count_of, cleared_of, checked, limited, unless_empty}
+use Rattle.std.specs.Prelude.{Ok}
 use Rattle.calls.proofs.Call.{AllBars}
 use Rattle.calls.proofs.Room.{asked, and_then_cells, same_count}
 use Rattle.checks.proofs.Passed.{one_passed, one_clearable}
@@ -58,7 +57,7 @@ index_at n i f r a h = rw (a.gain, a.loss, from_bar_lem 1 nan _ i h)
 
 module _ (s : List Float) (n m out work : ℕ) where
   abbrev rest : Answer
-  rest = limited [] (n ∷ []) (m ∷ []) (unless_empty (length s) (n ∷ []) (m ∷ []) (Cells (length s)))
+  rest = limited [] (n ∷ []) (m ∷ []) (unless_empty (length s) (n ∷ []) (m ∷ []) (Ok (length s)))
 
   pub rsx_clearable : {r : Answer} → r ≡ rsx_answer s n m out work → cleared_of r (8 * length s) ≤ work
   unfolding rsx_answer
@@ -69,14 +68,14 @@ module _ (s : List Float) (n m out work : ℕ) where
   unfolding rsx_answer
   rsx_bars k e h =
       let next = (and_then_cells (checked accepted (s ∷ []) (out ∷ []) (work ∷ [])) rest k e).1 in
-      sym (same_count _ _ (asked (length s) [] (n ∷ []) (m ∷ []) (Cells (length s)) k next h).rest)
+      sym (same_count _ _ (asked (length s) [] (n ∷ []) (m ∷ []) (Ok (length s)) k next h).rest)
 
   -- and where they are due, all is in order
   pub rsx_ready : {r : Answer} → r ≡ rsx_answer s n m out work → 0 < count_of r → RsxRoom n m s out work
   unfolding rsx_answer
   rsx_ready {r} e h =
       let p = one_passed s out work rest e h in
-      let a = asked (length s) [] (n ∷ []) (m ∷ []) (Cells (length s)) (count_of r) p.1 h in
+      let a = asked (length s) [] (n ∷ []) (m ∷ []) (Ok (length s)) (count_of r) p.1 h in
       record {
         window = a.each.0;
         period = leb-true _ _ (and_parts (leb m longest_period) true a.short_periods).0;

@@ -1,14 +1,12 @@
 -- rsx_ss2 at small series, with the cells that pure.rs gave, and its answers. Assumes nothing.
-use Rattle.std.specs.Prelude.{◌≡◌, refl, [], ◌∷◌, ℕ, suc, pos}
+use Rattle.std.specs.Prelude.{◌≡◌, refl, [], ◌∷◌, ℕ, suc, pos, Ok, Err}
 use Rattle.std.specs.Float.{nan}
 use Rattle.std.specs.Float.Ieee.{round, neg, add, sub, mul, div, lt, eq, le, of_int, of_bits, to_bits}
 use Rattle.limits.specs.Limits.{longest_window, longest_period}
 use Rattle.rounding.specs.Literals.{hundred}
 use Rattle.values.specs.Accepted.{accepted, finite}
 use Rattle.calls.specs.declared.Refusal.TheVariants.{WindowTooLong}
-use Rattle.calls.specs.declared.Answer.{Answer}
-use Rattle.calls.specs.declared.Answer.TheVariants.{Cells, Refused}
-use Rattle.calls.specs.Answer.{slices, checked}
+use Rattle.calls.specs.Answer.{Answer, slices, checked}
 use Rattle.cells.specs.Line.{plus_zero, from_bar}
 use Rattle.cells.specs.Recur.{recur, carried}
 use Rattle.cells.specs.Shown.{prices, bits, cells_of}
@@ -46,6 +44,6 @@ one_bar n m = rsx_answer (plus_zero ∷ []) n m 1 8
 -- the longest window and one longer; the longest period and one longer; either of 0; no bars
 rsx_answers : one_bar longest_window longest_period ∷ one_bar (suc longest_window) 0 ∷ one_bar 0 (suc longest_period)
     ∷ one_bar 0 5 ∷ one_bar 5 0 ∷ rsx_answer [] 5 5 0 0 ∷ []
-    ≡ Cells 1 ∷ Refused WindowTooLong ∷ Refused WindowTooLong ∷ Cells 0 ∷ Cells 0 ∷ Cells 0 ∷ []
+    ≡ Ok 1 ∷ Err WindowTooLong ∷ Err WindowTooLong ∷ Ok 0 ∷ Ok 0 ∷ Ok 0 ∷ []
 unfolding rsx_answer slices checked accepted finite lt eq le to_bits
 rsx_answers = refl

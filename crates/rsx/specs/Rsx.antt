@@ -1,12 +1,10 @@
 -- The relative strength index of exponential averages, smoothed: what `rsx_ss2` answers and writes. The averages are
 -- those of pandas' ewm(alpha = 1 / n, adjust = False), and the smoother is Ehlers'. Assumes nothing.
-use Rattle.std.specs.Prelude.{List, [], ◌∷◌, ℕ, length, Float}
+use Rattle.std.specs.Prelude.{List, [], ◌∷◌, ℕ, length, Float, Ok}
 use Rattle.std.specs.Float.{nan}
 use Rattle.rounding.specs.Leaves.{plus_one}
 use Rattle.values.specs.Accepted.{accepted}
-use Rattle.calls.specs.declared.Answer.{Answer}
-use Rattle.calls.specs.declared.Answer.TheVariants.{Cells}
-use Rattle.calls.specs.Answer.{and_then, checked, limited, unless_empty}
+use Rattle.calls.specs.Answer.{Answer, and_then, checked, limited, unless_empty}
 use Rattle.calls.specs.Call.{WorkCall}
 use Rattle.cells.specs.Line.{Line, line, from_bar}
 use Rattle.windows.specs.Window.{over}
@@ -31,7 +29,7 @@ rsx_answer s n m output work =
     and_then (checked accepted (s ∷ []) (output ∷ []) (work ∷ []))
     (limited [] (n ∷ []) (m ∷ [])
     (unless_empty (length s) (n ∷ []) (m ∷ [])
-    (Cells (length s))))
+    (Ok (length s))))
 
 -- what a call of `rsx_ss2` promises
 abbrev pub RsxCall : List Float → ℕ → ℕ → List Float → List Float → Answer → List Float → List Float → Type 0

@@ -9,9 +9,8 @@ ghost use Rattle.cells.specs.inner.Touched.{Touched};
 ghost use Rattle.rsx.specs.Rsx.{rsx_unsmoothed, rsx_line, rsx_answer, RsxCall};
 ghost use Rattle.rsx.specs.inner.Averaged.{Averaged, RsxRoom};
 
-use calls::{Answer, Refusal};
+use calls::Answer;
 use changes::Averages;
-use limits::{LONGEST_PERIOD, LONGEST_WINDOW};
 
 // The averages of bar i, from those of the bar before.
 fn next(close: &[f64], alpha: f64, i: usize, last: Averages) -> Averages
@@ -20,10 +19,7 @@ fn next(close: &[f64], alpha: f64, i: usize, last: Averages) -> Averages
     ensures { Averaged alpha (line close.now) i result }
 {
     let change = changes::change_at(close, i);
-    Averages {
-        gain: averages::blend::blended(alpha, last.gain, changes::gain_of(change)),
-        loss: averages::blend::blended(alpha, last.loss, changes::loss_of(change)),
-    }
+    last.moved(change, |cell, x| averages::blend::blended(alpha, cell, x))
 }
 
 // Writes the index of every bar, before it is smoothed: NaN at bar 0.
@@ -37,11 +33,10 @@ fn write_index(close: &[f64], n: usize, index: &mut [f64])
         gain: 0.0,
         loss: 0.0,
     };
-    let mut i = cells::fill_nan(index, 1, close.len());
-    while i < close.len() {
+    index[0] = f64::NAN;
+    for i in 1..close.len() {
         averages = next(close, alpha, i, averages);
         index[i] = changes::strength_index(averages.gain, averages.loss);
-        i += 1;
     }
 }
 
@@ -61,13 +56,9 @@ fn write_rsx(close: &[f64], n: usize, m: usize, out: &mut [f64], work: &mut [f64
 fn answer_rsx(close: &[f64], n: usize, m: usize, out: usize, work: usize) -> Answer
     ensures { result ≡ rsx_answer close.now n m out work }
 {
-    let due = checks::check_with_work(close, out, work);
     let bars = close.len();
-    let none = (m == 0) | ((bars == 0) | (n == 0));
-    let some = checks::empty_if(none, Answer::Cells(bars));
-    let narrow = checks::unless_refused(n <= LONGEST_WINDOW, Refusal::WindowTooLong, some);
-    let next = checks::unless_refused(m <= LONGEST_PERIOD, Refusal::WindowTooLong, narrow);
-    checks::and_then(due, next)
+    checks::check_with_work(close, out, work)?;
+    checks::check_parameters(bars, &[], &[n], &[m], Ok(bars))
 }
 
 // The smoothed relative strength index: see `rsx_line`.

@@ -2,8 +2,7 @@
 -- has `output` cells and whose work slice `work`, and the line of its cells. Assumes nothing.
 use Rattle.std.specs.Prelude.{Bool, cond, ◌&&◌, List, [], ◌∷◌, ℕ, leb, eqb, Float}
 use Rattle.values.specs.Accepted.{accepted}
-use Rattle.calls.specs.declared.Answer.{Answer}
-use Rattle.calls.specs.Answer.{answered}
+use Rattle.calls.specs.Answer.{Answer, answered}
 use Rattle.cells.specs.Line.{Line}
 use Rattle.rules_single.specs.Single.{single_line}
 use Rattle.rules_double.specs.Double.{double_line, double_answer}

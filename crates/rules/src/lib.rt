@@ -1,4 +1,6 @@
-// The position rules.
+// The position rules. Each function answers, and where cells are due it runs the rule's stage and clears the work
+// slice. One function for all, given the stage as a closure, would borrow the outputs in it and say in its contract
+// what they hold: no plainer.
 #![tactic(auto)]
 
 ghost use Rattle.std.specs.Prelude.{◌*◌};
@@ -52,7 +54,7 @@ pub fn double_sma_positions(series: &[f64], n: usize, m: usize, out: &mut [f64])
 {
     if rules_double::has_tick_cells(series, n, m, out.len()) {
         rules_double::write_double_of_ticks(series, n, m, out);
-        return Answer::Cells(series.len());
+        return Ok(series.len());
     }
     let due = rules_double::answer_double(series, n, m, out.len());
     if calls::has_cells(due) {

@@ -35,11 +35,6 @@ use Rattle.rules_bands.proofs.Bands.{causal_outside, causal_turned}
 
 -- ---- a position from a middle and a variance
 
--- a divisor is at most a window
-pub divisor_most : (reverse : Bool) (n : ℕ) → divisor_of reverse n ≤ n
-divisor_most true n = omega arith
-divisor_most false n = omega arith
-
 -- the root of the variance is the deviation
 deviation_of : (d n i : ℕ) (g : Line) {v : Float} → v ≡ variance minus_zero d n g i → n ≤ i + 1
     → sqrt_of binary64 v ≡ deviation minus_zero d n g i

@@ -2,9 +2,8 @@
 use Rattle.std.specs.Prelude.{List, [], ◌∷◌, cond, ℕ, ◌-◌, ◌*◌, length, Float, ℤ}
 use Rattle.std.specs.Float.{binary64}
 use Rattle.std.specs.Float.Ieee.{add, sub, lt}
-use Rattle.calls.specs.declared.Answer.{Answer}
+use Rattle.calls.specs.Answer.{Answer, answered_with}
 use Rattle.values.specs.Accepted.{accepted}
-use Rattle.calls.specs.Answer.{answered_with}
 use Rattle.rounding.specs.Literals.{ten_to_minus}
 use Rattle.cells.specs.Line.{Line, line, minus_zero, from_bar}
 use Rattle.windows.specs.Window.{mean}

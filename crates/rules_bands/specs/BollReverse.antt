@@ -5,9 +5,8 @@ use Rattle.cells.specs.Line.{Line, line, minus_zero, from_bar}
 use Rattle.windows.specs.Window.{mean}
 use Rattle.deviations.specs.Deviation.{deviation, upper_band, lower_band}
 use Rattle.rules_held.specs.Held.{flat, long, short, Signal, silent, hold}
-use Rattle.calls.specs.declared.Answer.{Answer}
+use Rattle.calls.specs.Answer.{Answer, answered_with}
 use Rattle.calls.specs.Call.{WorkCall}
-use Rattle.calls.specs.Answer.{answered_with}
 use Rattle.values.specs.Accepted.{accepted}
 
 -- above the upper band a flat position opens short, else below the lower one it opens long

@@ -1,5 +1,5 @@
 -- Both Bollinger rules at small series, with the cells that pure.rs gives, and their answers. Assumes nothing.
-use Rattle.std.specs.Prelude.{◌≡◌, refl, true, false, [], ◌∷◌, ℕ, suc, pos, negsuc, Float}
+use Rattle.std.specs.Prelude.{◌≡◌, refl, true, false, [], ◌∷◌, ℕ, suc, pos, negsuc, Float, Ok, Err}
 use Rattle.std.specs.Float.{nan, inf, binary64}
 use Rattle.std.specs.Float.Ieee.{round, add, sub, mul, div, lt, eq, le, of_int, of_bits, to_bits}
 use Rattle.limits.specs.Limits.{longest_window}
@@ -7,7 +7,6 @@ use Rattle.rounding.specs.Leaves.{plus_one}
 use Rattle.rounding.specs.Literals.{half, ten_to_minus}
 use Rattle.rounding_root.specs.Root.{sqrt_of}
 use Rattle.calls.specs.declared.Refusal.TheVariants.{ParameterNotFinite, WindowTooLong}
-use Rattle.calls.specs.declared.Answer.TheVariants.{Cells, Refused}
 use Rattle.values.specs.Accepted.{accepted, finite}
 use Rattle.calls.specs.Answer.{slices, checked, answered_with}
 use Rattle.cells.specs.Line.{plus_zero, from_bar}
@@ -87,6 +86,6 @@ band_answers : answered_with accepted (plus_zero ∷ []) (half ∷ []) (1 ∷ []
     ∷ answered_with accepted (plus_zero ∷ []) (half ∷ []) (0 ∷ []) 1 (8 ∷ [])
     ∷ answered_with accepted [] (half ∷ []) (1 ∷ []) 0 (0 ∷ [])
     ∷ []
-    ≡ Cells 1 ∷ Refused ParameterNotFinite ∷ Refused WindowTooLong ∷ Refused ParameterNotFinite ∷ Cells 0 ∷ Cells 0 ∷ []
+    ≡ Ok 1 ∷ Err ParameterNotFinite ∷ Err WindowTooLong ∷ Err ParameterNotFinite ∷ Ok 0 ∷ Ok 0 ∷ []
 unfolding answered_with slices checked accepted finite lt eq le to_bits
 band_answers = refl

@@ -38,21 +38,13 @@ fn beyond_by_guess(
     ensures { result ≡ beyond margin average middle k (sqrt_of binary64 variance) }
 {
     if k >= 0.0 {
-        if low >= 0.0 {
-            if low * low < variance {
-                if beyond_at(average, middle, k, low, margin) == 0 {
-                    return 0;
-                }
-            }
+        if low >= 0.0 && low * low < variance && beyond_at(average, middle, k, low, margin) == 0 {
+            return 0;
         }
-        if variance >= 0.0 {
-            if high >= 0.0 {
-                if variance < high * high {
-                    let cell = beyond_at(average, middle, k, high, margin);
-                    if cell != 0 {
-                        return cell;
-                    }
-                }
+        if variance >= 0.0 && high >= 0.0 && variance < high * high {
+            let cell = beyond_at(average, middle, k, high, margin);
+            if cell != 0 {
+                return cell;
             }
         }
     }
@@ -65,7 +57,8 @@ fn beyond_by_guess(
     )
 }
 
-// The guesses lie around the width whose band ends at the average; `inverse` is 1 / k.
+// The guesses lie around the width whose band ends at the average; `inverse` is 1 / k. The numbers are no struct: they
+// stay in registers, and each function takes others of them.
 fn beyond_by(average: f64, middle: f64, k: f64, inverse: f64, margin: f64, variance: f64) -> i32
     requires { lt margin plus_zero ≡ false }
     ensures { result ≡ beyond margin average middle k (sqrt_of binary64 variance) }
@@ -90,6 +83,7 @@ fn turned_by(position: i32, average: f64, middle: f64, k: f64, inverse: f64, var
 }
 
 // The position after a bar, from the one before it. The plain rule asks the bar alone.
+// `reverse` is a bool: the definitions in specs/ take it as a Bool, and an enum would be turned into it in each.
 pub fn position_after(
     reverse: bool,
     position: i32,

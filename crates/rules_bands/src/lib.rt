@@ -8,7 +8,7 @@ ghost use Rattle.cells.specs.Line.{line};
 ghost use Rattle.cells.specs.Written.{Writing};
 ghost use Rattle.cells.specs.inner.MoreWritten.{MoreWritten};
 ghost use Rattle.cells.specs.inner.Touched.{Touched};
-ghost use Rattle.windows.specs.inner.Eight.{WindowRoom};
+ghost use Rattle.windows.specs.inner.Windows.{WindowRoom};
 ghost use Rattle.checks.specs.inner.Due.{Priced};
 ghost use Rattle.rules_bands.specs.inner.Stages.{band_positions, bands_line, PositionsBefore};
 
@@ -31,8 +31,7 @@ fn write_some_positions(
     let count = deviations::write_spreads(means, n, d, i, &mut middles, &mut variances);
     let inverse = 1.0 / k;
     let mut position = bar::position_before(out, i);
-    let mut j = 0;
-    while j < count {
+    for j in 0..count {
         position = bar::position_after(
             reverse,
             position,
@@ -43,7 +42,6 @@ fn write_some_positions(
             variances[j],
         );
         out[i + j] = position;
-        j += 1;
     }
     count
 }
@@ -55,6 +53,7 @@ fn write_positions(means: &[f64], reverse: bool, n: usize, k: f64, out: &mut [i3
         out.old out.new }
 {
     let mut i = rules_held::fill_flat(out, 2 * n - 2, means.len());
+    // The step is what a turn wrote, which no range counts.
     while i < means.len() {
         i += write_some_positions(means, reverse, n, k, i, out);
     }

@@ -11,9 +11,8 @@ use lib.Ieee.{Float, nan, binary64, fits}
 use Rattle.limits.specs.Limits.{Window}
 use Rattle.values.specs.Accepted.{accepted, tick, all}
 use Rattle.values.proofs.All.{and_parts}
-use Rattle.calls.specs.declared.Answer.{Answer}
-use Rattle.calls.specs.declared.Answer.TheVariants.{Cells, Refused}
-use Rattle.calls.specs.Answer.{count_of, checked, windowed}
+use Rattle.calls.specs.Answer.{Answer, count_of, checked, windowed}
+use Rattle.std.specs.Prelude.{Ok, Err}
 use Rattle.calls.proofs.Call.{AllBars}
 use Rattle.calls.proofs.Room.{
   Room,
@@ -36,7 +35,7 @@ pub record DoubleOpen (n m : ℕ) : Type 0 where
   pub long : Window m
   pub order : n < m
 
-module _ (s : List Float) (n m output k : ℕ) (e : double_answer s n m output ≡ Cells k) where
+module _ (s : List Float) (n m output k : ℕ) (e : double_answer s n m output ≡ Ok k) where
   -- it has room for its cells
   pub double_room : Room accepted s output []
   unfolding double_answer
@@ -44,7 +43,7 @@ module _ (s : List Float) (n m output k : ℕ) (e : double_answer s n m output �
       (and_then_cells (checked accepted (s ∷ []) (output ∷ []) []) _ k e).0
 
   module _ (h : 0 < k) where
-    parts : DoubleOpen n m × (Cells (length s) ≡ Cells k)
+    parts : DoubleOpen n m × (◌≡◌ {A = Answer} (Ok (length s)) (Ok k))
     unfolding double_answer windowed
     parts =
         let a = and_then_cells (checked accepted (s ∷ []) (output ∷ []) []) _ k e in
@@ -66,10 +65,10 @@ double_bars s n m output k e h = double_whole s n m output k e h
 -- where its cells are due, there are windows in order and room
 pub double_ready : (s : List Float) (n m output : ℕ) {r : Answer} → r ≡ double_answer s n m output → 0 < count_of r
     → Window n × Window m × (n < m) × (length s ≤ output)
-double_ready s n m output {r = Cells k} e h =
+double_ready s n m output {r = Ok k} e h =
     let o = double_opened s n m output k (sym e) h in
     (o.short, o.long, o.order, (double_room s n m output k (sym e)).out_long)
-double_ready s n m output {r = Refused q} e h = let none : 0 < 0 = h in absurd (omega arith)
+double_ready s n m output {r = Err q} e h = let none : 0 < 0 = h in absurd (omega arith)
 
 -- ---- whole ticks
 
@@ -98,7 +97,7 @@ module _ (s : List Float) (n m output : ℕ) (h : tick_cells s n m output ≡ tr
       }
 
   -- and nothing is refused
-  pub tick_answer : ((i : ℕ) → T (fits binary64 (get_or s i nan))) → Cells (length s) ≡ double_answer s n m output
+  pub tick_answer : ((i : ℕ) → T (fits binary64 (get_or s i nan))) → Ok (length s) ≡ double_answer s n m output
   unfolding double_answer windowed
   tick_answer floats =
       let (some, order, f, ticks) = tick_parts in

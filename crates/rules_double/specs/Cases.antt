@@ -1,5 +1,5 @@
 -- The double rule at small series, and its answers at their edges, computed from the definitions. Assumes nothing.
-use Rattle.std.specs.Prelude.{true, false, [], ◌∷◌, map, ◌≡◌, refl, suc, pos, negsuc, replicate, Float}
+use Rattle.std.specs.Prelude.{true, false, [], ◌∷◌, map, ◌≡◌, refl, suc, pos, negsuc, replicate, Float, Ok, Err}
 use Rattle.std.specs.Float.{nan, fin}
 use Rattle.std.specs.Float.Ieee.{round, add, sub, div, of_int, lt, eq, le, to_bits}
 use Rattle.limits.specs.Limits.{longest_window}
@@ -10,7 +10,6 @@ use Rattle.calls.specs.declared.Refusal.TheVariants.{
   WindowTooLong,
   WindowsOutOfOrder,
 }
-use Rattle.calls.specs.declared.Answer.TheVariants.{Cells, Refused}
 use Rattle.values.specs.Accepted.{accepted}
 use Rattle.calls.specs.Answer.{slices, checked, windowed}
 use Rattle.cells.specs.Line.{plus_zero, from_bar}
@@ -58,15 +57,15 @@ double_answers : double_answer (plus_zero ∷ []) 1 2 1
     ∷ double_answer (plus_zero ∷ []) 2 2 0
     ∷ double_answer (nan ∷ []) 2 2 1
     ∷ []
-    ≡ Cells 1
-    ∷ Refused WindowsOutOfOrder
-    ∷ Cells 0
-    ∷ Cells 0
-    ∷ Cells 0
-    ∷ Refused WindowTooLong
-    ∷ Refused WindowTooLong
-    ∷ Refused OutputTooShort
-    ∷ Refused ValueNotAccepted
+    ≡ Ok 1
+    ∷ Err WindowsOutOfOrder
+    ∷ Ok 0
+    ∷ Ok 0
+    ∷ Ok 0
+    ∷ Err WindowTooLong
+    ∷ Err WindowTooLong
+    ∷ Err OutputTooShort
+    ∷ Err ValueNotAccepted
     ∷ []
 unfolding double_answer slices checked windowed accepted lt eq le to_bits
 double_answers = refl

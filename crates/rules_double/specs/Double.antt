@@ -1,12 +1,10 @@
 -- double_sma_positions, two averages: what it answers and writes. Assumes nothing.
-use Rattle.std.specs.Prelude.{List, [], ◌∷◌, ℕ, ◌+◌, ◌-◌, ltb, length, Float}
+use Rattle.std.specs.Prelude.{List, [], ◌∷◌, ℕ, ◌+◌, ◌-◌, ltb, length, Float, Ok}
 use Rattle.std.specs.Float.{binary64}
 use Rattle.std.specs.Float.Ieee.{sub}
 use Rattle.calls.specs.declared.Refusal.TheVariants.{WindowsOutOfOrder}
-use Rattle.calls.specs.declared.Answer.{Answer}
-use Rattle.calls.specs.declared.Answer.TheVariants.{Cells}
+use Rattle.calls.specs.Answer.{Answer, checked, and_then, unless, windowed}
 use Rattle.values.specs.Accepted.{accepted}
-use Rattle.calls.specs.Answer.{checked, and_then, unless, windowed}
 use Rattle.cells.specs.Line.{Line, plus_zero, from_bar, line}
 use Rattle.rounding.specs.Leaves.{sign_of}
 use Rattle.windows.specs.Window.{over, running_sum, add_then_subtract}
@@ -25,7 +23,7 @@ unfoldable pub double_answer : List Float → ℕ → ℕ → ℕ → Answer
 double_answer s n m output =
     and_then (checked accepted (s ∷ []) (output ∷ []) [])
     (windowed (length s) (n ∷ m ∷ [])
-    (unless (ltb n m) WindowsOutOfOrder (Cells (length s))))
+    (unless (ltb n m) WindowsOutOfOrder (Ok (length s))))
 
 -- what a call of `double_sma_positions` promises
 abbrev pub DoubleCall : List Float → ℕ → ℕ → List Float → Answer → List Float → Type 0

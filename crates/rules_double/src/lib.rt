@@ -55,15 +55,14 @@ pub fn running_sum(series: &[f64], n: usize, i: usize) -> f64
     ensures { Running add_then_subtract n (line series.now) i result }
 {
     let mut sum = windows::sum_at(series, n, n - 1);
-    let mut j = n;
-    while j < i {
+    for j in n..i {
         sum = slide_sum(series, n, j, sum);
-        j += 1;
     }
     sum
 }
 
-// Writes the positions from bar m - 1 on, where both averages are there, by running sums.
+// Writes the positions from bar m - 1 on, where both averages are there, by running sums. The windows are no struct:
+// only two private functions take both.
 fn write_crossings(series: &[f64], n: usize, m: usize, out: &mut [f64])
     requires { Started n m series.now out.old }
     ensures { Writing (length series.now) (double_line n m (line series.now))
@@ -71,14 +70,12 @@ fn write_crossings(series: &[f64], n: usize, m: usize, out: &mut [f64])
 {
     let mut short = running_sum(series, n, m);
     let mut long = running_sum(series, m, m);
-    let mut i = m - 1;
-    while i + 1 < series.len() {
-        out[i] = cross(short, n, long, m);
-        i += 1;
+    out[m - 1] = cross(short, n, long, m);
+    for i in m..series.len() {
         short = slide_sum(series, n, i, short);
         long = slide_sum(series, m, i, long);
+        out[i] = cross(short, n, long, m);
     }
-    out[i] = cross(short, n, long, m);
 }
 
 // Writes each bar's position.
@@ -104,8 +101,9 @@ fn slide_spreads(series: &[f64], n: usize, m: usize, first: f64, out: &mut [f64]
     let mut even = first;
     let mut odd = first;
     let mut last = 0.0;
-    let mut i = m;
-    while i + 2 <= series.len() {
+    let bars = series.len();
+    for k in 0..(bars - m) / 2 {
+        let i = m + 2 * k;
         let one = change_at(series, n, m, i);
         let two = change_at(series, n, m, i + 1);
         even = even + (last + one);
@@ -113,10 +111,9 @@ fn slide_spreads(series: &[f64], n: usize, m: usize, first: f64, out: &mut [f64]
         last = two;
         out[i] = rounding::sign_of_number(even);
         out[i + 1] = rounding::sign_of_number(odd);
-        i += 2;
     }
-    if i < series.len() {
-        out[i] = rounding::sign_of_number(odd + change_at(series, n, m, i));
+    if (bars - m) % 2 == 1 {
+        out[bars - 1] = rounding::sign_of_number(odd + change_at(series, n, m, bars - 1));
     }
 }
 
@@ -138,22 +135,18 @@ pub fn write_double_of_ticks(series: &[f64], n: usize, m: usize, out: &mut [f64]
 pub fn has_tick_cells(series: &[f64], n: usize, m: usize, out: usize) -> bool
     ensures { result ≡ tick_cells series.now n m out }
 {
-    if (n > 0) & (n < m) & checks::window_fits(series.len(), m, out) {
-        let some = cells::smaller(series.len(), 16);
-        if values::series::all_ticks(&series[..some]) {
-            return values::series::all_ticks(&series[some..]);
-        }
-    }
-    false
+    let some = series.len().min(16);
+    let fits = (n > 0) & (n < m) & checks::window_fits(series.len(), m, out);
+    fits && values::series::all_ticks(&series[..some]) && values::series::all_ticks(&series[some..])
 }
 
-// The answer of `double_sma_positions`.
+// The answer of `double_sma_positions`. That of the ranges differs in its first test and its definition: one function
+// for both is no plainer.
 pub fn answer_double(series: &[f64], n: usize, m: usize, out: usize) -> Answer
     ensures { result ≡ double_answer series.now n m out }
 {
     let bars = series.len();
-    let due = checks::check(series, out);
-    let order = checks::unless_refused(n < m, Refusal::WindowsOutOfOrder, Answer::Cells(bars));
-    let next = checks::check_two_windows(bars, n, m, order);
-    checks::and_then(due, next)
+    checks::check(series, out)?;
+    let order = checks::unless_refused(n < m, Refusal::WindowsOutOfOrder, Ok(bars));
+    checks::check_windows(bars, &[n, m], order)
 }

@@ -7,17 +7,16 @@ use borrow.Author.Tests.{ltb-true}
 use lib.Dec.{ltb}
 use lib.ListN.{length}
 use lib.Ieee.{Float}
-use Rattle.calls.specs.declared.Answer.{Answer}
-use Rattle.calls.specs.declared.Answer.TheVariants.{Cells, Refused}
-use Rattle.calls.specs.Answer.{count_of, ranged, windowed}
+use Rattle.calls.specs.Answer.{Answer, count_of, ranged, windowed}
+use Rattle.std.specs.Prelude.{Ok, Err}
 use Rattle.calls.proofs.Call.{AllBars}
 use Rattle.calls.proofs.Room.{unless_cells, and_then_cells, same_count, asked}
 use Rattle.checks.proofs.Two.{ranged_room}
 use Rattle.rules_double_ranges.specs.Ranges.{ranges_answer}
 use Rattle.rules_double_ranges.specs.inner.Stages.{RangesRoom}
 
-module _ (low high : List Float) (n m out k : ℕ) (e : ranges_answer low high n m out ≡ Cells k) (h : 0 < k) where
-  parts : RangesRoom n m low high out × (Cells (length low) ≡ Cells k)
+module _ (low high : List Float) (n m out k : ℕ) (e : ranges_answer low high n m out ≡ Ok k) (h : 0 < k) where
+  parts : RangesRoom n m low high out × (◌≡◌ {A = Answer} (Ok (length low)) (Ok k))
   unfolding ranges_answer windowed
   parts =
       let a = and_then_cells (ranged low high out) _ k e in
@@ -46,5 +45,5 @@ ranges_bars low high n m out k e h = ranges_whole low high n m out k e h
 -- where its cells are due, there is room
 pub ranges_room : (low high : List Float) (n m out : ℕ) {r : Answer} → r ≡ ranges_answer low high n m out
     → 0 < count_of r → RangesRoom n m low high out
-ranges_room low high n m out {r = Cells k} e h = ranges_opened low high n m out k (sym e) h
-ranges_room low high n m out {r = Refused q} e h = let none : 0 < 0 = h in absurd (omega arith)
+ranges_room low high n m out {r = Ok k} e h = ranges_opened low high n m out k (sym e) h
+ranges_room low high n m out {r = Err q} e h = let none : 0 < 0 = h in absurd (omega arith)

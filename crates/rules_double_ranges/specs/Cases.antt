@@ -1,5 +1,5 @@
 -- The rule on ranges at small series, and its answers at their edges, computed from the definitions. Assumes nothing.
-use Rattle.std.specs.Prelude.{false, List, [], ◌∷◌, ◌≡◌, refl, ℕ, suc, ℤ, pos, negsuc, Float}
+use Rattle.std.specs.Prelude.{false, List, [], ◌∷◌, ◌≡◌, refl, ℕ, suc, ℤ, pos, negsuc, Float, Ok, Err}
 use Rattle.std.specs.Float.{nan, fin}
 use Rattle.std.specs.Float.Ieee.{round, of_int, to_signed, lt, eq, le, whole}
 use Rattle.calls.specs.declared.Refusal.TheVariants.{
@@ -10,7 +10,6 @@ use Rattle.calls.specs.declared.Refusal.TheVariants.{
   WindowsOutOfOrder,
   LowAboveHigh,
 }
-use Rattle.calls.specs.declared.Answer.TheVariants.{Cells, Refused}
 use Rattle.values.specs.Accepted.{tick}
 use Rattle.limits.specs.Limits.{longest_window}
 use Rattle.calls.specs.Answer.{slices, checked, in_order, ranged, windowed}
@@ -50,17 +49,17 @@ ranges_answers : ranges_answer (plus_zero ∷ []) (num 1 ∷ []) 1 2 1
     ∷ ranges_answer [] [] (suc longest_window) 0 0
     ∷ ranges_answer [] [] 2 1 0
     ∷ []
-    ≡ Cells 1
-    ∷ Refused WindowsOutOfOrder
-    ∷ Refused LowAboveHigh
-    ∷ Refused LowAboveHigh
-    ∷ Refused LowAboveHigh
-    ∷ Refused ValueNotAccepted
-    ∷ Refused ValueNotAccepted
-    ∷ Refused LengthsDiffer
-    ∷ Refused OutputTooShort
-    ∷ Refused WindowTooLong
-    ∷ Cells 0
+    ≡ Ok 1
+    ∷ Err WindowsOutOfOrder
+    ∷ Err LowAboveHigh
+    ∷ Err LowAboveHigh
+    ∷ Err LowAboveHigh
+    ∷ Err ValueNotAccepted
+    ∷ Err ValueNotAccepted
+    ∷ Err LengthsDiffer
+    ∷ Err OutputTooShort
+    ∷ Err WindowTooLong
+    ∷ Ok 0
     ∷ []
 unfolding ranges_answer ranged in_order every_bar slices checked windowed tick whole le lt eq of_int round
 ranges_answers = refl

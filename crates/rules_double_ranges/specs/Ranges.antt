@@ -1,12 +1,10 @@
 -- double_sma_ranges, our own: the two-average rule on prices that are known only within a range, a low and a high for
 -- each bar. What it answers and writes, on whole numbers. Assumes nothing.
-use Rattle.std.specs.Prelude.{Bool, true, false, not, cond, List, [], ◌∷◌, ℕ, ◌+◌, ◌-◌, leb, ltb, ℤ, pos, negsuc, ◌*ℤ◌, length, Float}
+use Rattle.std.specs.Prelude.{Bool, true, false, not, cond, List, [], ◌∷◌, ℕ, ◌+◌, ◌-◌, leb, ltb, ℤ, pos, negsuc, ◌*ℤ◌, length, Float, Ok}
 use Rattle.std.specs.Int.Signed.{lt_z}
 use Rattle.std.specs.Float.Ieee.{to_signed}
 use Rattle.calls.specs.declared.Refusal.TheVariants.{WindowsOutOfOrder}
-use Rattle.calls.specs.declared.Answer.{Answer}
-use Rattle.calls.specs.declared.Answer.TheVariants.{Cells}
-use Rattle.calls.specs.Answer.{ranged, and_then, unless, windowed}
+use Rattle.calls.specs.Answer.{Answer, ranged, and_then, unless, windowed}
 use Rattle.calls.specs.Call.{Call}
 use Rattle.cells.specs.Line.{Line, from_bar, line}
 use Rattle.windows.specs.Window.{window_total}
@@ -42,7 +40,7 @@ unfoldable pub ranges_answer : List Float → List Float → ℕ → ℕ → ℕ
 ranges_answer low high n m output =
     and_then (ranged low high output)
     (windowed (length low) (n ∷ m ∷ [])
-    (unless (ltb n m) WindowsOutOfOrder (Cells (length low))))
+    (unless (ltb n m) WindowsOutOfOrder (Ok (length low))))
 
 -- what a call of `double_sma_ranges` promises
 abbrev pub RangesCall : List Float → List Float → ℕ → ℕ → List ℤ → Answer → List ℤ → Type 0

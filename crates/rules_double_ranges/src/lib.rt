@@ -16,10 +16,9 @@ pub fn answer_ranges(low: &[f64], high: &[f64], n: usize, m: usize, out: usize) 
     ensures { result ≡ ranges_answer low.now high.now n m out }
 {
     let bars = low.len();
-    let due = checks::check_ranges(low, high, out);
-    let order = checks::unless_refused(n < m, Refusal::WindowsOutOfOrder, Answer::Cells(bars));
-    let next = checks::check_two_windows(bars, n, m, order);
-    checks::and_then(due, next)
+    checks::check_ranges(low, high, out)?;
+    let order = checks::unless_refused(n < m, Refusal::WindowsOutOfOrder, Ok(bars));
+    checks::check_windows(bars, &[n, m], order)
 }
 
 // The sums of a bar: of its last n prices, and of the m - n prices before them.
@@ -59,7 +58,8 @@ fn gives_long(short: f64, old: f64, n: usize, m: usize) -> bool
     short * ((m - n) as f64) >= old * (n as f64)
 }
 
-// The cell, by what the series in the ranges that is worst for +1 gives, and what the best one does.
+// The cell, by what the series in the ranges that is worst for +1 gives, and what the best one does. In numbers, since
+// an `if` was tried and is a third slower: it branches at each bar.
 fn cell_of(worst: bool, best: bool) -> i32
     requires { Implies «worst» «best» }
     ensures { result ≡ picked «worst» «best» }
@@ -87,12 +87,10 @@ fn slide_ranges(low: &[f64], high: &[f64], n: usize, m: usize, out: &mut [i32])
     let mut lows = first_sums(low, n, m);
     let mut highs = first_sums(high, n, m);
     out[m - 1] = cell_at(lows, highs, n, m);
-    let mut i = m;
-    while i < low.len() {
+    for i in m..low.len() {
         lows = next_sums(low, n, m, i, lows);
         highs = next_sums(high, n, m, i, highs);
         out[i] = cell_at(lows, highs, n, m);
-        i += 1;
     }
 }
 

@@ -12,7 +12,7 @@ use Rattle.cells.specs.Line.{Line, line, plus_zero}
 use Rattle.cells.proofs.Line.{before_bar}
 use Rattle.cells.specs.Written.{Writing}
 use Rattle.cells.proofs.Written.{read_back, writing_same, ends}
-use Rattle.cells.proofs.Parts.{taken_long, part_long}
+use Rattle.cells.proofs.Parts.{taken_long}
 use Rattle.cells.specs.Search.{non_zero}
 use Rattle.windows.specs.Window.{over, window_sum, mean}
 use Rattle.windows.proofs.Window.{mean_of, first_running, same_bar}
@@ -22,11 +22,6 @@ use Rattle.windows.proofs.Means.{causal_running_means}
 use Rattle.rules_ema.specs.SingleEma.{first_usable, single_ema_from, single_ema_line}
 use Rattle.rules_ema.proofs.Search.{usable_found}
 use Rattle.rules_ema.specs.inner.ByMargins.{HeadWritten}
-
--- k cells that are written for them
-pub head_part : (k : ℕ) (s : List Float) {g : Line} {old mid : List Float} → Writing (length (take k s)) g old mid
-    → (k ≤ length s) × (k ≤ length old) → length (take k mid) ≡ k
-head_part k s w (h, room) = part_long (ends w (taken_long k s h)) room
 
 -- the means by running sums of the first k bars
 pub head_means : (n k : ℕ) (s : List Float) {old mid : List Float}

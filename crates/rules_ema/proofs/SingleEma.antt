@@ -3,7 +3,6 @@ use mathlib.Core.Path.{◌≡◌, sym, ap, ◌∙◌}
 use mathlib.Core.Bool.{Bool, true}
 use mathlib.Core.List.{List}
 use Prim.Native.Nat.{ℕ, suc, ◌+◌, ◌-◌, ◌*◌, ◌<◌, ◌≤◌}
-use native.Mathlib.Nat.{le_refl}
 use native.Mathlib.Omega.{arith}
 use borrow.Author.Tests.{lt-ltb}
 use lib.ListN.{length, take}
@@ -11,15 +10,14 @@ use lib.Ieee.{Float, binary64, sub}
 use Rattle.cells.specs.Line.{Line, line, plus_zero, Same, Causal}
 use Rattle.cells.proofs.Line.{before_bar, from_bar_lem, causal_same, causal_from}
 use Rattle.cells.specs.Written.{Writing}
-use Rattle.cells.proofs.Written.{writing_same, stands}
-use Rattle.cells.proofs.Touched.{untouched, touched, touched_more}
+use Rattle.cells.proofs.Written.{writing_same}
+use Rattle.cells.proofs.Touched.{untouched, touched}
 use Rattle.cells.proofs.Parts.{part_long, part_is}
 use Rattle.cells.specs.Search.{first_bar, non_zero}
 use Rattle.cells.proofs.Search.{first_bar_same, first_bar_met, first_bar_most}
 use Rattle.cells.proofs.Carried.{carried_same, carried_seed, carried_next}
 use Rattle.cells.specs.inner.Finished.{Finished}
-use Rattle.cells.proofs.Scratch.{goes_on}
-use Rattle.cells.proofs.Finished.{one_finished, all_finished, then_finished}
+use Rattle.cells.proofs.Finished.{one_finished, then_finished}
 use Rattle.rounding.specs.Leaves.{sign_of}
 use Rattle.windows.specs.Window.{mean}
 use Rattle.windows.proofs.Window.{causal_mean}
@@ -55,7 +53,7 @@ module _ (start n : ℕ) (f : Line) where
   position_at i e g h = rw (g, e, from_bar_lem start plus_zero _ i h)
 
 -- bars before it have none
-lead_finished : (start n : ℕ) (f : Line) {l k : ℕ} {out₀ out₁ work₀ work₁ : List Float}
+pub lead_finished : (start n : ℕ) (f : Line) {l k : ℕ} {out₀ out₁ work₀ work₁ : List Float}
     → Finished (λ i. plus_zero) l k out₀ out₁ work₀ work₁ → k ≤ start
     → Finished (single_ema_from start n f) l k out₀ out₁ work₀ work₁
 unfolding single_ema_from
@@ -63,25 +61,6 @@ lead_finished start n f p h = record {
   cells = writing_same p.cells (λ i l. sym (before_bar start plus_zero _ i (omega arith)));
   cleared = p.cleared;
 }
-
-module _ (start n : ℕ) (f : Line) {l : ℕ} {out₀ mid work₀ rows : List Float} where
-  -- where every bar comes before it
-  pub none_finished : Finished (λ i. plus_zero) l l out₀ mid work₀ rows → l ≤ start
-      → Finished (single_ema_from start n f) l l out₀ mid work₀ rows
-  none_finished = lead_finished start n f
-
-  module _ (w : Finished (λ i. plus_zero) l start out₀ mid work₀ rows) where
-    -- the bars before it, for a loop that goes on
-    pub starts_finished : Finished (single_ema_from start n f) l start mid mid rows rows
-    starts_finished =
-        let p = lead_finished start n f w (le_refl start) in
-        record { cells = stands p.cells; cleared = goes_on p.cleared }
-
-    -- and the bars of that loop
-    pub rest_finished : {k : ℕ} {now left : List Float} → Finished (single_ema_from start n f) l k mid now rows left
-        → (start ≤ k) × (k ≡ l) → Finished (single_ema_from start n f) l l out₀ now work₀ left
-    rest_finished p (h, e) =
-        then_finished (touched_more (touched w.cells) (omega arith)) w.cleared.rest (all_finished p e)
 
 -- the bar of a loop: its position is that of the average
 pub position_finished : (start n : ℕ) {s : List Float} {i : ℕ} {x : Float} {out₀ out₁ out₂ work₀ work₁ work₂

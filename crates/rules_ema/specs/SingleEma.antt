@@ -10,9 +10,8 @@ use Rattle.rounding.specs.Leaves.{sign_of}
 use Rattle.windows.specs.Window.{mean}
 use Rattle.averages.specs.Blend.{blend, ema_alpha}
 use Rattle.values.specs.Accepted.{accepted}
-use Rattle.calls.specs.Answer.{answered}
+use Rattle.calls.specs.Answer.{answered, Answer}
 use Rattle.calls.specs.Call.{WorkCall}
-use Rattle.calls.specs.declared.Answer.{Answer}
 
 -- the first of l bars at which the line is not 0, and bar 0 where there is none
 unfoldable pub first_usable : ℕ → Line → ℕ

@@ -21,25 +21,24 @@ fn write_from_by_margins(
     ensures { FinishedIf result (single_ema_from start n (line series.now)) (length series.now)
         out.old out.new work.old work.new }
 {
+    crate::bar::clear_lead(series.len(), start, out, work);
+    if !crate::far::is_decided(d, series[start], seed) {
+        return false;
+    }
+    crate::bar::put_position(series, start, seed, out, work);
     let alpha = crate::bar::weight(n);
     let count = n as f64;
     let mut sum = windows::sum_at(series, n, start);
     let mut average = seed;
-    let mut i = start;
-    crate::bar::clear_lead(series.len(), start, out, work);
-    loop {
-        if crate::far::is_decided(d, series[i], average) {
-            crate::bar::put_position(series, i, average, out, work);
-            i += 1;
-        } else {
-            break false;
-        }
-        if i == series.len() {
-            break true;
-        }
+    for i in start + 1..series.len() {
         sum = sum + (series[i] - series[i - n]);
         average = averages::blend::blended(alpha, average, sum / count);
+        if !crate::far::is_decided(d, series[i], average) {
+            return false;
+        }
+        crate::bar::put_position(series, i, average, out, work);
     }
+    true
 }
 
 // Writes the means of the first 2n - 1 bars by running sums, and gives the mean of the last n of them.

@@ -23,15 +23,11 @@ fn write_from(series: &[f64], n: usize, start: usize, seed: f64, out: &mut [f64]
 {
     let alpha = bar::weight(n);
     let mut average = seed;
-    let mut i = start;
     bar::clear_lead(series.len(), start, out, work);
-    loop {
-        bar::put_position(series, i, average, out, work);
-        i += 1;
-        if i == series.len() {
-            break;
-        }
+    bar::put_position(series, start, average, out, work);
+    for i in start + 1..series.len() {
         average = averages::blend::blended(alpha, average, out[i]);
+        bar::put_position(series, i, average, out, work);
     }
 }
 
@@ -62,8 +58,7 @@ pub fn write_ema(series: &[f64], n: usize, out: &mut [f64], work: &mut [f64])
         work.old work.new }
 {
     let ticks = window_means::are_long_ticks(series, n);
-    if by_margins::write_by_margins(series, n, ticks, out, work) {
-        return;
+    if !by_margins::write_by_margins(series, n, ticks, out, work) {
+        write_over_means(series, n, ticks, out, work);
     }
-    write_over_means(series, n, ticks, out, work);
 }

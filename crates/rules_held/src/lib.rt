@@ -5,6 +5,7 @@ ghost use Rattle.std.specs.Prelude.{◌≡◌, ◌≤◌, length};
 ghost use Rattle.cells.specs.inner.Leads.{Led};
 ghost use Rattle.rules_held.specs.Held.{flat, moved};
 
+// Positions are whole numbers and no enum, since the C interface has them in its cells.
 // The position after a bar: a flat one becomes `opens`, a long or a short one closes or stays.
 pub fn move_position(position: i32, opens: i32, closes_long: bool, closes_short: bool) -> i32
     ensures { result ≡ moved position (record {
@@ -28,11 +29,5 @@ pub fn fill_flat(out: &mut [i32], b: usize, bars: usize) -> usize
     requires { bars ≤ length out.old }
     ensures { Led b bars flat result out.old out.new }
 {
-    let first = cells::smaller(b, bars);
-    let mut i = 0;
-    while i < first {
-        out[i] = 0;
-        i += 1;
-    }
-    first
+    cells::fill_lead(out, b, bars, 0)
 }

@@ -6,9 +6,8 @@ use Rattle.cells.specs.Line.{plus_zero, Line, from_bar, line}
 use Rattle.rounding.specs.Leaves.{sign_of, two}
 use Rattle.windows.specs.Window.{mean}
 use Rattle.extremes.specs.Extreme.{larger, smaller, extreme}
-use Rattle.calls.specs.Answer.{answered}
+use Rattle.calls.specs.Answer.{answered, Answer}
 use Rattle.calls.specs.Call.{WorkCall}
-use Rattle.calls.specs.declared.Answer.{Answer}
 use Rattle.values.specs.Accepted.{accepted}
 
 -- the sign of the mean less half of highest plus lowest, 0 if either is 0

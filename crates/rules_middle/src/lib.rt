@@ -7,7 +7,7 @@ ghost use Rattle.cells.specs.Written.{Writing};
 ghost use Rattle.rules_middle.specs.Middle.{against_middle, mid_line};
 ghost use Rattle.rules_middle.specs.inner.Positions.{positions};
 ghost use Rattle.margins.specs.inner.Margin.{far_from_middle, AllFar};
-ghost use Rattle.windows.specs.inner.Eight.{WindowRoom};
+ghost use Rattle.windows.specs.inner.Windows.{WindowRoom};
 ghost use Rattle.cells.specs.inner.Touched.{Touched};
 ghost use Rattle.margins.specs.inner.Decided.{Decided};
 ghost use Rattle.window_means.specs.inner.Ticks.{long_ticks};
@@ -19,13 +19,7 @@ fn against_middle(average: f64, high: f64, low: f64) -> f64
     ensures { result ≡ against_middle average high low }
 {
     let side = rounding::sign(average - (high + low) / 2.0);
-    if high == 0.0 {
-        0.0
-    } else if low == 0.0 {
-        0.0
-    } else {
-        side
-    }
+    if high == 0.0 || low == 0.0 { 0.0 } else { side }
 }
 
 // Writes each bar's position over the mean that stands in its cell. The rows of `work` are the highest means and the
@@ -35,10 +29,9 @@ pub fn write_against_middles(bars: usize, n: usize, out: &mut [f64], work: &[f64
     ensures { Writing bars (positions n bars (line out.old) (line work.now))
         out.old out.new }
 {
-    let mut i = cells::fill_lead(out, 2 * n - 2, bars, 0.0);
-    while i < bars {
+    let first = cells::fill_lead(out, 2 * n - 2, bars, 0.0);
+    for i in first..bars {
         out[i] = against_middle(out[i], work[i], work[bars + i]);
-        i += 1;
     }
 }
 
@@ -46,18 +39,13 @@ pub fn write_against_middles(bars: usize, n: usize, out: &mut [f64], work: &[f64
 fn is_far(d: f64, average: f64, high: f64, low: f64) -> bool
     ensures { result ≡ far_from_middle d average high low }
 {
-    if d < rounding::magnitude(average - (high + low) / 2.0) {
-        if d < rounding::magnitude(high) {
-            d < rounding::magnitude(low)
-        } else {
-            false
-        }
-    } else {
-        false
-    }
+    d < rounding::magnitude(average - (high + low) / 2.0)
+        && d < rounding::magnitude(high)
+        && d < rounding::magnitude(low)
 }
 
 // Whether that holds of every bar from `first` on. All are looked at, so that the loop takes several at a time.
+// It is the loop of `margins::all_far` over other cells: a closure for the test, with its contract, is no plainer.
 pub fn all_far(bars: usize, means: &[f64], rows: &[f64], first: usize, d: f64) -> bool
     requires { (bars ≤ length means.now) × (2 * bars ≤ length rows.now) }
     ensures { AllFar result first
@@ -65,10 +53,8 @@ pub fn all_far(bars: usize, means: &[f64], rows: &[f64], first: usize, d: f64) -
         (line rows.now (bars + i))) bars }
 {
     let mut far = true;
-    let mut i = first;
-    while i < bars {
-        far = far & is_far(d, means[i], rows[i], rows[bars + i]);
-        i += 1;
+    for i in first..bars {
+        far &= is_far(d, means[i], rows[i], rows[bars + i]);
     }
     far
 }
@@ -119,12 +105,7 @@ pub fn write_mid(series: &[f64], n: usize, out: &mut [f64], work: &mut [f64])
         × Touched (2 * length series.now) work.old work.new }
 {
     let ticks = window_means::are_long_ticks(series, n);
-    if ticks {
+    if ticks || !write_mid_by_margins(series, n, out, work) {
         write_mid_of_means(series, n, ticks, out, work);
-        return;
     }
-    if write_mid_by_margins(series, n, out, work) {
-        return;
-    }
-    write_mid_of_means(series, n, ticks, out, work);
 }

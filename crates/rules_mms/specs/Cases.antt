@@ -1,9 +1,8 @@
 -- mms_positions at small series, with the cells that pure.rs gave, and its answers. Assumes nothing.
-use Rattle.std.specs.Prelude.{◌≡◌, refl, [], ◌∷◌, suc, pos}
+use Rattle.std.specs.Prelude.{◌≡◌, refl, [], ◌∷◌, suc, pos, Ok, Err}
 use Rattle.std.specs.Float.Ieee.{round, neg, add, sub, mul, div, lt, eq, le, of_int, of_bits, to_bits}
 use Rattle.limits.specs.Limits.{longest_window}
 use Rattle.calls.specs.declared.Refusal.TheVariants.{WindowTooLong, WorkTooShort}
-use Rattle.calls.specs.declared.Answer.TheVariants.{Cells, Refused}
 use Rattle.values.specs.Accepted.{accepted}
 use Rattle.calls.specs.Answer.{slices, checked, windowed, answered}
 use Rattle.cells.specs.Line.{plus_zero, from_bar}
@@ -47,13 +46,13 @@ mms_answers : mms_answer (plus_zero ∷ []) 1 1 1 8
     ∷ mms_answer [] 1 1 0 0
     ∷ mms_answer (plus_zero ∷ []) 1 1 1 7
     ∷ []
-    ≡ Cells 1
-    ∷ Cells 0
-    ∷ Cells 0
-    ∷ Refused WindowTooLong
-    ∷ Refused WindowTooLong
-    ∷ Cells 0
-    ∷ Refused WorkTooShort
+    ≡ Ok 1
+    ∷ Ok 0
+    ∷ Ok 0
+    ∷ Err WindowTooLong
+    ∷ Err WindowTooLong
+    ∷ Ok 0
+    ∷ Err WorkTooShort
     ∷ []
 unfolding answered slices checked windowed accepted lt eq le to_bits
 mms_answers = refl

@@ -8,9 +8,8 @@ use Rattle.rounding.specs.Leaves.{plus_one, two, magnitude_of}
 use Rattle.rounding.specs.Literals.{ten_to_minus}
 use Rattle.windows.specs.Window.{mean}
 use Rattle.extremes.specs.Extreme.{larger, smaller, extreme}
-use Rattle.calls.specs.Answer.{answered}
+use Rattle.calls.specs.Answer.{answered, Answer}
 use Rattle.calls.specs.Call.{WorkCall}
-use Rattle.calls.specs.declared.Answer.{Answer}
 use Rattle.values.specs.Accepted.{accepted}
 
 -- (average - low) / spread · 2 - 1

@@ -34,10 +34,9 @@ fn write_scaled(series: &[f64], n: usize, w: usize, out: &mut [f64], work: &[f64
         out.old out.new }
 {
     let bars = series.len();
-    let mut i = cells::fill_lead(out, n + w - 2, bars, 0.0);
-    while i < bars {
+    let first = cells::fill_lead(out, n + w - 2, bars, 0.0);
+    for i in first..bars {
         out[i] = scaled_between(out[i], work[i], work[bars + i]);
-        i += 1;
     }
 }
 
@@ -57,8 +56,7 @@ pub fn write_mms(series: &[f64], n: usize, w: usize, out: &mut [f64], work: &mut
 pub fn answer_mms(series: &[f64], n: usize, w: usize, out: usize, work: usize) -> Answer
     ensures { result ≡ mms_answer series.now n w out work }
 {
-    let due = checks::check_with_work(series, out, work);
     let bars = series.len();
-    let next = checks::check_two_windows(bars, n, w, Answer::Cells(bars));
-    checks::and_then(due, next)
+    checks::check_with_work(series, out, work)?;
+    checks::check_windows(bars, &[n, w], Ok(bars))
 }

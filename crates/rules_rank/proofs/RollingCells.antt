@@ -19,8 +19,7 @@ use Rattle.values.proofs.All.{all_at}
 use Rattle.ranks.specs.Counted.{below_by, count_from}
 use Rattle.ranks.proofs.Counted.{count_from_same, count_from_most, last_failed}
 use Rattle.limits.specs.Limits.{longest_window}
-use Rattle.calls.specs.declared.Answer.{Answer}
-use Rattle.calls.specs.Answer.{cleared_of, checked, any_zero}
+use Rattle.calls.specs.Answer.{Answer, cleared_of, checked, any_zero}
 use Rattle.calls.proofs.Call.{AllBars}
 use Rattle.calls.proofs.Room.{and_then_cells, unless_cells, empty_if_cells, same_count}
 use Rattle.checks.specs.inner.Due.{CellsDue}

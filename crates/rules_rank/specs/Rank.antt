@@ -9,8 +9,7 @@ use Rattle.windows.specs.Window.{over, mean}
 use Rattle.cells.specs.Line.{Line, line, plus_zero, from_bar}
 use Rattle.ranks.specs.Counted.{below, count_from}
 use Rattle.values.specs.Accepted.{accepted}
-use Rattle.calls.specs.declared.Answer.{Answer}
-use Rattle.calls.specs.Answer.{answered}
+use Rattle.calls.specs.Answer.{Answer, answered}
 use Rattle.calls.specs.Call.{WorkCall}
 
 -- c of m: c / m, moved from 0 .. 1 to -1 .. 1; NaN where m is 0

@@ -1,10 +1,9 @@
 -- rank_positions at small series, with the cells that pure.rs gives. Assumes nothing.
-use Rattle.std.specs.Prelude.{◌≡◌, refl, [], ◌∷◌, map, suc, pos}
+use Rattle.std.specs.Prelude.{◌≡◌, refl, [], ◌∷◌, map, suc, pos, Ok, Err}
 use Rattle.std.specs.Float.{nan}
 use Rattle.std.specs.Float.Ieee.{round, add, sub, mul, div, lt, eq, le, of_int, of_bits, to_bits}
 use Rattle.limits.specs.Limits.{longest_window}
 use Rattle.calls.specs.declared.Refusal.TheVariants.{WindowTooLong}
-use Rattle.calls.specs.declared.Answer.TheVariants.{Cells, Refused}
 use Rattle.calls.specs.Answer.{slices, checked, windowed, answered}
 use Rattle.values.specs.Accepted.{accepted}
 use Rattle.cells.specs.Line.{plus_zero, minus_zero, from_bar}
@@ -49,6 +48,6 @@ whole_ranks = (refl, refl, refl)
 -- one bar; a window of 0; a window too long; no bars
 rank_answers : map (λ n. answered accepted (plus_zero ∷ []) (n ∷ []) 1 (8 ∷ []))
     (1 ∷ 0 ∷ longest_window ∷ suc longest_window ∷ [])
-    ≡ Cells 1 ∷ Cells 0 ∷ Cells 1 ∷ Refused WindowTooLong ∷ []
+    ≡ Ok 1 ∷ Ok 0 ∷ Ok 1 ∷ Err WindowTooLong ∷ []
 unfolding answered slices checked windowed accepted lt eq le to_bits
 rank_answers = refl

@@ -1,7 +1,7 @@
 -- rolling_rank of pure.rs: the place, from 1, in the sorted window of the first value less than 1e-8 away from the
 -- present one; 0 where there is none. No sorting: the values before that place are those that lie below by 1e-8 or
 -- more. Assumes nothing.
-use Rattle.std.specs.Prelude.{Bool, not, ◌&&◌, List, [], ◌∷◌, ℕ, zero, suc, ◌-◌, length, Float}
+use Rattle.std.specs.Prelude.{Bool, not, ◌&&◌, List, [], ◌∷◌, ℕ, zero, suc, ◌-◌, length, Float, Ok}
 use Rattle.std.specs.Float.{binary64}
 use Rattle.std.specs.Float.Ieee.{sub, lt}
 use Rattle.cells.specs.Line.{Line, line, from_bar}
@@ -9,9 +9,7 @@ use Rattle.rounding.specs.Leaves.{magnitude_of}
 use Rattle.rounding.specs.Literals.{ten_to_minus}
 use Rattle.ranks.specs.Counted.{count_from}
 use Rattle.values.specs.Accepted.{accepted}
-use Rattle.calls.specs.declared.Answer.{Answer}
-use Rattle.calls.specs.declared.Answer.TheVariants.{Cells}
-use Rattle.calls.specs.Answer.{and_then, checked, limited, unless_empty}
+use Rattle.calls.specs.Answer.{Answer, and_then, checked, limited, unless_empty}
 use Rattle.calls.specs.Call.{WorkCall}
 
 -- x is less than 1e-8 away from the value, as the rounded difference says
@@ -32,7 +30,7 @@ rolling_rank_line (suc k) f = from_bar k 0 (λ i. suc (count_from (well_below (f
 unfoldable pub rolling_rank_answer : List Float → ℕ → ℕ → ℕ → Answer
 rolling_rank_answer s w output work =
     and_then (checked accepted (s ∷ []) (output ∷ []) (work ∷ []))
-    (limited [] (w ∷ []) [] (unless_empty (length s) [] [] (Cells (length s))))
+    (limited [] (w ∷ []) [] (unless_empty (length s) [] [] (Ok (length s))))
 
 -- what a call of `rolling_rank` promises
 abbrev pub RollingRankCall : List Float → ℕ → List ℕ → List Float → Answer → List ℕ → List Float → Type 0

@@ -1,9 +1,8 @@
 -- rolling_rank at small series, with the cells that pure.rs gives, and its answers. Assumes nothing.
-use Rattle.std.specs.Prelude.{◌≡◌, refl, [], ◌∷◌, suc, pos}
+use Rattle.std.specs.Prelude.{◌≡◌, refl, [], ◌∷◌, suc, pos, Ok, Err}
 use Rattle.std.specs.Float.Ieee.{round, neg, add, sub, lt, eq, le, of_int, of_bits, to_bits}
 use Rattle.limits.specs.Limits.{longest_window}
 use Rattle.calls.specs.declared.Refusal.TheVariants.{WorkTooShort, WindowTooLong}
-use Rattle.calls.specs.declared.Answer.TheVariants.{Cells, Refused}
 use Rattle.values.specs.Accepted.{accepted}
 use Rattle.calls.specs.Answer.{slices, checked}
 use Rattle.cells.specs.Line.{plus_zero, from_bar}
@@ -49,6 +48,6 @@ rolling_rank_answers : rolling_rank_answer (plus_zero ∷ plus_zero ∷ plus_zer
     ∷ rolling_rank_answer [] 2 0 0
     ∷ rolling_rank_answer (plus_zero ∷ []) 0 1 7
     ∷ []
-    ≡ Cells 3 ∷ Cells 1 ∷ Refused WindowTooLong ∷ Cells 0 ∷ Refused WorkTooShort ∷ []
+    ≡ Ok 3 ∷ Ok 1 ∷ Err WindowTooLong ∷ Ok 0 ∷ Err WorkTooShort ∷ []
 unfolding rolling_rank_answer slices checked accepted lt eq le to_bits
 rolling_rank_answers = refl

@@ -22,15 +22,14 @@ pub fn whole_rank(below: usize, others: usize) -> f64
     rounding::round_to_whole((share - 0.5) * 2.0 * 100.0)
 }
 
-// Writes the position for each number of means below, of n - 1.
+// Writes the position for each number of means below, of n - 1. It is not one with that of rules_rank_table: the two
+// share only the loop, and a closure in it would be no plainer.
 pub fn write_positions(n: usize, positions: &mut [f64])
     requires { Window n × (n ≤ length positions.old) }
     ensures { Writing n (λ c. rank_of c (n - 1)) positions.old positions.new }
 {
-    let mut below = 0;
-    while below < n {
+    for below in 0..n {
         positions[below] = whole_rank(below, n - 1) / 100.0;
-        below += 1;
     }
 }
 
@@ -54,11 +53,10 @@ fn write_by_count(series: &[f64], work: &[f64], n: usize, out: &mut [f64])
         out.new }
 {
     let bars = series.len();
-    let mut i = cells::fill_lead(out, 2 * n - 2, bars, 0.0);
-    while i < bars {
+    let first = cells::fill_lead(out, 2 * n - 2, bars, 0.0);
+    for i in first..bars {
         let below = ranks::count_below(work, i + 1 - n, n - 1, work[i]);
         out[i] = work[bars + below];
-        i += 1;
     }
 }
 

@@ -12,23 +12,9 @@ use limits::LONGEST_WINDOW;
 pub fn answer_rolling_rank(series: &[f64], window: usize, out: usize, work: usize) -> Answer
     ensures { result ≡ rolling_rank_answer series.now window out work }
 {
-    let due = checks::check_with_work(series, out, work);
     let bars = series.len();
-    let some = checks::empty_if(bars == 0, Answer::Cells(bars));
-    let next = checks::unless_refused(window <= LONGEST_WINDOW, Refusal::WindowTooLong, some);
-    checks::and_then(due, next)
-}
-
-// Writes 0, for none, to the first n cells.
-fn fill_none(out: &mut [u64], n: usize)
-    requires { n ≤ length out.old }
-    ensures { Writing n (λ i. 0) out.old out.new }
-{
-    let mut i = 0;
-    while i < n {
-        out[i] = 0;
-        i += 1;
-    }
+    checks::check_with_work(series, out, work)?;
+    checks::unless_refused(window <= LONGEST_WINDOW, Refusal::WindowTooLong, Ok(bars))
 }
 
 // Writes each bar's rank in a window of at least one bar.
@@ -38,11 +24,10 @@ fn write_places(series: &[f64], window: usize, out: &mut [u64])
         out.old out.new }
 {
     let bars = series.len();
-    let mut i = cells::smaller(window - 1, bars);
-    fill_none(out, i);
-    while i < bars {
+    let first = cells::smaller(window - 1, bars);
+    cells::fill(out, first, 0);
+    for i in first..bars {
         out[i] = crate::place_at(series, window, i);
-        i += 1;
     }
 }
 
@@ -55,6 +40,6 @@ pub fn write_rolling_rank(series: &[f64], window: usize, out: &mut [u64])
     if window > 0 {
         write_places(series, window, out);
     } else {
-        fill_none(out, series.len());
+        cells::fill(out, series.len(), 0);
     }
 }

@@ -16,10 +16,9 @@ use Rattle.cells.proofs.Line.{from_bar_lem}
 use Rattle.windows.specs.Window.{mean}
 use Rattle.ranks.specs.Counted.{below}
 use Rattle.ranks.proofs.Counted.{count_from_most}
-use Rattle.calls.specs.declared.Answer.{Answer}
-use Rattle.calls.specs.declared.Answer.TheVariants.{Cells}
+use Rattle.calls.specs.Answer.{Answer, refusal_of, count_of, checked, windowed}
+use Rattle.std.specs.Prelude.{Ok}
 use Rattle.calls.specs.declared.numbers.CAnswer.{CAnswer}
-use Rattle.calls.specs.Answer.{refusal_of, count_of, checked, windowed}
 use Rattle.calls.proofs.InNumbers.{accepted_call}
 use Rattle.rules_held.specs.Held.{flat}
 use Rattle.rules_rank.specs.Rank.{below_now}
@@ -63,10 +62,10 @@ module _ (table : List ℤ) (p : Passed (rows_read table)) (n : ℕ) (f : Line) 
 -- ---- exactly if
 
 module _ (s : List Float) (n : ℕ) (table : List ℤ) (output work : ℕ)
-    (passes : checked accepted (s ∷ []) (output ∷ []) (work ∷ []) ≡ Cells (length s)) (window : Window n)
+    (passes : checked accepted (s ∷ []) (output ∷ []) (work ∷ []) ≡ Ok (length s)) (window : Window n)
     (bars : 0 < length s) {r : Answer} (e : r ≡ rank_table_answer s n table output work) where
   -- the table decides
-  by_table : r ≡ table_checked (rows_read table) (Cells (length s))
+  by_table : r ≡ table_checked (rows_read table) (Ok (length s))
   unfolding rank_table_answer windowed
   by_table =
       let some = window.some in
@@ -76,12 +75,12 @@ module _ (s : List Float) (n : ℕ) (table : List ℤ) (output work : ℕ)
       e ∙ rw (passes, narrow, no_bars, none)
 
   pub taken_if_complete : Complete table → refusal_of r ≡ 0
-  taken_if_complete c = rw (by_table, complete_taken table c (Cells (length s)))
+  taken_if_complete c = rw (by_table, complete_taken table c (Ok (length s)))
 
   pub complete_if_taken : refusal_of r ≡ 0 → Complete table
   complete_if_taken z =
       let numbers : CAnswer = record { refusal = refusal_of r; count = count_of r } in
-      let counted : Cells (count_of r) ≡ table_checked (rows_read table) (Cells (length s)) =
-      accepted_call {P = λ a. a ≡ table_checked (rows_read table) (Cells (length s))} {r = numbers}
+      let counted : Ok (count_of r) ≡ table_checked (rows_read table) (Ok (length s)) =
+      accepted_call {P = λ a. a ≡ table_checked (rows_read table) (Ok (length s))} {r = numbers}
       (record { answer = r; call = by_table; numbers = record { refusal = refl; count = refl } }) z in
-      passed_complete table (table_passed (rows_read table) (Cells (length s)) (count_of r) (sym counted)).0
+      passed_complete table (table_passed (rows_read table) (Ok (length s)) (count_of r) (sym counted)).0

@@ -13,7 +13,7 @@ use lib.Signed.{le_z, ◌≤ℤ◌}
 use Rattle.values.specs.Accepted.{all}
 use Rattle.values.proofs.All.{and_parts}
 use Rattle.cells.specs.Search.{every_bar}
-use Rattle.calls.specs.declared.Answer.{Answer}
+use Rattle.calls.specs.Answer.{Answer}
 use Rattle.rules_rank_table.specs.Table.{Row, rows_read, covers, cover_count, is_position, table_checked, position_for}
 use Rattle.rules_rank_table.specs.Taken.{from_at, to_at, position_at, Covers, CoveredOnce, Complete}
 use Rattle.rules_rank_table.specs.inner.Stages.{row_at}

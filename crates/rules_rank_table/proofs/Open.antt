@@ -11,9 +11,8 @@ use lib.Ieee.{Float}
 use Rattle.limits.specs.Limits.{longest_window, Window}
 use Rattle.values.specs.Accepted.{accepted, all}
 use Rattle.calls.specs.declared.Refusal.TheVariants.{WindowTooLong, CoveredTwice, NotCovered, PositionUnknown}
-use Rattle.calls.specs.declared.Answer.{Answer}
-use Rattle.calls.specs.declared.Answer.TheVariants.{Cells, Refused}
-use Rattle.calls.specs.Answer.{count_of, cleared_of, unless, and_then, empty_if, checked, windowed, answered}
+use Rattle.calls.specs.Answer.{Answer, count_of, cleared_of, unless, and_then, empty_if, checked, windowed, answered}
+use Rattle.std.specs.Prelude.{Ok, Err}
 use Rattle.calls.proofs.Call.{AllBars}
 use Rattle.calls.proofs.Room.{Room, unless_cells, same_count, nonzero, or_parts, asked}
 use Rattle.checks.specs.inner.Due.{CellsDue, Priced}
@@ -29,8 +28,8 @@ pub record Passed (rows : List Row) : Type 0 where
   pub known : Known rows
 
 -- a table that was taken
-pub table_passed : (rows : List Row) (next : Answer) (k : ℕ) → table_checked rows next ≡ Cells k
-    → Passed rows × (next ≡ Cells k)
+pub table_passed : (rows : List Row) (next : Answer) (k : ℕ) → table_checked rows next ≡ Ok k
+    → Passed rows × (next ≡ Ok k)
 unfolding table_checked
 table_passed rows next k e =
     let a = unless_cells (every_rank (λ k. leb (cover_count k rows) 1)) CoveredTwice _ k e in
@@ -43,33 +42,33 @@ table_passed rows next k e =
 
 -- what is next is asked only where there are cells
 module _ (a : Answer) (narrow none : Bool) {l : ℕ} (next : Answer) (bars : none ≡ false → 0 < l) where
-  next_asked : 0 < count_of (and_then a (unless narrow WindowTooLong (empty_if none (Cells l))))
-      → (and_then a (unless narrow WindowTooLong (empty_if none (Cells l))) ≡ Cells l)
+  next_asked : 0 < count_of (and_then a (unless narrow WindowTooLong (empty_if none (Ok l))))
+      → (and_then a (unless narrow WindowTooLong (empty_if none (Ok l))) ≡ Ok l)
       × (and_then a (unless narrow WindowTooLong (empty_if none next)) ≡ next)
   next_asked h = go a narrow none refl h
     where
       go : (a : Answer) (t u : Bool) → none ≡ u
-          → 0 < count_of (and_then a (unless t WindowTooLong (empty_if u (Cells l))))
-          → (and_then a (unless t WindowTooLong (empty_if u (Cells l))) ≡ Cells l)
+          → 0 < count_of (and_then a (unless t WindowTooLong (empty_if u (Ok l))))
+          → (and_then a (unless t WindowTooLong (empty_if u (Ok l))) ≡ Ok l)
           × (and_then a (unless t WindowTooLong (empty_if u next)) ≡ next)
-      go (Refused q) t u e h = let none : 0 < 0 = h in absurd (omega arith)
-      go (Cells k) false u e h = let none : 0 < 0 = h in absurd (omega arith)
-      go (Cells k) true true e h = let none : 0 < 0 = h in absurd (omega arith)
-      go (Cells k) true false e h = (refl, refl)
+      go (Err q) t u e h = let none : 0 < 0 = h in absurd (omega arith)
+      go (Ok k) false u e h = let none : 0 < 0 = h in absurd (omega arith)
+      go (Ok k) true true e h = let none : 0 < 0 = h in absurd (omega arith)
+      go (Ok k) true false e h = (refl, refl)
 
-  not_asked : count_of (and_then a (unless narrow WindowTooLong (empty_if none (Cells l)))) ≡ 0
-      → and_then a (unless narrow WindowTooLong (empty_if none (Cells l)))
+  not_asked : count_of (and_then a (unless narrow WindowTooLong (empty_if none (Ok l)))) ≡ 0
+      → and_then a (unless narrow WindowTooLong (empty_if none (Ok l)))
       ≡ and_then a (unless narrow WindowTooLong (empty_if none next))
   not_asked z = go a narrow none refl z
     where
       go : (a : Answer) (t u : Bool) → none ≡ u
-          → count_of (and_then a (unless t WindowTooLong (empty_if u (Cells l)))) ≡ 0
-          → and_then a (unless t WindowTooLong (empty_if u (Cells l)))
+          → count_of (and_then a (unless t WindowTooLong (empty_if u (Ok l)))) ≡ 0
+          → and_then a (unless t WindowTooLong (empty_if u (Ok l)))
           ≡ and_then a (unless t WindowTooLong (empty_if u next))
-      go (Refused q) t u e z = refl
-      go (Cells k) false u e z = refl
-      go (Cells k) true true e z = refl
-      go (Cells k) true false e z = let some = bars e in let none : l ≡ 0 = z in absurd (omega arith)
+      go (Err q) t u e z = refl
+      go (Ok k) false u e z = refl
+      go (Ok k) true true e z = refl
+      go (Ok k) true false e z = let some = bars e in let none : l ≡ 0 = z in absurd (omega arith)
 
 module _ (s : List Float) (n : ℕ) (table : List ℤ) (output work : ℕ) {due : Answer}
     (e : due ≡ answered accepted s (n ∷ []) output (work ∷ [])) where
@@ -82,7 +81,7 @@ module _ (s : List Float) (n : ℕ) (table : List ℤ) (output work : ℕ) {due 
   table_asked h =
       let (cells, next) =
       next_asked (checked accepted (s ∷ []) (output ∷ []) (work ∷ [])) (leb n longest_window && true)
-      (eqb (length s) 0 || (eqb n 0 || false)) (table_checked (rows_read table) (Cells (length s))) bars_of (rw e at h)
+      (eqb (length s) 0 || (eqb n 0 || false)) (table_checked (rows_read table) (Ok (length s))) bars_of (rw e at h)
       in
       rw (e, cells) (sym next)
 
@@ -91,7 +90,7 @@ module _ (s : List Float) (n : ℕ) (table : List ℤ) (output work : ℕ) {due 
   unfolding rank_table_answer answered windowed
   table_left z =
       e ∙ not_asked (checked accepted (s ∷ []) (output ∷ []) (work ∷ [])) (leb n longest_window && true)
-      (eqb (length s) 0 || (eqb n 0 || false)) (table_checked (rows_read table) (Cells (length s))) bars_of (rw e at z)
+      (eqb (length s) 0 || (eqb n 0 || false)) (table_checked (rows_read table) (Ok (length s))) bars_of (rw e at z)
 
 -- ---- a call with cells
 
@@ -108,7 +107,7 @@ unfolding rank_table_answer windowed
 rank_table_opened s n table output work {r} e h =
     let (room, next) = one_passed s output work _ e h in
     let a = asked (length s) [] (n ∷ []) [] _ (count_of r) next h in
-    let (passed, count) = table_passed (rows_read table) (Cells (length s)) (count_of r) a.rest in
+    let (passed, count) = table_passed (rows_read table) (Ok (length s)) (count_of r) a.rest in
     record { room = room; window = a.each.0; passed = passed; bars = sym (same_count _ _ count) }
 
 pub rank_table_bars : (s : List Float) (n : ℕ) (table : List ℤ) (output work : ℕ)

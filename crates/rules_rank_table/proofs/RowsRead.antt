@@ -1,16 +1,13 @@
--- The rows that are read, by their numbers in the slice, and what the loops over them keep. Assumes nothing.
+-- The rows that are read, by their numbers in the slice. Assumes nothing.
 use mathlib.Core.Path.{◌≡◌, refl, sym, ◌∙◌}
 use mathlib.Core.List.{List, [], ◌∷◌}
-use Prim.Native.Nat.{ℕ, zero, suc, ◌+◌, ◌-◌, ◌*◌, ◌/◌, ◌<◌, ◌≤◌, min}
+use Prim.Native.Nat.{ℕ, zero, suc, ◌+◌, ◌*◌, ◌/◌, ◌<◌, min}
 use native.Mathlib.Omega.{arith}
 use lib.IntN.{ℤ}
-use lib.ListN.{length, get_or, drop, drop_of_length-le}
-use lib.Seq.{drop-cons}
+use lib.ListN.{length, get_or}
 use Rattle.rules_rank_table.specs.Table.{Row, first_rows, rows_read}
 use Rattle.rules_rank_table.specs.Taken.{IsRead}
 use Rattle.rules_rank_table.specs.inner.Stages.{row_at}
-
--- ---- the list and the slice
 
 first_rows_long : (k : ℕ) (table : List ℤ) → length (first_rows k table) ≡ min k (length table / 3)
 first_rows_long zero table = omega arith
@@ -46,21 +43,3 @@ first_row_at (suc k) (a ∷ b ∷ p ∷ rest) (suc r) d h =
 pub row_is : (table : List ℤ) (r : ℕ) (d : Row) → IsRead table r → get_or (rows_read table) r d ≡ row_at table r
 unfolding rows_read
 row_is table r d h = first_row_at 16 table r d (let l = first_rows_long 16 table in omega arith)
-
--- ---- from the last row to the first
-
-module _ (table : List ℤ) where
-  -- no row is left behind the last one
-  pub rows_end : {r : ℕ} → r ≡ min 16 (length table / 3) → drop r (rows_read table) ≡ []
-  rows_end {r} e = drop_of_length-le (rows_read table) {i = r} (let l = rows_long table in omega arith)
-
-  -- one row more
-  pub row_before : (r : ℕ) → 0 < r → r ≤ min 16 (length table / 3)
-      → drop (r - 1) (rows_read table) ≡ row_at table (r - 1) ∷ drop r (rows_read table)
-  row_before r p h =
-      let l = rows_long table in
-      let back : suc (r - 1) ≡ r = omega arith in
-      let row : get_or (rows_read table) (r - 1) (row_at table (r - 1)) ≡ row_at table (r - 1) =
-      row_is table (r - 1) _ (omega arith) in
-      let first = drop-cons (rows_read table) (r - 1) (row_at table (r - 1)) (omega arith) in
-      rw (row, back) at first

@@ -1,11 +1,9 @@
 -- rank_table_positions at small series and tables, computed from the definition. Assumes nothing.
-use Rattle.std.specs.Prelude.{◌≡◌, refl, List, [], ◌∷◌, ◌++◌, map, ℕ, zero, suc, ◌-◌, ◌^◌, ℤ, pos, negsuc}
+use Rattle.std.specs.Prelude.{◌≡◌, refl, List, [], ◌∷◌, ◌++◌, map, ℕ, zero, suc, ◌-◌, ◌^◌, ℤ, pos, negsuc, Ok, Err}
 use Rattle.std.specs.Float.Ieee.{round, add, sub, mul, div, lt, eq, le, of_int, of_bits, to_bits, to_signed, is_nan}
 use Rattle.limits.specs.Limits.{longest_window}
 use Rattle.calls.specs.declared.Refusal.TheVariants.{WindowTooLong, CoveredTwice, NotCovered, PositionUnknown}
-use Rattle.calls.specs.declared.Answer.{Answer}
-use Rattle.calls.specs.declared.Answer.TheVariants.{Cells, Refused}
-use Rattle.calls.specs.Answer.{slices, checked, windowed}
+use Rattle.calls.specs.Answer.{Answer, slices, checked, windowed}
 use Rattle.values.specs.Accepted.{accepted}
 use Rattle.cells.specs.Line.{from_bar}
 use Rattle.cells.specs.Search.{every_bar}
@@ -48,7 +46,7 @@ rank_numbers = (refl, refl)
 
 -- what the table's rows are answered with, before what is next
 abbrev answer_to : List ℤ → Answer
-answer_to table = table_checked (rows_read table) (Cells 7)
+answer_to table = table_checked (rows_read table) (Ok 7)
 
 -- both tables are taken; no row; 0 left out, and 100; -100 covered twice, which comes before 3 left out and a wrong
 -- position; a position of 2, also in a row that covers nothing
@@ -60,8 +58,8 @@ table_answers : map answer_to
     ∷ (negsuc 99 ∷ pos 100 ∷ pos 2 ∷ [])
     ∷ (negsuc 99 ∷ pos 100 ∷ long ∷ pos 1 ∷ pos 0 ∷ negsuc 1 ∷ [])
     ∷ [])
-    ≡ Cells 7 ∷ Cells 7 ∷ Refused NotCovered ∷ Refused NotCovered ∷ Refused NotCovered ∷ Refused CoveredTwice
-    ∷ Refused PositionUnknown ∷ Refused PositionUnknown ∷ []
+    ≡ Ok 7 ∷ Ok 7 ∷ Err NotCovered ∷ Err NotCovered ∷ Err NotCovered ∷ Err CoveredTwice
+    ∷ Err PositionUnknown ∷ Err PositionUnknown ∷ []
 unfolding table_checked rows_read cover_count every_bar
 table_answers = refl
 
@@ -71,7 +69,7 @@ nothing zero = []
 nothing (suc k) = pos 1 ∷ pos 0 ∷ flat ∷ nothing k
 
 -- a 16th row is read, and a 17th is not
-sixteen_rows : map (λ k. answer_to (nothing k ++ halves)) (14 ∷ 15 ∷ []) ≡ Cells 7 ∷ Refused NotCovered ∷ []
+sixteen_rows : map (λ k. answer_to (nothing k ++ halves)) (14 ∷ 15 ∷ []) ≡ Ok 7 ∷ Err NotCovered ∷ []
 unfolding table_checked rows_read cover_count every_bar
 sixteen_rows = refl
 
@@ -81,7 +79,7 @@ rank_table_answers : map (λ n. rank_table_answer (prices (pos 5 ∷ [])) n [] 1
     ++ rank_table_answer (prices (pos 5 ∷ [])) 1 halves 1 8
     ∷ rank_table_answer [] 1 [] 0 0
     ∷ []
-    ≡ Refused NotCovered ∷ Cells 0 ∷ Refused NotCovered ∷ Refused WindowTooLong ∷ Cells 1 ∷ Cells 0 ∷ []
+    ≡ Err NotCovered ∷ Ok 0 ∷ Err NotCovered ∷ Err WindowTooLong ∷ Ok 1 ∷ Ok 0 ∷ []
 unfolding rank_table_answer table_checked rows_read cover_count every_bar slices checked windowed accepted of_int round
     lt eq le to_bits
 rank_table_answers = refl

@@ -1,12 +1,10 @@
 -- rank_table_positions, our own: each rank of `rank_positions` looked up in a desk's table. Assumes nothing.
-use Rattle.std.specs.Prelude.{cond, List, [], ◌∷◌, ℕ, ◌-◌, ◌*◌, ℤ, length, Float}
+use Rattle.std.specs.Prelude.{cond, List, [], ◌∷◌, ℕ, ◌-◌, ◌*◌, ℤ, length, Float, Ok}
 use Rattle.std.specs.Float.Ieee.{to_signed, is_nan}
 use Rattle.values.specs.Accepted.{accepted}
 use Rattle.cells.specs.Line.{Line, line, from_bar}
 use Rattle.windows.specs.Window.{mean}
-use Rattle.calls.specs.declared.Answer.{Answer}
-use Rattle.calls.specs.declared.Answer.TheVariants.{Cells}
-use Rattle.calls.specs.Answer.{checked, and_then, windowed}
+use Rattle.calls.specs.Answer.{Answer, checked, and_then, windowed}
 use Rattle.calls.specs.Call.{WorkCall}
 use Rattle.rules_held.specs.Held.{flat}
 use Rattle.rules_rank.specs.Rank.{whole_rank, below_now}
@@ -29,7 +27,7 @@ rank_table_line rows n f = from_bar (2 * n - 2) flat (λ i. table_position rows 
 unfoldable pub rank_table_answer : List Float → ℕ → List ℤ → ℕ → ℕ → Answer
 rank_table_answer s n table output work =
     and_then (checked accepted (s ∷ []) (output ∷ []) (work ∷ []))
-    (windowed (length s) (n ∷ []) (table_checked (rows_read table) (Cells (length s))))
+    (windowed (length s) (n ∷ []) (table_checked (rows_read table) (Ok (length s))))
 
 -- what a call of `rank_table_positions` promises
 abbrev pub RankTableCall : List Float → ℕ → List ℤ → List ℤ → List Float → Answer → List ℤ → List Float → Type 0

@@ -5,8 +5,7 @@ use Rattle.values.specs.Accepted.{all}
 use Rattle.cells.specs.Search.{every_bar}
 use Rattle.rules_held.specs.Held.{flat, long, short}
 use Rattle.calls.specs.declared.Refusal.TheVariants.{CoveredTwice, NotCovered, PositionUnknown}
-use Rattle.calls.specs.declared.Answer.{Answer}
-use Rattle.calls.specs.Answer.{unless}
+use Rattle.calls.specs.Answer.{Answer, unless}
 
 -- from and to, both included, and the position of the ranks between them
 pub record Row : Type 0 where

@@ -29,6 +29,7 @@ pub fn answer_rank_table(series: &[f64], n: usize, rows: &[i32], out: usize, wor
 }
 
 // Writes each bar's position: a count of means picks it. The rows of `work` are the means and the positions.
+// A generic loop for this one and that of rules_rank would take the cast with its condition, and be no plainer.
 fn write_by_count(series: &[f64], work: &[f64], n: usize, rows: &[i32], out: &mut [i32])
     requires table_rows { TableRows n (rows_read rows.now) series.now work.now }
     requires series_in_bounds { length series.now ≤ length out.old }
@@ -37,11 +38,10 @@ fn write_by_count(series: &[f64], work: &[f64], n: usize, rows: &[i32], out: &mu
         out.new }
 {
     let bars = series.len();
-    let mut i = rules_held::fill_flat(out, 2 * n - 2, bars);
-    while i < bars {
+    let first = rules_held::fill_flat(out, 2 * n - 2, bars);
+    for i in first..bars {
         let below = ranks::count_below(work, i + 1 - n, n - 1, work[i]);
         out[i] = work[bars + below] as i32;
-        i += 1;
     }
 }
 

@@ -1,11 +1,9 @@
-// A desk's rank table: the rows that are read, what they cover, and whether the table is taken. The loops over rows go
-// from the last row to the first.
-ghost use Rattle.std.specs.Prelude.{◌≡◌, ◌/◌, ◌≤◌, min, pos, ◌-ℤ◌};
+// A desk's rank table: the rows that are read, what they cover, and whether the table is taken.
+ghost use Rattle.std.specs.Prelude.{◌≡◌, map};
 ghost use Rattle.values.specs.Accepted.{all};
 ghost use Rattle.rules_rank_table.specs.Table.{rows_read, covers, cover_count, is_position, table_checked};
 ghost use Rattle.rules_rank_table.specs.Table.{position_for};
-ghost use Rattle.rules_rank_table.specs.Taken.{IsRead};
-ghost use Rattle.rules_rank_table.specs.inner.Stages.{row_at, Counted};
+ghost use Rattle.rules_rank_table.specs.inner.Stages.{row_of, Counted};
 
 use calls::{Answer, Refusal};
 
@@ -16,78 +14,61 @@ pub struct Coverage {
     pub some: bool,
 }
 
-// How many rows are read, by the length of the slice: finished ones, and at most 16.
-pub fn rows_read(numbers: usize) -> usize
-    ensures { result ≡ min 16 (numbers / 3) }
+// The rows that are read: finished ones, and at most 16.
+pub fn rows_read(numbers: &[i32]) -> &[[i32; 3]]
+    ensures { map row_of result.now ≡ rows_read numbers.now }
 {
-    cells::smaller(16, numbers / 3)
+    let (rows, _) = numbers.as_chunks();
+    &rows[..rows.len().min(16)]
 }
 
-// Whether row r covers k.
-pub fn row_covers(rows: &[i32], r: usize, k: i32) -> bool
-    requires { IsRead rows.now r }
-    ensures { result ≡ covers k (row_at rows.now r) }
+// Whether a row covers k.
+pub fn row_covers(row: &[i32; 3], k: i32) -> bool
+    ensures { result ≡ covers k (row_of row.now) }
 {
-    (rows[3 * r] <= k) & (k <= rows[3 * r + 1])
+    (row[0] <= k) & (k <= row[1])
 }
 
 // How many rows cover k.
-pub fn cover_count(rows: &[i32], k: i32) -> usize
-    ensures { result ≡ cover_count k (rows_read rows.now) }
+pub fn cover_count(rows: &[[i32; 3]], k: i32) -> usize
+    ensures { result ≡ cover_count k (map row_of rows.now) }
 {
-    let mut r = rows_read(rows.len());
-    let mut count = 0;
-    while r > 0 {
-        r -= 1;
-        if row_covers(rows, r, k) {
-            count += 1;
-        }
-    }
-    count
-}
-
-// The number that stands at j where they are counted from -100 on.
-pub fn number_at(j: usize) -> i32
-    requires { j ≤ 200 }
-    ensures { result ≡ pos j -ℤ pos 100 }
-{
-    (j as i32) - 100
+    rows.iter().filter(|row| row_covers(row, k)).count()
 }
 
 // How often the numbers from -100 to 100 are covered.
-pub fn count_covers(rows: &[i32]) -> Coverage
-    ensures { Counted (rows_read rows.now) 201 result.once result.some }
+pub fn count_covers(rows: &[[i32; 3]]) -> Coverage
+    ensures { Counted (map row_of rows.now) 201 result.once result.some }
 {
     let mut once = true;
     let mut some = true;
-    let mut j = 0;
-    while j < 201 {
-        let count = cover_count(rows, number_at(j));
-        once = once & (count <= 1);
-        some = some & (count >= 1);
-        j += 1;
+    for k in -100..=100 {
+        let count = cover_count(rows, k);
+        once &= count <= 1;
+        some &= count >= 1;
     }
     Coverage { once, some }
 }
 
-// Whether each position that is read is -1, 0 or 1.
-pub fn positions_known(rows: &[i32]) -> bool
-    ensures { result ≡ all (λ row. is_position row.position) (rows_read rows.now) }
+// Whether a row's position is -1, 0 or 1.
+pub fn position_known(row: &[i32; 3]) -> bool
+    ensures { result ≡ is_position (row_of row.now).position }
 {
-    let mut r = rows_read(rows.len());
-    let mut known = true;
-    while r > 0 {
-        r -= 1;
-        let position = rows[3 * r + 2];
-        known = (-1 <= position) & (position <= 1) & known;
-    }
-    known
+    (-1 <= row[2]) & (row[2] <= 1)
+}
+
+// Whether each row's position is known.
+pub fn positions_known(rows: &[[i32; 3]]) -> bool
+    ensures { result ≡ all (λ row. is_position row.position) (map row_of rows.now) }
+{
+    rows.iter().all(position_known)
 }
 
 // The refusals of the table, then what is next.
-pub fn check_table(rows: &[i32], next: Answer) -> Answer
-    ensures { result ≡ table_checked (rows_read rows.now) next }
+pub fn check_table(numbers: &[i32], next: Answer) -> Answer
+    ensures { result ≡ table_checked (rows_read numbers.now) next }
 {
+    let rows = rows_read(numbers);
     let covered = count_covers(rows);
     let known = positions_known(rows);
     let unknown = checks::unless_refused(known, Refusal::PositionUnknown, next);
@@ -96,16 +77,13 @@ pub fn check_table(rows: &[i32], next: Answer) -> Answer
 }
 
 // The position of the first row that covers k, and 0 where none does.
-pub fn position_for(rows: &[i32], k: i32) -> i32
-    ensures { result ≡ position_for k (rows_read rows.now) }
+pub fn position_for(rows: &[[i32; 3]], k: i32) -> i32
+    ensures { result ≡ position_for k (map row_of rows.now) }
 {
-    let mut r = rows_read(rows.len());
-    let mut position = 0;
-    while r > 0 {
-        r -= 1;
-        if row_covers(rows, r, k) {
-            position = rows[3 * r + 2];
+    for row in rows {
+        if row_covers(row, k) {
+            return row[2];
         }
     }
-    position
+    0
 }

@@ -1,16 +1,13 @@
 -- The rows of the work slice: gains and losses of the means' changes, and their sums. Assumes nothing.
 use mathlib.Core.Path.{◌≡◌, refl, sym, ap, ◌∙◌}
-use mathlib.Core.Bool.{Bool, true, false, cond, ◌&&◌}
+use mathlib.Core.Bool.{Bool, true, false, cond}
 use mathlib.Core.List.{List}
 use Prim.Native.Nat.{ℕ, zero, suc, ◌+◌, ◌-◌, ◌*◌, ◌<◌, ◌≤◌}
 use native.Mathlib.Nat.{zero-add}
 use native.Mathlib.Omega.{arith}
-use borrow.Author.Tests.{leb-true}
-use lib.Dec.{leb}
 use lib.IntN.{pos}
 use lib.ListN.{length}
 use lib.Ieee.{Float, nan, binary64, of_int, lt}
-use Rattle.values.proofs.All.{and_parts}
 use Rattle.cells.specs.Line.{Line, line, plus_zero, minus_zero}
 use Rattle.cells.specs.Written.{Writing}
 use Rattle.cells.specs.inner.Touched.{Touched}
@@ -18,72 +15,71 @@ use Rattle.cells.proofs.Leads.{not_yet}
 use Rattle.cells.proofs.RowWrites.{beside_first, beside_second}
 use Rattle.cells.proofs.Touched.{touched, touched_then, touched_more}
 use Rattle.cells.proofs.Written.{read_back, writing_same}
-use Rattle.windows.specs.declared.Eight.{Eight}
-use Rattle.windows.specs.inner.Eight.{EightOf}
 use Rattle.windows.specs.Window.{sum_from, window_sum, mean}
 use Rattle.windows.proofs.Zeros.{EitherZero, either_above, either_plus, sums_from_either}
 use Rattle.window_means.specs.inner.Row.{RowHolds}
 use Rattle.window_means.proofs.Row.{none_of_row, row_before, first_row, row_stands}
-use Rattle.changes.specs.Changes.{gain, gains, losses}
+use Rattle.changes.specs.Changes.{gain, loss, gains, losses}
 use Rattle.changes.proofs.Causal.{causal_change}
 use Rattle.rules_rsi.specs.RsiReverse.{first_change, changes_before, sum_before, rsi_before}
-use Rattle.rules_rsi.specs.inner.Stages.{part, parts, with_parts, Changed, index_by, each_index}
+use Rattle.rules_rsi.specs.inner.Stages.{parts, with_parts, Changed, index_by}
 use Rattle.rules_rsi.proofs.Index.{changes_before_lem, first_change_lem, index_is}
 
 -- ---- a row of gains or losses
 
-module _ (losing : Bool) (to : ℕ) (old : List Float) where
-  pub before_parts : (j : ℕ) → j < to + 1 → with_parts losing to old j ≡ line old j
+module _ (part : Float → Float) (to : ℕ) (old : List Float) where
+  pub before_parts : (j : ℕ) → j < to + 1 → with_parts part to old j ≡ line old j
   before_parts j h = beside_first (to + 1) _ _ j h
 
-  pub parts_cell : (i : ℕ) → 0 < i → with_parts losing to old (to + i) ≡ parts losing (line old) i
+  pub parts_cell : (i : ℕ) → 0 < i → with_parts part to old (to + i) ≡ parts part (line old) i
   parts_cell i h =
       let cell : to + i ≡ to + 1 + (i - 1) = omega arith in
       let bar : i - 1 + 1 ≡ i = omega arith in
       rw cell (beside_second (to + 1) _ _ (i - 1) ∙ rw bar)
 
   -- none is written yet
-  pub none_of_parts : Writing (to + 1) (with_parts losing to old) old old
+  pub none_of_parts : Writing (to + 1) (with_parts part to old) old old
   none_of_parts =
       writing_same (none_of_row 0 to 0 1 old)
       (λ j l. row_before 0 to 0 1 old j l ∙ sym (before_parts j l))
 
-parts_same : (losing : Bool) (f g : Line) (i : ℕ) → ((j : ℕ) → j ≤ i → f j ≡ g j) → parts losing f i ≡ parts losing g i
-parts_same losing f g i s = ap (part losing) (causal_change plus_zero f g i s)
+parts_same : (part : Float → Float) (f g : Line) (i : ℕ) → ((j : ℕ) → j ≤ i → f j ≡ g j)
+    → parts part f i ≡ parts part g i
+parts_same part f g i s = ap part (causal_change plus_zero f g i s)
 
-module _ (losing : Bool) (to : ℕ) {e : ℕ} {old now : List Float} (w : Writing e (with_parts losing to old) old now)
+module _ (part : Float → Float) (to : ℕ) {e : ℕ} {old now : List Float} (w : Writing e (with_parts part to old) old now)
   where
     -- the cells before the row are as they were
     pub cell_stays : (j : ℕ) → (j ≤ to) × (j < e) × (j < length old) → line now j ≡ line old j
-    cell_stays j (a, b, c) = read_back j nan w (b, c) ∙ before_parts losing to old j (omega arith)
+    cell_stays j (a, b, c) = read_back j nan w (b, c) ∙ before_parts part to old j (omega arith)
 
     -- so the next cell is what the row asks
     pub next_part : (i : ℕ) → (0 < i) × (i < to) × (to < e) × (to < length old)
-        → parts losing (line now) i ≡ with_parts losing to old (to + i)
+        → parts part (line now) i ≡ with_parts part to old (to + i)
     next_part i (a, b, c, d) =
-        parts_same losing (line now) (line old) i (λ j l. cell_stays j (omega arith))
-        ∙ sym (parts_cell losing to old i a)
+        parts_same part (line now) (line old) i (λ j l. cell_stays j (omega arith))
+        ∙ sym (parts_cell part to old i a)
 
-module _ (losing : Bool) (to : ℕ) {bars : ℕ} {old now : List Float}
-    (w : Writing (to + bars) (with_parts losing to old) old now) (r : to + bars ≤ length old) where
+module _ (part : Float → Float) (to : ℕ) {bars : ℕ} {old now : List Float}
+    (w : Writing (to + bars) (with_parts part to old) old now) (r : to + bars ≤ length old) where
   -- the row holds them
-  pub row_of_parts : {g : Line} → RowHolds 0 0 bars g old → RowHolds to 1 bars (parts losing g) now
+  pub row_of_parts : {g : Line} → RowHolds 0 0 bars g old → RowHolds to 1 bars (parts part g) now
   row_of_parts {g} h = record {
     cell = λ i l.
         read_back (to + i) nan w (omega arith)
-        ∙ parts_cell losing to old i l.0
-        ∙ parts_same losing (line old) g i (λ j m. rw zero-add at (h.cell j (omega arith)));
+        ∙ parts_cell part to old i l.0
+        ∙ parts_same part (line old) g i (λ j m. rw zero-add at (h.cell j (omega arith)));
   }
 
   -- and a row before it still holds its own
   pub row_stays : {at lo : ℕ} {f : Line} → RowHolds at lo bars f old → at + bars ≤ to → RowHolds at lo bars f now
-  row_stays = row_stands (λ j l. cell_stays losing to w j (omega arith))
+  row_stays = row_stands (λ j l. cell_stays part to w j (omega arith))
 
 -- the means, and then both rows
 pub three_rows : (n : ℕ) (s : List Float) {w0 w1 w2 w3 : List Float} → 3 * length s ≤ length w0
     → Writing (length s) (mean n (line s)) w0 w1
-    → Writing (length s + length s) (with_parts false (length s) w1) w1 w2
-    → Writing (2 * length s + length s) (with_parts true (2 * length s) w2) w2 w3
+    → Writing (length s + length s) (with_parts gain (length s) w1) w1 w2
+    → Writing (2 * length s + length s) (with_parts loss (2 * length s) w2) w2 w3
     → Changed n s w3 × Touched (3 * length s) w0 w3
 unfolding gains losses
 three_rows n s {w0} {w1} {w2} {w3} h a b c =
@@ -91,13 +87,13 @@ three_rows n s {w0} {w1} {w2} {w3} h a b c =
     let l2 : length w2 ≡ length w0 = b.long ∙ l1 in
     let l3 : length w3 ≡ length w0 = c.long ∙ l2 in
     let means1 = first_row a (omega arith) in
-    let means2 = row_stays false (length s) b (omega arith) means1 (omega arith) in
-    let up = row_of_parts false (length s) b (omega arith) means1 in
-    let up_stays = row_stays true (2 * length s) c (omega arith) up (omega arith) in
+    let means2 = row_stays gain (length s) b (omega arith) means1 (omega arith) in
+    let up = row_of_parts gain (length s) b (omega arith) means1 in
+    let up_stays = row_stays loss (2 * length s) c (omega arith) up (omega arith) in
     let t1 : Touched (3 * length s) w0 w1 = touched_more (touched a) (omega arith) in
     let t2 : Touched (3 * length s) w1 w2 = touched_more (touched b) (omega arith) in
     let t3 : Touched (3 * length s) w2 w3 = touched_more (touched c) (omega arith) in (
-      record { room = omega arith; up = up_stays; down = row_of_parts true (2 * length s) c (omega arith) means2 },
+      record { room = omega arith; up = up_stays; down = row_of_parts loss (2 * length s) c (omega arith) means2 },
       touched_then (touched_then t1 t2) t3,
     )
 
@@ -167,33 +163,11 @@ module _ {at bars : ℕ} {f : Line} {now : List Float} (row : RowHolds at 1 bars
         let bar : at + i - 1 + j ≡ at + (i + j) - 1 = omega arith in
         rw (count, bar) (row_sum n (i + j) (first_change n (i + j)) (omega arith))
 
--- ---- eight indexes side by side
+-- ---- an index where n changes count, by its sums
 
--- sixteen bars are left, and each of them has n changes
-pub whole_sixteen : (n i bars : ℕ) → leb (2 * n) i && leb (i + 16) bars ≡ true → (2 * n ≤ i) × (i + 16 ≤ bars)
-whole_sixteen n i bars e =
-    let both = and_parts (leb (2 * n) i) (leb (i + 16) bars) e in
-    (leb-true _ _ both.0, leb-true _ _ both.1)
-
-full_index : (n j : ℕ) (g : Line) {x y : Float} → x ≡ sum_before n (gains g) j → y ≡ sum_before n (losses g) j
+pub full_index : (n j : ℕ) (g : Line) {x y : Float} → x ≡ sum_before n (gains g) j → y ≡ sum_before n (losses g) j
     → 2 * n ≤ j
     → index_by (of_int binary64 (pos n)) x y ≡ rsi_before n g j
 full_index n j g p q h =
     let count : changes_before n j ≡ n = omega (arith, changes_before_lem n j) in
     rw count at (index_is n j g p q (omega arith))
-
-pub eight_indexes : (n i : ℕ) (g : Line) {up down r : Eight} → EightOf (sum_before n (gains g)) i up
-    → EightOf (sum_before n (losses g)) i down
-    → r ≡ each_index (of_int binary64 (pos n)) up down → 2 * n ≤ i → EightOf (rsi_before n g) i r
-eight_indexes n i g u d e h =
-    rw e
-    (record {
-      lane0 = full_index n i g u.lane0 d.lane0 (omega arith);
-      lane1 = full_index n (i + 1) g u.lane1 d.lane1 (omega arith);
-      lane2 = full_index n (i + 2) g u.lane2 d.lane2 (omega arith);
-      lane3 = full_index n (i + 3) g u.lane3 d.lane3 (omega arith);
-      lane4 = full_index n (i + 4) g u.lane4 d.lane4 (omega arith);
-      lane5 = full_index n (i + 5) g u.lane5 d.lane5 (omega arith);
-      lane6 = full_index n (i + 6) g u.lane6 d.lane6 (omega arith);
-      lane7 = full_index n (i + 7) g u.lane7 d.lane7 (omega arith);
-    })

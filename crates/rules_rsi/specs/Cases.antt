@@ -1,12 +1,11 @@
 -- rsi_reverse_positions at small series, with the cells that pure.rs gives, and its answers. Assumes nothing.
-use Rattle.std.specs.Prelude.{◌≡◌, refl, true, false, List, [], ◌∷◌, ℕ, suc, ℤ, pos, Float}
+use Rattle.std.specs.Prelude.{◌≡◌, refl, true, false, List, [], ◌∷◌, ℕ, suc, ℤ, pos, Float, Ok, Err}
 use Rattle.std.specs.Float.{nan, inf}
 use Rattle.std.specs.Float.Ieee.{round, neg, add, sub, mul, div, lt, eq, le, of_int, of_bits, to_bits}
 use Rattle.limits.specs.Limits.{longest_window}
 use Rattle.rounding.specs.Leaves.{minus_one}
 use Rattle.rounding.specs.Literals.{half, hundred}
 use Rattle.calls.specs.declared.Refusal.TheVariants.{ParameterNotFinite, WindowTooLong}
-use Rattle.calls.specs.declared.Answer.TheVariants.{Cells, Refused}
 use Rattle.values.specs.Accepted.{accepted, finite}
 use Rattle.calls.specs.Answer.{slices, checked, answered_with}
 use Rattle.cells.specs.Line.{plus_zero, from_bar}
@@ -66,7 +65,7 @@ rsi_reverse_answers : answered_with accepted (plus_zero ∷ []) (hundred ∷ plu
     ∷ answered_with accepted (plus_zero ∷ []) (hundred ∷ plus_zero ∷ half ∷ []) (0 ∷ []) 1 (8 ∷ [])
     ∷ answered_with accepted [] (hundred ∷ plus_zero ∷ half ∷ []) (1 ∷ []) 0 (0 ∷ [])
     ∷ []
-    ≡ Cells 1 ∷ Refused ParameterNotFinite ∷ Refused ParameterNotFinite ∷ Refused ParameterNotFinite
-    ∷ Refused WindowTooLong ∷ Cells 0 ∷ Cells 0 ∷ []
+    ≡ Ok 1 ∷ Err ParameterNotFinite ∷ Err ParameterNotFinite ∷ Err ParameterNotFinite
+    ∷ Err WindowTooLong ∷ Ok 0 ∷ Ok 0 ∷ []
 unfolding answered_with slices checked accepted finite lt eq le to_bits
 rsi_reverse_answers = refl

@@ -9,8 +9,7 @@ use Rattle.rounding.specs.Literals.{hundred}
 use Rattle.windows.specs.Window.{sum_from, over, mean}
 use Rattle.changes.specs.Changes.{gains, losses, rsi_formula}
 use Rattle.values.specs.Accepted.{accepted}
-use Rattle.calls.specs.declared.Answer.{Answer}
-use Rattle.calls.specs.Answer.{answered_with}
+use Rattle.calls.specs.Answer.{Answer, answered_with}
 use Rattle.calls.specs.Call.{WorkCall}
 
 -- what a flat position opens: long below `lower`, else short above `upper`

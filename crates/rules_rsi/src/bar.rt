@@ -21,10 +21,7 @@ pub fn index_by(up: f64, down: f64, count: f64) -> f64
 fn changes_before(n: usize, i: usize) -> usize
     ensures { result ≡ changes_before n i }
 {
-    if i < n {
-        return 0;
-    }
-    cells::smaller(i - n, n)
+    i.saturating_sub(n).min(n)
 }
 
 // The index at bar i: NaN where there are fewer than n - 1 changes, and 100 where none are needed.
@@ -35,7 +32,7 @@ pub fn index_at(series: &[f64], n: usize, i: usize, work: &[f64]) -> f64
 {
     let count = changes_before(n, i);
     if count < n - 1 {
-        return 0.0 / 0.0;
+        return f64::NAN;
     }
     if count == 0 {
         return 100.0;

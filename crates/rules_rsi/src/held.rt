@@ -33,10 +33,8 @@ pub fn write_turned(indexes: &[f64], upper: f64, lower: f64, exit: f64, out: &mu
         out.old out.new }
 {
     let mut position = 0;
-    let mut i = 0;
-    while i < indexes.len() {
+    for i in 0..indexes.len() {
         position = turned_by(position, indexes[i], upper, lower, exit);
         out[i] = position;
-        i += 1;
     }
 }

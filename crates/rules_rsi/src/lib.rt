@@ -4,7 +4,7 @@
 mod bar;
 mod held;
 
-ghost use Rattle.std.specs.Prelude.{◌≡◌, ◌+◌, ◌*◌, ◌<◌, ◌≤◌, length};
+ghost use Rattle.std.specs.Prelude.{◌+◌, ◌*◌, ◌<◌, ◌≤◌, length, Float};
 ghost use Rattle.limits.specs.Limits.{Window};
 ghost use Rattle.cells.specs.Line.{line};
 ghost use Rattle.cells.specs.Written.{Writing};
@@ -12,32 +12,18 @@ ghost use Rattle.cells.specs.inner.Touched.{Touched};
 ghost use Rattle.windows.specs.Window.{mean};
 ghost use Rattle.checks.specs.inner.Due.{Priced};
 ghost use Rattle.rules_rsi.specs.RsiReverse.{rsi_before, rsi_reverse_line};
-ghost use Rattle.rules_rsi.specs.inner.Stages.{part, with_parts, Changed, each_index, IndexesBefore, MoreIndexes};
+ghost use Rattle.rules_rsi.specs.inner.Stages.{Computes, with_parts, Changed, IndexesBefore, MoreIndexes};
 
-use windows::Eight;
-
-// The loss of a change, or its gain.
-fn part_of(change: f64, losing: bool) -> f64
-    ensures { result ≡ part losing change }
-{
-    if losing {
-        changes::loss_of(change)
-    } else {
-        changes::gain_of(change)
-    }
-}
-
-// Writes the losses of the changes in the first row, or their gains, to the row that begins at cell `to`. Its first
+// Writes a part of each change in the first row, as `part` gives it, to the row that begins at cell `to`. Its first
 // cell is left, since bar 0 has no change.
-fn write_parts(work: &mut [f64], to: usize, bars: usize, losing: bool)
-    requires { (0 < bars) × (bars ≤ to) × (to + bars ≤ length work.old) }
-    ensures { Writing (to + bars) (with_parts losing to work.old) work.old
-        work.new }
+fn write_parts<F: Fn(f64) -> f64>(work: &mut [f64], to: usize, bars: usize, part: F)
+    requires room { (0 < bars) × (bars ≤ to) × (to + bars ≤ length work.old) }
+    requires callable { F.IsAlwaysCallable part }
+    ensures { (g : Float → Float) → Computes (F.post part) g
+        → Writing (to + bars) (with_parts g to work.old) work.old work.new }
 {
-    let mut i = 1;
-    while i < bars {
-        work[to + i] = part_of(changes::change_at(work, i), losing);
-        i += 1;
+    for i in 1..bars {
+        work[to + i] = part(changes::change_at(work, i));
     }
 }
 
@@ -50,24 +36,8 @@ fn write_changes(series: &[f64], n: usize, work: &mut [f64])
 {
     let bars = series.len();
     window_means::write_means_of_prices(series, n, work);
-    write_parts(work, bars, bars, false);
-    write_parts(work, 2 * bars, bars, true);
-}
-
-// The same for eight bars side by side.
-fn index_of_eight(up: Eight, down: Eight, count: f64) -> Eight
-    ensures { result ≡ each_index count up down }
-{
-    Eight {
-        lane0: bar::index_by(up.lane0, down.lane0, count),
-        lane1: bar::index_by(up.lane1, down.lane1, count),
-        lane2: bar::index_by(up.lane2, down.lane2, count),
-        lane3: bar::index_by(up.lane3, down.lane3, count),
-        lane4: bar::index_by(up.lane4, down.lane4, count),
-        lane5: bar::index_by(up.lane5, down.lane5, count),
-        lane6: bar::index_by(up.lane6, down.lane6, count),
-        lane7: bar::index_by(up.lane7, down.lane7, count),
-    }
+    write_parts(work, bars, bars, changes::gain_of);
+    write_parts(work, 2 * bars, bars, changes::loss_of);
 }
 
 // Writes the indexes of the sixteen bars from bar i on, which have n changes each, to the first row.
@@ -78,11 +48,12 @@ fn write_sixteen(series: &[f64], n: usize, i: usize, work: &mut [f64])
         work.new }
 {
     let bars = series.len();
-    let up = windows::sums_of_sixteen(work, n, bars + i - 1);
-    let down = windows::sums_of_sixteen(work, n, 2 * bars + i - 1);
+    let up: [f64; 16] = windows::sums_side_by_side(work, n, bars + i - 1);
+    let down: [f64; 16] = windows::sums_side_by_side(work, n, 2 * bars + i - 1);
     let count = n as f64;
-    window_means::store_eight(work, i, index_of_eight(up.low, down.low, count));
-    window_means::store_eight(work, i + 8, index_of_eight(up.high, down.high, count));
+    for lane in 0..16 {
+        work[i + lane] = bar::index_by(up[lane], down[lane], count);
+    }
 }
 
 // Writes the indexes of a few bars from bar i on to the first row, and gives how many they are.
@@ -90,8 +61,7 @@ fn write_some(series: &[f64], n: usize, i: usize, work: &mut [f64]) -> usize
     requires { IndexesBefore n series.now i work.old }
     ensures { MoreIndexes n series.now i result work.old work.new }
 {
-    let whole = (2 * n <= i) & (i + 16 <= series.len());
-    if whole {
+    if 2 * n <= i && i + 16 <= series.len() {
         write_sixteen(series, n, i, work);
         16
     } else {
@@ -107,6 +77,7 @@ fn write_indexes(series: &[f64], n: usize, work: &mut [f64])
         work.old work.new }
 {
     let mut i = 0;
+    // `while`: a turn writes one bar or sixteen.
     while i < series.len() {
         i += write_some(series, n, i, work);
     }

@@ -1,10 +1,9 @@
 -- The one-average rule at small series, computed from the definition. Assumes nothing.
-use Rattle.std.specs.Prelude.{true, false, [], ◌∷◌, map, ◌≡◌, refl, pos, negsuc, replicate, Float}
+use Rattle.std.specs.Prelude.{true, false, [], ◌∷◌, map, ◌≡◌, refl, pos, negsuc, replicate, Float, Ok, Err}
 use Rattle.std.specs.Float.{fin}
 use Rattle.std.specs.Float.Ieee.{round, add, sub, div, of_int, lt, eq, le, to_bits}
 use Rattle.rounding.specs.Leaves.{one, sign_of}
 use Rattle.calls.specs.declared.Refusal.TheVariants.{WorkTooShort}
-use Rattle.calls.specs.declared.Answer.TheVariants.{Cells, Refused}
 use Rattle.values.specs.Accepted.{accepted}
 use Rattle.calls.specs.Answer.{slices, checked, windowed, answered}
 use Rattle.cells.specs.Line.{plus_zero, from_bar}
@@ -39,7 +38,7 @@ unfolding single_line mean window_sum sum_from from_bar sign_of add sub div of_i
 single_edges = refl
 
 -- a work slice of 8 cells for each bar is enough, and one less is not
-work_answers : map (λ work. answered accepted (plus_zero ∷ []) (1 ∷ []) 1 (work ∷ [])) (8 ∷ 7 ∷ []) ≡ Cells 1
-    ∷ Refused WorkTooShort ∷ []
+work_answers : map (λ work. answered accepted (plus_zero ∷ []) (1 ∷ []) 1 (work ∷ [])) (8 ∷ 7 ∷ []) ≡ Ok 1
+    ∷ Err WorkTooShort ∷ []
 unfolding answered slices checked windowed accepted lt eq le to_bits
 work_answers = refl

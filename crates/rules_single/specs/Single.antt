@@ -5,9 +5,8 @@ use Rattle.std.specs.Float.Ieee.{sub, eq}
 use Rattle.cells.specs.Line.{plus_zero, Line, from_bar, line}
 use Rattle.rounding.specs.Leaves.{sign_of}
 use Rattle.windows.specs.Window.{mean}
-use Rattle.calls.specs.Answer.{answered}
+use Rattle.calls.specs.Answer.{answered, Answer}
 use Rattle.calls.specs.Call.{WorkCall}
-use Rattle.calls.specs.declared.Answer.{Answer}
 use Rattle.values.specs.Accepted.{accepted}
 
 -- the sign of price less its average, 0 where that average is 0.0

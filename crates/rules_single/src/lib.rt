@@ -4,7 +4,7 @@
 ghost use Rattle.std.specs.Prelude.{◌≡◌, length, true, ◌+◌, ◌*◌, ◌<◌, ◌≤◌};
 ghost use Rattle.cells.specs.Line.{line};
 ghost use Rattle.cells.specs.Written.{Writing};
-ghost use Rattle.windows.specs.inner.Eight.{WindowRoom};
+ghost use Rattle.windows.specs.inner.Windows.{WindowRoom};
 ghost use Rattle.rules_single.specs.Single.{against_mean, single_line};
 ghost use Rattle.rules_single.specs.inner.Positions.{positions};
 ghost use Rattle.rules_single.specs.inner.Tie.{tie};
@@ -30,10 +30,9 @@ pub fn write_against_means(series: &[f64], n: usize, out: &mut [f64])
     ensures { Writing (length series.now)
         (positions n (line series.now) (line out.old)) out.old out.new }
 {
-    let mut i = cells::fill_lead(out, 2 * n - 2, series.len(), 0.0);
-    while i < series.len() {
+    let first = cells::fill_lead(out, 2 * n - 2, series.len(), 0.0);
+    for i in first..series.len() {
         out[i] = against_mean(series[i], out[i]);
-        i += 1;
     }
 }
 
@@ -41,7 +40,7 @@ pub fn write_against_means(series: &[f64], n: usize, out: &mut [f64])
 pub fn is_tie(scaled: f64, total: f64) -> bool
     ensures { result ≡ tie scaled total }
 {
-    if scaled == total { true } else { total == 0.0 }
+    scaled == total || total == 0.0
 }
 
 // The position of bar i. The rows of `work` are the means, which decide a tie, and the sums of the last n window sums.
@@ -68,10 +67,9 @@ fn write_tick_positions(series: &[f64], work: &[f64], n: usize, out: &mut [f64])
     ensures { Writing (length series.now) (single_line n (line series.now))
         out.old out.new }
 {
-    let mut i = cells::fill_lead(out, 2 * n - 2, series.len(), 0.0);
-    while i < series.len() {
+    let first = cells::fill_lead(out, 2 * n - 2, series.len(), 0.0);
+    for i in first..series.len() {
         out[i] = tick_position(series, work, n, i);
-        i += 1;
     }
 }
 
@@ -136,10 +134,7 @@ pub fn write_single(series: &[f64], n: usize, out: &mut [f64], work: &mut [f64])
 {
     if window_means::are_long_ticks(series, n) {
         write_single_of_ticks(series, n, out, work);
-        return;
+    } else if !write_single_by_margins(series, n, out, work) {
+        write_single_of_means(series, n, out, work);
     }
-    if write_single_by_margins(series, n, out, work) {
-        return;
-    }
-    write_single_of_means(series, n, out, work);
 }

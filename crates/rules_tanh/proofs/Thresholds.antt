@@ -5,12 +5,14 @@ use mathlib.Core.Bool.{Bool, true, false, not, cond, true≢false}
 use mathlib.Core.List.{◌∷◌}
 use Prim.Native.Nat.{ℕ, zero, suc, ◌+◌, ◌-◌, ◌<◌, ◌≤◌, zero-le}
 use native.Mathlib.Nat.{le_refl}
-use native.Mathlib.Numerals.{add-one}
 use native.Mathlib.Omega.{arith}
 use lib.Dec.{leb}
 use borrow.Author.Tests.{leb-true, leb-false}
 use lib.ListN.{length, get_or}
 use lib.Ieee.{Float, nan, inf, fin, of_bits, lt, eq, le, is_nan}
+use Rattle.std.specs.List.{AllWithin}
+use Rattle.std.specs.List.Sorted.{IsPartitionedBy, IsPartitionPoint}
+use Rattle.std.proofs.lemmas.List.{get_or_default}
 use Rattle.rounding.specs.Leaves.{minus_one}
 use Rattle.rounding_order.proofs.Compared.{le_is}
 use Rattle.extremes.proofs.Order.{lt_between}
@@ -148,35 +150,25 @@ steps_grow x y h = largest_grows 100 _ _ h
 
 -- ---- the search
 
--- the largest k lies from low to high
-pub record Searched (size : Float) (low high : ℕ) : Type 0 where
-  pub order : low ≤ high
-  pub most : high ≤ 100
-  pub at_most : 0 < low → le (threshold_of low) size ≡ true
-  pub above : high < 100 → le (threshold_of (suc high)) size ≡ false
+-- no threshold that is at most a size comes after one that is not
+pub in_two_parts : (size : Float) → IsPartitionedBy (λ t. le t size) thresholds
+unfolding threshold_of
+in_two_parts size i j d l m e = go (le (get_or thresholds i nan) size) refl
+  where
+    go : (t : Bool) → le (get_or thresholds i nan) size ≡ t → le (get_or thresholds i d) size ≡ true
+    go true f = rw (get_or_default thresholds i d nan (omega arith)) f
+    go false f =
+        let same : suc i + (j - i) ≡ suc j = omega arith in
+        let above = rw same at (below_later size (suc i) (j - i) (omega (arith, how_many)) f) in
+        absurd (true≢false (sym e ∙ rw (get_or_default thresholds j d nan m) above))
 
-pub not_searched : {size : Float} → Searched size 0 100
-not_searched = record {
-  order = zero-le;
-  most = le_refl 100;
-  at_most = λ p. absurd (omega arith);
-  above = λ p. absurd (omega arith);
-}
-
-module _ {size : Float} {low high : ℕ} (s : Searched size low high) (k : ℕ) where
-  -- the entry k is that of k + 1, at most the size
-  pub upper_half : k < high → le (get_or thresholds k nan) size ≡ true → Searched size (k + 1) high
-  unfolding threshold_of
-  upper_half h e =
-      record { order = omega arith; most = s.most; at_most = λ p. rw add-one e; above = s.above }
-
-  -- or not
-  pub lower_half : (low ≤ k) × (k < high) → le (get_or thresholds k nan) size ≡ false → Searched size low k
-  unfolding threshold_of
-  lower_half (l, h) e =
-      record { order = l; most = omega (arith, s.most); at_most = s.at_most; above = λ p. e }
-
-pub found : {size : Float} {low high : ℕ} → Searched size low high → high ≤ low → low ≡ steps_of size
-found {size} {low} {high} s h =
-    let same : high ≡ low = omega (arith, s.order) in
-    sym (steps_at size low (omega (arith, s.most)) s.at_most (rw same at s.above))
+-- so the largest k is where they part
+pub found : (size : Float) (k : ℕ) → k ≤ 100
+    → IsPartitionPoint (λ t. le t size ≡ true) (λ t. le t size ≡ false) thresholds k → k ≡ steps_of size
+unfolding threshold_of
+found size k h (under, over) =
+    sym (steps_at size k h (at_most k under) (λ l. over k nan (le_refl k) (omega (arith, how_many))))
+  where
+    at_most : (k : ℕ) → AllWithin (λ t. le t size ≡ true) thresholds 0 k → 0 < k → le (threshold_of k) size ≡ true
+    at_most zero u p = absurd (omega arith)
+    at_most (suc k) u p = u k nan zero-le (le_refl (suc k))

@@ -1,11 +1,10 @@
 -- The tanh rule at small series, with the cells that pure.rs gives, the cells of scores, and its answers. Assumes
 -- nothing.
-use Rattle.std.specs.Prelude.{◌≡◌, refl, true, false, [], ◌∷◌, map, suc, pos, negsuc}
+use Rattle.std.specs.Prelude.{◌≡◌, refl, true, false, [], ◌∷◌, map, suc, pos, negsuc, Ok, Err}
 use Rattle.std.specs.Float.{nan, inf}
 use Rattle.std.specs.Float.Ieee.{round, add, sub, mul, div, lt, eq, le, of_int, of_bits, to_bits}
 use Rattle.limits.specs.Limits.{longest_window}
 use Rattle.calls.specs.declared.Refusal.TheVariants.{WindowTooLong}
-use Rattle.calls.specs.declared.Answer.TheVariants.{Cells, Refused}
 use Rattle.calls.specs.Answer.{slices, checked, windowed, answered}
 use Rattle.values.specs.Accepted.{accepted}
 use Rattle.rounding.specs.Leaves.{plus_one, minus_one, magnitude_of, sign_of}
@@ -65,6 +64,6 @@ tanh_edges = (refl, refl, refl, refl, refl, refl)
 -- one bar; a window of 0; the longest window, and one too long
 tanh_answers : map (λ n. answered accepted (plus_zero ∷ []) (n ∷ []) 1 (8 ∷ []))
     (1 ∷ 0 ∷ longest_window ∷ suc longest_window ∷ [])
-    ≡ Cells 1 ∷ Cells 0 ∷ Cells 1 ∷ Refused WindowTooLong ∷ []
+    ≡ Ok 1 ∷ Ok 0 ∷ Ok 1 ∷ Err WindowTooLong ∷ []
 unfolding answered slices checked windowed accepted lt eq le to_bits
 tanh_answers = refl

@@ -9,8 +9,7 @@ use Rattle.cells.specs.Line.{Line, line, plus_zero, minus_zero, from_bar}
 use Rattle.windows.specs.Window.{mean}
 use Rattle.deviations.specs.Deviation.{deviation}
 use Rattle.values.specs.Accepted.{accepted}
-use Rattle.calls.specs.declared.Answer.{Answer}
-use Rattle.calls.specs.Answer.{answered}
+use Rattle.calls.specs.Answer.{Answer, answered}
 use Rattle.calls.specs.Call.{WorkCall}
 use Rattle.rules_tanh.specs.Recorded.{threshold_bits}
 

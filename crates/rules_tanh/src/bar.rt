@@ -5,22 +5,12 @@ ghost use Rattle.std.specs.Float.{binary64};
 ghost use Rattle.rounding_root.specs.Root.{sqrt_of};
 ghost use Rattle.rules_tanh.specs.Tanh.{thresholds, steps_of, tanh_cell, score_of};
 
-// The largest k whose threshold is at most a size. The thresholds rise, so it lies from `low` to `high`.
+// The largest k whose threshold is at most a size. The thresholds rise.
 fn steps_of(table: &[f64; 100], size: f64) -> usize
     requires { table.now ≡ thresholds }
     ensures { result ≡ steps_of size }
 {
-    let mut low = 0;
-    let mut high = 100;
-    while low < high {
-        let middle = (low + high) / 2;
-        if table[middle] <= size {
-            low = middle + 1;
-        } else {
-            high = middle;
-        }
-    }
-    low
+    table.partition_point(|threshold| *threshold <= size)
 }
 
 // The cell of a score.

@@ -9,7 +9,7 @@ ghost use Rattle.cells.specs.Line.{line};
 ghost use Rattle.cells.specs.Written.{Writing};
 ghost use Rattle.cells.specs.inner.MoreWritten.{MoreWritten};
 ghost use Rattle.cells.specs.inner.Touched.{Touched};
-ghost use Rattle.windows.specs.inner.Eight.{WindowRoom};
+ghost use Rattle.windows.specs.inner.Windows.{WindowRoom};
 ghost use Rattle.checks.specs.inner.Due.{Priced};
 ghost use Rattle.rules_tanh.specs.Tanh.{tanh_cell, tanh_of_means, tanh_line};
 ghost use Rattle.rules_tanh.specs.inner.Bars.{BarsBefore};
@@ -31,11 +31,9 @@ fn write_some(means: &[f64], table: &[f64; 100], n: usize, i: usize, out: &mut [
     let mut middles = [0.0; 8];
     let mut variances = [0.0; 8];
     let count = deviations::write_spreads(means, n, n - 1, i, &mut middles, &mut variances);
-    let mut j = 0;
-    while j < count {
+    for j in 0..count {
         let score = bar::score_of(means[i + j], middles[j], variances[j]);
         out[i + j] = bar::cell_of(table, score);
-        j += 1;
     }
     count
 }
@@ -48,6 +46,7 @@ fn write_by_means(means: &[f64], n: usize, out: &mut [f64])
 {
     let thresholds = table::THRESHOLDS;
     let mut i = cells::fill_lead(out, 2 * n - 2, means.len(), 0.0);
+    // The step is what a turn wrote, which no range counts.
     while i < means.len() {
         i += write_some(means, &thresholds, n, i, out);
     }

@@ -10,9 +10,8 @@ use lib.ListN.{length}
 use lib.Ieee.{Float}
 use Rattle.values.specs.Accepted.{accepted}
 use Rattle.values.proofs.All.{and_parts}
-use Rattle.calls.specs.declared.Answer.{Answer}
-use Rattle.calls.specs.declared.Answer.TheVariants.{Cells, Refused}
-use Rattle.calls.specs.Answer.{count_of, cleared_of, checked, windowed}
+use Rattle.calls.specs.Answer.{Answer, count_of, cleared_of, checked, windowed}
+use Rattle.std.specs.Prelude.{Ok, Err}
 use Rattle.calls.proofs.Call.{AllBars}
 use Rattle.calls.proofs.Room.{Room, checked_room, and_then_cells, unless_cells, same_count, asked}
 use Rattle.checks.specs.inner.Due.{CellsDue, Priced}
@@ -20,7 +19,7 @@ use Rattle.checks.proofs.Due.{some_due}
 use Rattle.rules_triple.specs.Triple.{triple_answer}
 use Rattle.rules_triple.specs.inner.Stages.{Rising}
 
-module _ (s : List Float) (m1 m2 m3 output work k : ℕ) (e : triple_answer s m1 m2 m3 output work ≡ Cells k) where
+module _ (s : List Float) (m1 m2 m3 output work k : ℕ) (e : triple_answer s m1 m2 m3 output work ≡ Ok k) where
   -- it has room for its cells
   triple_room : Room accepted s output (work ∷ [])
   unfolding triple_answer
@@ -29,7 +28,7 @@ module _ (s : List Float) (m1 m2 m3 output work k : ℕ) (e : triple_answer s m1
       (and_then_cells (checked accepted (s ∷ []) (output ∷ []) (work ∷ [])) _ k e).0
 
   -- and where there are cells to be written, windows that rise
-  parts : 0 < k → Rising m1 m2 m3 × (Cells (length s) ≡ Cells k)
+  parts : 0 < k → Rising m1 m2 m3 × (◌≡◌ {A = Answer} (Ok (length s)) (Ok k))
   unfolding triple_answer windowed
   parts h =
       let a = and_then_cells (checked accepted (s ∷ []) (output ∷ []) (work ∷ [])) _ k e in
@@ -55,15 +54,15 @@ triple_bars s m1 m2 m3 output work k e h = sym (same_count _ _ (parts s m1 m2 m3
 pub triple_clearable : (s : List Float) (m1 m2 m3 output work : ℕ) {r : Answer} → r
     ≡ triple_answer s m1 m2 m3 output work
     → cleared_of r (8 * length s) ≤ work
-triple_clearable s m1 m2 m3 output work {r = Refused q} e = omega arith
-triple_clearable s m1 m2 m3 output work {r = Cells k} e = (triple_room s m1 m2 m3 output work k (sym e)).work_long.0
+triple_clearable s m1 m2 m3 output work {r = Err q} e = omega arith
+triple_clearable s m1 m2 m3 output work {r = Ok k} e = (triple_room s m1 m2 m3 output work k (sym e)).work_long.0
 
 ready : (s : List Float) (m1 m2 m3 output work : ℕ) {r : Answer} → r ≡ triple_answer s m1 m2 m3 output work
     → 0 < count_of r
     → Room accepted s output (work ∷ []) × Rising m1 m2 m3
-ready s m1 m2 m3 output work {r = Cells k} e h =
+ready s m1 m2 m3 output work {r = Ok k} e h =
     (triple_room s m1 m2 m3 output work k (sym e), (parts s m1 m2 m3 output work k (sym e) h).0)
-ready s m1 m2 m3 output work {r = Refused q} e h = let none : 0 < 0 = h in absurd (omega arith)
+ready s m1 m2 m3 output work {r = Err q} e h = let none : 0 < 0 = h in absurd (omega arith)
 
 -- where its cells are due, its windows rise, its prices are accepted, and the work slice has eight rows
 pub triple_priced : (s : List Float) (m1 m2 m3 output : ℕ) {r : Answer} {t : Bool} {work₀ work₁ : List Float}

@@ -1,9 +1,8 @@
 -- triple_sma_positions at small series, with the cells that pure.rs gave, and its answers. Assumes nothing.
-use Rattle.std.specs.Prelude.{◌≡◌, refl, [], ◌∷◌, suc, pos}
+use Rattle.std.specs.Prelude.{◌≡◌, refl, [], ◌∷◌, suc, pos, Ok, Err}
 use Rattle.std.specs.Float.Ieee.{round, add, div, lt, eq, le, of_int, to_bits}
 use Rattle.limits.specs.Limits.{longest_window}
 use Rattle.calls.specs.declared.Refusal.TheVariants.{WindowTooLong, SeriesTooShort, WindowsOutOfOrder}
-use Rattle.calls.specs.declared.Answer.TheVariants.{Cells, Refused}
 use Rattle.values.specs.Accepted.{accepted}
 use Rattle.calls.specs.Answer.{slices, checked, windowed}
 use Rattle.cells.specs.Line.{plus_zero, from_bar}
@@ -41,14 +40,14 @@ triple_answers : triple_answer (plus_zero ∷ plus_zero ∷ plus_zero ∷ []) 1 
     ∷ triple_answer (plus_zero ∷ plus_zero ∷ plus_zero ∷ []) (suc longest_window) 0 0 3 24
     ∷ triple_answer [] 3 2 1 0 0
     ∷ []
-    ≡ Cells 3
-    ∷ Refused SeriesTooShort
-    ∷ Refused SeriesTooShort
-    ∷ Refused WindowsOutOfOrder
-    ∷ Refused WindowsOutOfOrder
-    ∷ Cells 0
-    ∷ Refused WindowTooLong
-    ∷ Cells 0
+    ≡ Ok 3
+    ∷ Err SeriesTooShort
+    ∷ Err SeriesTooShort
+    ∷ Err WindowsOutOfOrder
+    ∷ Err WindowsOutOfOrder
+    ∷ Ok 0
+    ∷ Err WindowTooLong
+    ∷ Ok 0
     ∷ []
 unfolding triple_answer slices checked windowed accepted lt eq le to_bits
 triple_answers = refl

@@ -1,11 +1,9 @@
 -- triple_sma_positions: the mean against a long average of means, and a short average of means against a middle one
 -- (the triple moving average crossover, on averages of averages). Assumes nothing.
-use Rattle.std.specs.Prelude.{cond, ◌&&◌, List, [], ◌∷◌, ℕ, ◌+◌, ◌-◌, leb, ltb, ℤ, length, Float}
+use Rattle.std.specs.Prelude.{cond, ◌&&◌, List, [], ◌∷◌, ℕ, ◌+◌, ◌-◌, leb, ltb, ℤ, length, Float, Ok}
 use Rattle.std.specs.Float.Ieee.{lt}
 use Rattle.calls.specs.declared.Refusal.TheVariants.{SeriesTooShort, WindowsOutOfOrder}
-use Rattle.calls.specs.declared.Answer.{Answer}
-use Rattle.calls.specs.declared.Answer.TheVariants.{Cells}
-use Rattle.calls.specs.Answer.{checked, and_then, unless, windowed}
+use Rattle.calls.specs.Answer.{Answer, checked, and_then, unless, windowed}
 use Rattle.rules_held.specs.Held.{flat, long, short}
 use Rattle.calls.specs.Call.{WorkCall}
 use Rattle.values.specs.Accepted.{accepted}
@@ -30,7 +28,7 @@ triple_answer s m1 m2 m3 output work =
     (windowed (length s) (m1 ∷ m2 ∷ m3 ∷ [])
     (unless (leb m3 (length s)) SeriesTooShort
     (unless (ltb m1 m2 && ltb m2 m3) WindowsOutOfOrder
-    (Cells (length s)))))
+    (Ok (length s)))))
 
 -- what a call of `triple_sma_positions` promises
 abbrev pub TripleCall : List Float → ℕ → ℕ → ℕ → List ℤ → List Float → Answer → List ℤ → List Float → Type 0

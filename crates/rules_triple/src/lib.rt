@@ -41,12 +41,11 @@ pub fn answer_triple(
     ensures { result ≡ triple_answer series.now m1 m2 m3 out work }
 {
     let bars = series.len();
-    let due = checks::check_with_work(series, out, work);
+    checks::check_with_work(series, out, work)?;
     let rising = (m1 < m2) & (m2 < m3);
-    let order = checks::unless_refused(rising, Refusal::WindowsOutOfOrder, Answer::Cells(bars));
+    let order = checks::unless_refused(rising, Refusal::WindowsOutOfOrder, Ok(bars));
     let long = checks::unless_refused(m3 <= bars, Refusal::SeriesTooShort, order);
-    let next = checks::check_three_windows(bars, m1, m2, m3, long);
-    checks::and_then(due, next)
+    checks::check_windows(bars, &[m1, m2, m3], long)
 }
 
 // Writes flat positions before bar m1 + m3 - 2, from which on all averages are there, and gives the bar after them.
@@ -57,14 +56,15 @@ pub fn fill_before_trends(out: &mut [i32], m1: usize, m3: usize, bars: usize) ->
     rules_held::fill_flat(out, m1 + m3 - 2, bars)
 }
 
-// Writes the means of m1 prices, and of these means those over m1, m2 and m3, to four rows.
+// Writes the means of m1 prices, and of these means those over m1, m2 and m3, to four rows. The windows are no struct:
+// only two private functions take all three.
 fn write_averages(series: &[f64], m1: usize, m2: usize, m3: usize, work: &mut [f64])
     requires { Priced 4 m1 series.now (length series.now) (length work.old) × Rising m1 m2 m3 }
     ensures { Averages m1 m2 m3 series.now work.new
         × Touched (4 * length series.now) work.old work.new }
 {
     let bars = series.len();
-    let first = cells::smaller(m1 + m3 - 2, bars);
+    let first = (m1 + m3 - 2).min(bars);
     window_means::write_means_of_prices(series, m1, work);
     window_means::write_means_of_row(work, 0, bars, bars, m1, first);
     window_means::write_means_of_row(work, 0, 2 * bars, bars, m2, first);
@@ -79,15 +79,14 @@ fn write_trends(series: &[f64], m1: usize, m2: usize, m3: usize, out: &mut [i32]
         out.old out.new }
 {
     let bars = series.len();
-    let mut i = fill_before_trends(out, m1, m3, bars);
-    while i < bars {
+    let first = fill_before_trends(out, m1, m3, bars);
+    for i in first..bars {
         out[i] = trend(
             work[i],
             work[bars + i],
             work[2 * bars + i],
             work[3 * bars + i],
         );
-        i += 1;
     }
 }
 

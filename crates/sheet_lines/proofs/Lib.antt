@@ -2,6 +2,6 @@ pub mod Printing
 pub mod Reading
 pub mod Signs
 pub mod Bars
-pub mod Places
+pub mod Fed
 pub mod LineLength
 pub mod Positions

@@ -5,10 +5,10 @@ use Prim.Native.Nat.{ℕ, zero, suc, ◌+◌, ◌*◌, ◌<◌, ◌≤◌}
 use native.Mathlib.Nat.{add-zero}
 use native.Mathlib.Numerals.{add-one}
 use native.Mathlib.Omega.{arith}
-use lib.ListN.{length}
+use lib.ListN.{length, take}
+use lib.Seq.{length-take-le, get_or-take}
 use lib.Ieee.{Float, nan}
-use Rattle.calls.specs.declared.Answer.{Answer}
-use Rattle.calls.specs.Answer.{count_of}
+use Rattle.calls.specs.Answer.{Answer, count_of}
 use Rattle.cells.specs.Line.{Line, line}
 use Rattle.cells.specs.Written.{written}
 use Rattle.cells.proofs.Written.{getd_written}
@@ -38,6 +38,13 @@ pub positions_same : (k : ℕ) (f g : Line) → ((i : ℕ) → i < k → f i ≡
 unfolding position_lines
 positions_same zero f g h = refl
 positions_same (suc k) f g h = rw (positions_same k f g (λ i l. h i (omega arith)), h k (omega arith))
+
+-- the first cells of a slice print what the slice does there
+pub first_positions : (k : ℕ) (cells : List Float) → k ≤ length cells
+    → position_lines (length (take k cells)) (line (take k cells)) ≡ position_lines k (line cells)
+first_positions k cells h =
+    rw (length-take-le k cells h)
+    (positions_same k (line (take k cells)) (line cells) (λ i l. get_or-take k cells i nan l))
 
 -- an answer prints what its output holds
 pub text_same : (r : Request) (a : Answer) (f : Line) (old : List Float) → count_of a ≤ length old

@@ -1,15 +1,22 @@
 -- What a line of a request says: document 01's columns. Assumes nothing.
-use Rattle.std.specs.Prelude.{Bool, cond, ◌&&◌, List, ℕ, ◌+◌, leb, eqb, length, get_or}
+use Rattle.std.specs.Prelude.{cond, List, ℕ, leb, Option, Some, None, Result, Ok, Err, ok_or, Float}
 use Rattle.std.proofs.Math.Seq.{slice}
-use Rattle.rules.specs.ByNumber.{is_rule}
-use Rattle.sheet_lines.specs.declared.columns.Field.{Field}
-use Rattle.sheet_lines.specs.declared.columns.Field.TheVariants.{Value, Broken}
-use Rattle.sheet_lines.specs.declared.columns.Price.{Price}
-use Rattle.sheet_lines.specs.declared.columns.Price.TheVariants.{Unpriced}
 use Rattle.sheet_lines.specs.Read.{read_field, read_price}
 use Rattle.sheet_lines.specs.declared.Fields.{Fields}
-use Rattle.sheet_lines.specs.declared.Header.{Header}
-use Rattle.sheet_lines.specs.declared.Header.TheVariants.{Asked, Malformed}
+use Rattle.sheet_lines.specs.declared.Request.{Request}
+use Rattle.sheet_lines.specs.declared.reasons.Reason.{Reason}
+use Rattle.sheet_lines.specs.declared.reasons.Reason.TheVariants.{
+  DeskField,
+  RuleField,
+  NField,
+  MField,
+  BarsField,
+  OtherRule,
+  TooManyBars,
+  PriceField,
+}
+use Rattle.sheet_lines.specs.Reason.{of_columns}
+use Rattle.sheet_lines.specs.Rule.{rule_of}
 
 -- the most bars of one request; src/lib.rt has a constant of the same number
 abbrev pub most_bars : ℕ
@@ -23,24 +30,21 @@ header_bytes = 27
 abbrev pub price_bytes : ℕ
 price_bytes = 13
 
--- so many columns, and then a line feed
-abbrev pub columned : ℕ → List ℕ → Bool
-columned columns line = eqb (length line) (columns + 1) && eqb (get_or line columns 0) 10
+-- what follows from what is there, such as a field's number; where it is not there, that is a reason
+abbrev pub given : {A : Type 0} → Option A → Reason → (A → Result Request Reason) → Result Request Reason
+given (Some v) reason next = next v
+given None reason next = Err reason
 
--- what follows from a field's number
-abbrev pub given : Field → (ℕ → Header) → Header
-given (Value v) next = next v
-given Broken next = Malformed
+-- no more bars than the program keeps
+abbrev pub accepted : Request → Result Request Reason
+accepted r = cond (leb r.bars most_bars) (Ok r) (Err TooManyBars)
 
--- a rule, and no more bars than the program keeps
-abbrev pub accepted : ℕ → ℕ → Bool
-accepted rule bars = is_rule rule && leb bars most_bars
-
--- the request that its five numbers make
-unfoldable pub request_of : Fields → Header
+-- the request that its five numbers make: the fields from the left, and then what their numbers say
+unfoldable pub request_of : Fields → Result Request Reason
 request_of f =
-    given f.desk (λ d. given f.rule (λ r. given f.n (λ a. given f.m (λ b. given f.bars (λ l.
-    cond (accepted r l) (Asked (record { desk = d; rule = r; n = a; m = b; bars = l })) Malformed)))))
+    given f.desk DeskField (λ d. given f.rule RuleField (λ r. given f.n NField (λ a. given f.m MField (λ b.
+    given f.bars BarsField (λ l. given (rule_of r) OtherRule (λ rule.
+    accepted (record { desk = d; rule = rule; n = a; m = b; bars = l })))))))
 
 -- A request's first line: desk in 4 columns, rule in 4, n in 6, m in 6, bars in 6.
 abbrev pub read_fields : List ℕ → Fields
@@ -53,9 +57,10 @@ read_fields line =
       bars = read_field (slice 20 26 line);
     }
 
-unfoldable pub read_header : List ℕ → Header
-read_header line = cond (columned 26 line) (request_of (read_fields line)) Malformed
+-- the request, or why its line is refused
+unfoldable pub read_header : List ℕ → Result Request Reason
+read_header line = of_columns 26 line (request_of (read_fields line))
 
 -- A price's line: 12 columns.
-unfoldable pub read_price_line : List ℕ → Price
-read_price_line line = cond (columned 12 line) (read_price (slice 0 12 line)) Unpriced
+unfoldable pub read_price_line : List ℕ → Result Float Reason
+read_price_line line = of_columns 12 line (ok_or (read_price (slice 0 12 line)) PriceField)

@@ -7,3 +7,4 @@ pub mod LineCases
 pub mod Header
 pub mod Printed
 pub mod Reason
+pub mod Rule

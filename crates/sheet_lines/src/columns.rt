@@ -1,115 +1,68 @@
 // Fields of fixed columns: reading a number out of the bytes of one, and printing a number in one.
-ghost use Rattle.std.specs.Prelude.{◌≡◌, ◌+◌, ◌-◌, ◌<◌, ◌≤◌, length};
-ghost use Rattle.std.proofs.Math.Seq.{slice};
-ghost use Rattle.sheet_lines.specs.Read.{unpadded, number, read_field, positive, negative, read_price};
-ghost use Rattle.sheet_lines.specs.inner.Adds.{Few, Adds};
+ghost use Rattle.std.specs.Prelude.{◌≡◌, ◌+◌, ◌-◌, ◌^◌, ◌<◌, ◌≤◌, length, pos, neg_ℤ};
+ghost use Rattle.std.specs.Float.{binary64};
+ghost use Rattle.std.specs.Float.Ieee.{of_int};
+ghost use Rattle.sheet_lines.specs.Read.{unpadded, number, read_field, read_price};
+ghost use Rattle.sheet_lines.specs.inner.Adds.{Adds};
 ghost use Rattle.sheet_lines.specs.Print.{column, leading, print_field};
 
-// What a field says.
-#[derive(Clone, Copy)]
-pub enum Field {
-    Value(u64),
-    Broken,
-}
-
-// What a price's columns say.
-#[derive(Clone, Copy)]
-pub enum Price {
-    Ticks(f64),
-    Unpriced,
-}
-
-// The first of the columns from `from` to `to` that is not blank.
-fn after_blanks(line: &[u8], from: usize, to: usize) -> usize
-    requires { (from ≤ to) × (to ≤ length line.now) }
-    ensures { (from ≤ result) × (result ≤ to)
-        × (unpadded (slice from to line.now) ≡ slice result to line.now) }
+// The columns without the blanks in front.
+fn unpadded(columns: &[u8]) -> &[u8]
+    ensures { result.now ≡ unpadded columns.now }
 {
-    let mut i = from;
-    while i < to {
-        if line[i] != b' ' {
-            return i;
-        }
-        i += 1;
+    let mut rest = columns;
+    while let [b' ', more @ ..] = rest {
+        rest = more;
     }
-    i
+    rest
 }
 
-// The number of the digits from column `from` to `to`; 18 digits fit.
-fn digits(line: &[u8], from: usize, to: usize) -> Field
-    requires { (from ≤ to) × (to ≤ from + 18) × (to ≤ length line.now) }
-    ensures { result ≡ number (slice from to line.now) }
+// The number of one or more digits; 18 digits fit.
+fn number(digits: &[u8]) -> Option<u64>
+    requires { length digits.now ≤ 18 }
+    ensures { result ≡ number digits.now }
 {
-    if from == to {
-        return Field::Broken;
+    if digits.is_empty() {
+        return None;
     }
     let mut value: u64 = 0;
-    let mut i = from;
-    while i < to {
-        let b = line[i];
-        if b < b'0' {
-            return Field::Broken;
+    for digit in digits {
+        if !digit.is_ascii_digit() {
+            return None;
         }
-        if b > b'9' {
-            return Field::Broken;
-        }
-        value = 10 * value + (b - b'0') as u64;
-        i += 1;
+        value = 10 * value + u64::from(*digit - b'0');
     }
-    Field::Value(value)
+    Some(value)
 }
 
-// The number that the columns from `from` to `to` say.
-pub fn read_field(line: &[u8], from: usize, to: usize) -> Field
-    requires { (from ≤ to) × (to ≤ from + 18) × (to ≤ length line.now) }
-    ensures { result ≡ read_field (slice from to line.now) }
+// The number that a field's columns say; 18 columns fit.
+pub fn read_field(columns: &[u8]) -> Option<u64>
+    requires { length columns.now ≤ 18 }
+    ensures { result ≡ read_field columns.now }
 {
-    let first = after_blanks(line, from, to);
-    digits(line, first, to)
+    number(unpadded(columns))
 }
 
-// The price that the columns from `from` to `to` say.
-pub fn read_price(line: &[u8], from: usize, to: usize) -> Price
-    requires { (from ≤ to) × (to ≤ from + 12) × (to ≤ length line.now) }
-    ensures { result ≡ read_price (slice from to line.now) }
+// The price that its columns say; 12 columns fit.
+pub fn read_price(columns: &[u8]) -> Option<f64>
+    requires { length columns.now ≤ 12 }
+    ensures { result ≡ read_price columns.now }
 {
-    let first = after_blanks(line, from, to);
-    if first == to {
-        return Price::Unpriced;
-    }
-    if line[first] == b'-' {
-        negative(digits(line, first + 1, to))
+    let columns = unpadded(columns);
+    // As a slice pattern it was tried: its default arm keeps no fact that a proof may name.
+    if !columns.is_empty() && columns[0] == b'-' {
+        Some(negative(number(&columns[1..])?))
     } else {
-        positive(digits(line, first, to))
-    }
-}
-
-// So many ticks.
-fn positive(ticks: Field) -> Price
-    requires { Few ticks }
-    ensures { result ≡ positive ticks }
-{
-    match ticks {
-        Field::Value(v) => Price::Ticks(v as f64),
-        Field::Broken => Price::Unpriced,
+        Some(number(columns)? as f64)
     }
 }
 
 // So many ticks below zero; there is no -0.
-fn negative(ticks: Field) -> Price
-    requires { Few ticks }
-    ensures { result ≡ negative ticks }
+fn negative(ticks: u64) -> f64
+    requires { ticks < 10 ^ 12 }
+    ensures { result ≡ of_int binary64 (neg_ℤ (pos ticks)) }
 {
-    match ticks {
-        Field::Value(v) => {
-            if v == 0 {
-                Price::Ticks(0.0)
-            } else {
-                Price::Ticks(-(v as f64))
-            }
-        }
-        Field::Broken => Price::Unpriced,
-    }
+    if ticks == 0 { 0.0 } else { -(ticks as f64) }
 }
 
 // The last digit of n, blank where nothing of n is left.
@@ -125,15 +78,13 @@ fn print_leading(text: &mut [u8], from: usize, to: usize, n: u64)
     ensures { Adds from (leading (to - from) n) to text.old text.new }
 {
     let mut rest = n;
-    let mut i = to;
-    while i > from {
-        i -= 1;
+    for i in (from..to).rev() {
         text[i] = last_column(rest);
-        rest = rest / 10;
+        rest /= 10;
     }
 }
 
-// Prints n right-justified in `width` columns from `at` on.
+// Prints n right-justified in `width` columns from `at` on: `Adds` says how a whole text grows from that place.
 pub fn print_field(text: &mut [u8], at: usize, width: usize, n: u64)
     requires { (0 < width) × (at + width ≤ length text.old) }
     ensures { Adds at (print_field width n) (at + width) text.old text.new }

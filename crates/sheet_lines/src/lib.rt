@@ -3,10 +3,10 @@
 
 pub mod columns;
 pub mod reasons;
+pub mod rule;
 pub mod text;
 
-ghost use Rattle.std.specs.Prelude.{◌≡◌, ◌+◌, ◌≤◌, length};
-ghost use Rattle.std.proofs.Math.Seq.{slice};
+ghost use Rattle.std.specs.Prelude.{◌≡◌, length};
 ghost use Rattle.sheet_lines.specs.Header.{
   header_bytes,
   price_bytes,
@@ -16,7 +16,8 @@ ghost use Rattle.sheet_lines.specs.Header.{
   read_price_line,
 };
 
-use columns::{Field, Price};
+use reasons::{Reason, has_feed};
+use rule::Rule;
 
 // The most bars of one request.
 pub const MOST_BARS: usize = 512;
@@ -30,111 +31,83 @@ pub const PRICE_BYTES: usize = 13;
 #[derive(Clone, Copy)]
 pub struct Request {
     pub desk: u64,
-    pub rule: u64,
+    pub rule: Rule,
     pub n: usize,
     pub m: usize,
     pub bars: usize,
 }
 
-// A request's first line as it was read.
-#[derive(Clone, Copy)]
-pub enum Header {
-    Asked(Request),
-    Malformed,
-}
-
-// The five fields of a request's first line.
+// The five fields of a request's first line, each a number where it is one.
 #[derive(Clone, Copy)]
 pub struct Fields {
-    pub desk: Field,
-    pub rule: Field,
-    pub n: Field,
-    pub m: Field,
-    pub bars: Field,
+    pub desk: Option<u64>,
+    pub rule: Option<u64>,
+    pub n: Option<u64>,
+    pub m: Option<u64>,
+    pub bars: Option<u64>,
 }
 
-// The fields in the line from `at` on.
-pub fn read_fields(block: &[u8], at: usize) -> Fields
-    requires { at + header_bytes ≤ length block.now }
-    ensures { result ≡ read_fields (slice at (at + header_bytes) block.now) }
+// The fields of a request's first line.
+fn read_fields(line: &[u8]) -> Fields
+    requires { length line.now ≡ header_bytes }
+    ensures { result ≡ read_fields line.now }
 {
-    let desk = columns::read_field(block, at, at + 4);
-    let rule = columns::read_field(block, at + 4, at + 8);
-    let n = columns::read_field(block, at + 8, at + 14);
-    let m = columns::read_field(block, at + 14, at + 20);
-    let bars = columns::read_field(block, at + 20, at + 26);
     Fields {
-        desk: desk,
-        rule: rule,
-        n: n,
-        m: m,
-        bars: bars,
+        desk: columns::read_field(&line[..4]),
+        rule: columns::read_field(&line[4..8]),
+        n: columns::read_field(&line[8..14]),
+        m: columns::read_field(&line[14..20]),
+        bars: columns::read_field(&line[20..26]),
     }
 }
 
-// The request that its five numbers make.
-fn request_of(fields: Fields) -> Header
+// The request that its five numbers make, or why they make none.
+#[tactic(auto, unfolding(crate::specs::Header::request_of))]
+fn request_of(fields: Fields) -> Result<Request, Reason>
     ensures { result ≡ request_of fields }
 {
-    let desk = fields.desk;
-    let rule = fields.rule;
-    let n = fields.n;
-    let m = fields.m;
-    let bars = fields.bars;
-    let Field::Value(desk) = desk else {
-        return Header::Malformed;
-    };
-    let Field::Value(rule) = rule else {
-        return Header::Malformed;
-    };
-    let Field::Value(n) = n else {
-        return Header::Malformed;
-    };
-    let Field::Value(m) = m else {
-        return Header::Malformed;
-    };
-    let Field::Value(bars) = bars else {
-        return Header::Malformed;
-    };
-    if rule < 1 {
-        return Header::Malformed;
-    }
-    if rule > 3 {
-        return Header::Malformed;
-    }
+    let desk = fields.desk.ok_or(Reason::DeskField)?;
+    let rule = fields.rule.ok_or(Reason::RuleField)?;
+    let n = fields.n.ok_or(Reason::NField)?;
+    let m = fields.m.ok_or(Reason::MField)?;
+    let bars = fields.bars.ok_or(Reason::BarsField)?;
+    let rule = Rule::of_number(rule).ok_or(Reason::OtherRule)?;
     if bars > MOST_BARS as u64 {
-        return Header::Malformed;
+        return Err(Reason::TooManyBars);
     }
-    Header::Asked(Request {
-        desk: desk,
-        rule: rule,
+    Ok(Request {
+        desk,
+        rule,
         n: n as usize,
         m: m as usize,
         bars: bars as usize,
     })
 }
 
-// The request in the line from `at` on, its line feed with it.
-pub fn read_header(block: &[u8], at: usize) -> Header
-    requires { at + header_bytes ≤ length block.now }
-    ensures { result ≡ read_header (slice at (at + header_bytes) block.now) }
+// The request that its first line asks, or why the line is refused.
+pub fn read_header(line: &[u8]) -> Result<Request, Reason>
+    requires { length line.now ≡ header_bytes }
+    ensures { result ≡ read_header line.now }
 {
-    let fields = read_fields(block, at);
-    if block[at + 26] == b'\n' {
-        request_of(fields)
-    } else {
-        Header::Malformed
+    if line[26] != b'\n' || has_feed(&line[..26]) {
+        return Err(Reason::LineLength);
     }
+    request_of(read_fields(line))
 }
 
-// The price in the line from `at` on, its line feed with it.
-pub fn read_price_line(block: &[u8], at: usize) -> Price
-    requires { at + price_bytes ≤ length block.now }
-    ensures { result ≡ read_price_line (slice at (at + price_bytes) block.now) }
+// The price in its line, or why the line is refused: a line feed among the columns is looked for only where they are
+// no price.
+pub fn read_price_line(line: &[u8]) -> Result<f64, Reason>
+    requires { length line.now ≡ price_bytes }
+    ensures { result ≡ read_price_line line.now }
 {
-    if block[at + 12] == b'\n' {
-        columns::read_price(block, at, at + 12)
-    } else {
-        Price::Unpriced
+    if line[12] != b'\n' {
+        return Err(Reason::LineLength);
+    }
+    let columns = &line[..12];
+    match columns::read_price(columns) {
+        Some(price) => Ok(price),
+        None if has_feed(columns) => Err(Reason::LineLength),
+        None => Err(Reason::PriceField),
     }
 }

@@ -42,43 +42,29 @@ pub fn print_head(text: &mut [u8], at: usize, desk: u64, rule: u64, refusal: u64
     text[at + 18] = b'\n';
 }
 
-// Prints a position's line from `at` on: a sign and a digit in 4 columns.
-fn print_cell(text: &mut [u8], at: usize, sign: u8, digit: u8)
-    requires { at + position_bytes ≤ length text.old }
-    ensures { Adds at (32 ∷ 32 ∷ sign ∷ digit ∷ 10 ∷ []) (at + position_bytes)
-        text.old text.new }
-{
-    text[at] = b' ';
-    text[at + 1] = b' ';
-    text[at + 2] = sign;
-    text[at + 3] = digit;
-    text[at + 4] = b'\n';
-}
-
-// Prints the position x from `at` on.
+// Prints the position x from `at` on: its sign and a digit in 4 columns.
 fn print_position(text: &mut [u8], at: usize, x: f64)
     requires { at + position_bytes ≤ length text.old }
     ensures { Adds at (position_line x) (at + position_bytes) text.old text.new }
 {
-    if x > 0.0 {
-        print_cell(text, at, b' ', b'1');
+    let line = if x > 0.0 {
+        b"   1\n"
     } else if x < 0.0 {
-        print_cell(text, at, b'-', b'1');
+        b"  -1\n"
     } else {
-        print_cell(text, at, b' ', b'0');
-    }
+        b"   0\n"
+    };
+    text[at..at + POSITION_BYTES].copy_from_slice(line);
 }
 
-// Prints the positions at the first `count` bars from `at` on.
-fn print_positions(text: &mut [u8], at: usize, cells: &[f64], count: usize)
-    requires { (at + position_bytes * count ≤ length text.old) × (count ≤ length cells.now) }
-    ensures { Adds at (position_lines count (line cells.now)) (at + position_bytes * count)
+// Prints the positions in `cells` from `at` on.
+fn print_positions(text: &mut [u8], at: usize, cells: &[f64])
+    requires { at + position_bytes * length cells.now ≤ length text.old }
+    ensures { Adds at (position_lines (length cells.now) (line cells.now)) (at + position_bytes * length cells.now)
         text.old text.new }
 {
-    let mut i = 0;
-    while i < count {
-        print_position(text, at + POSITION_BYTES * i, cells[i]);
-        i += 1;
+    for (i, x) in cells.iter().enumerate() {
+        print_position(text, at + POSITION_BYTES * i, *x);
     }
 }
 
@@ -110,10 +96,10 @@ pub fn print_answer(
         text,
         at,
         request.desk,
-        request.rule,
+        request.rule.number(),
         calls::refusal_of(given),
         count as u64,
     );
-    print_positions(text, at + HEAD_BYTES, cells, count);
+    print_positions(text, at + HEAD_BYTES, &cells[..count]);
     at + HEAD_BYTES + POSITION_BYTES * count
 }

@@ -4,17 +4,15 @@ use mathlib.Core.Bool.{Bool, true, false, cond}
 use mathlib.Core.List.{List, [], ◌∷◌}
 use Prim.Native.Nat.{ℕ, zero, suc, ◌≤◌}
 use native.Mathlib.Omega.{arith}
-use borrow.Author.Tests.{eq-eqb, ne_eqb}
 use lib.Dec.{leb, ltb, eqb}
 use lib.ListN.{length, replicate, length-replicate}
 use lib.Ieee.{Float}
 use Rattle.calls.specs.declared.Refusal.{Refusal}
 use Rattle.calls.specs.declared.Refusal.TheVariants.{WindowTooLong, WindowsOutOfOrder}
-use Rattle.calls.specs.declared.Answer.{Answer}
-use Rattle.calls.specs.declared.Answer.TheVariants.{Cells, Refused}
+use Rattle.calls.specs.Answer.{Answer, any_zero, count_of, unless, and_then, empty_if, checked, windowed, answered}
+use Rattle.std.specs.Prelude.{Ok, Err}
 use Rattle.limits.specs.Limits.{longest_window}
 use Rattle.values.specs.Accepted.{accepted, all}
-use Rattle.calls.specs.Answer.{any_zero, count_of, unless, and_then, empty_if, checked, windowed, answered}
 use Rattle.calls.specs.Call.{Call, WorkCall}
 use Rattle.cells.specs.Line.{line, plus_zero}
 use Rattle.cells.specs.Written.{written}
@@ -23,6 +21,8 @@ use Rattle.rules_double.specs.Double.{double_line, double_answer}
 use Rattle.rules_middle.specs.Middle.{mid_line}
 use Rattle.rules.specs.ByNumber.{by_rule}
 use Rattle.sheet_lines.specs.declared.Request.{Request}
+use Rattle.sheet_lines.specs.declared.rule.Rule.TheVariants.{Single, Double, Middle}
+use Rattle.sheet_lines.specs.Rule.{rule_number}
 use Rattle.sheet_lines.specs.Header.{most_bars}
 use Rattle.sheet_requests.specs.Answer.{
   work_cells,
@@ -35,33 +35,28 @@ use Rattle.sheet_requests.specs.Answer.{
 
 -- the three rules' contracts, as the contract of a request's call
 module _ {r : Request} {prices out₀ work₀ : List Float} {a : Answer} {out₁ work₁ : List Float} where
-  pub by_single : r.rule ≡ 1
+  pub by_single : r.rule ≡ Single
       → WorkCall (answered accepted prices (r.n ∷ []) most_bars (work_cells ∷ [])) (single_line r.n (line prices)) out₀
       (length prices) work₀ a out₁ work₁
       → RequestCall r prices out₀ work₀ a out₁ work₁
   unfolding rule_answer rule_line rule_cleared
   by_single e w =
-      let one = eq-eqb r.rule 1 e in
-      record { call = rw one w.call; work = rw one w.work }
+      record { call = rw e w.call; work = rw e w.work }
 
-  pub by_double : (r.rule ≡ 1 → ⊥) → r.rule ≡ 2
+  pub by_double : r.rule ≡ Double
       → Call (double_answer prices r.n r.m most_bars) (double_line r.n r.m (line prices)) out₀ a out₁
       → work₁ ≡ work₀ → RequestCall r prices out₀ work₀ a out₁ work₁
   unfolding rule_answer rule_line rule_cleared
-  by_double f e w k =
-      let one = ne_eqb r.rule 1 f in
-      let two = eq-eqb r.rule 2 e in
-      record { call = rw (one, two) w; work = rw (one, two) k }
+  by_double e w k =
+      record { call = rw e w; work = rw e k }
 
-  pub by_middle : (r.rule ≡ 1 → ⊥) → (r.rule ≡ 2 → ⊥)
+  pub by_middle : r.rule ≡ Middle
       → WorkCall (answered accepted prices (r.n ∷ []) most_bars (work_cells ∷ [])) (mid_line r.n (line prices)) out₀
       (length prices) work₀ a out₁ work₁
       → RequestCall r prices out₀ work₀ a out₁ work₁
   unfolding rule_answer rule_line rule_cleared
-  by_middle f g w =
-      let one = ne_eqb r.rule 1 f in
-      let two = ne_eqb r.rule 2 g in
-      record { call = rw (one, two) w.call; work = rw (one, two) w.work }
+  by_middle e w =
+      record { call = rw e w.call; work = rw e w.work }
 
 -- a slice that is clear stays so
 clear_again : (k n : ℕ) → written k (λ i. plus_zero) (replicate n plus_zero) ≡ replicate n plus_zero
@@ -83,7 +78,7 @@ record AtMost (n : ℕ) (a : Answer) : Type 0 where
   few : count_of a ≤ n
 
 -- as many as there are
-all_most : (n : ℕ) → AtMost n (Cells n)
+all_most : (n : ℕ) → AtMost n (Ok n)
 all_most n = record { few = omega arith }
 
 unless_most : {n : ℕ} (t : Bool) (q : Refusal) (next : Answer) → AtMost n next → AtMost n (unless t q next)
@@ -95,8 +90,8 @@ empty_if_most true next h = record { few = omega arith }
 empty_if_most false next h = h
 
 and_then_most : {n : ℕ} (a next : Answer) → AtMost n next → AtMost n (and_then a next)
-and_then_most (Cells k) next h = h
-and_then_most (Refused q) next h = record { few = omega arith }
+and_then_most (Ok k) next h = h
+and_then_most (Err q) next h = record { few = omega arith }
 
 windowed_most : {n : ℕ} (l : ℕ) (windows : List ℕ) (next : Answer) → AtMost n next → AtMost n (windowed l windows next)
 unfolding windowed
@@ -109,14 +104,14 @@ answered_most : (ok : Float → Bool) (s : List Float) (windows : List ℕ) (out
 unfolding answered checked windowed
 answered_most ok s windows output work =
     and_then_most (checked ok (s ∷ []) (output ∷ []) work) _
-    (windowed_most (length s) windows (Cells (length s)) (all_most (length s)))
+    (windowed_most (length s) windows (Ok (length s)) (all_most (length s)))
 
 double_most : (s : List Float) (n m output : ℕ) → AtMost (length s) (double_answer s n m output)
 unfolding double_answer
 double_most s n m output =
     and_then_most (checked accepted (s ∷ []) (output ∷ []) []) _
     (windowed_most (length s) (n ∷ m ∷ []) _
-    (unless_most (ltb n m) WindowsOutOfOrder (Cells (length s)) (all_most (length s))))
+    (unless_most (ltb n m) WindowsOutOfOrder (Ok (length s)) (all_most (length s))))
 
 by_rule_most : {n : ℕ} (rule : ℕ) (one two three : Answer) → AtMost n one → AtMost n two → AtMost n three
     → AtMost n (by_rule rule one two three)
@@ -130,5 +125,5 @@ by_rule_most {n} rule one two three a b c = go (eqb rule 1) (eqb rule 2)
 pub rule_most : (r : Request) (prices : List Float) → count_of (rule_answer r prices) ≤ length prices
 unfolding rule_answer
 rule_most r prices =
-    (by_rule_most r.rule _ _ _ (answered_most _ prices _ most_bars _) (double_most prices r.n r.m most_bars)
-    (answered_most _ prices _ most_bars _)).few
+    (by_rule_most (rule_number r.rule) _ _ _ (answered_most _ prices _ most_bars _)
+    (double_most prices r.n r.m most_bars) (answered_most _ prices _ most_bars _)).few

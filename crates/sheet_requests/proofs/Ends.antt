@@ -11,7 +11,7 @@ use Rattle.sheet_lines.specs.declared.reasons.Reason.{Reason}
 use Rattle.sheet_lines.specs.declared.reasons.Reason.TheVariants.{InputEnds}
 use Rattle.sheet_lines.specs.Header.{header_bytes, price_bytes}
 use Rattle.sheet_lines.specs.Reason.{no_feed}
-use Rattle.sheet_requests.specs.declared.status.Fault.TheVariants.{Nowhere, At}
+use Rattle.std.proofs.Common.{Some, None}
 use Rattle.sheet_requests.specs.declared.Counts.{Counts}
 use Rattle.sheet_requests.specs.Counts.{after_lines}
 use Rattle.sheet_requests.specs.Sheet.{
@@ -24,6 +24,7 @@ use Rattle.sheet_requests.specs.Sheet.{
   Outcome,
   printing,
   closed,
+  missing_line,
   ending,
   outcome,
 }
@@ -38,16 +39,17 @@ use Rattle.sheet_requests.proofs.Strict.{header_reader, price_reader}
 abbrev pub cut : Counts → Outcome
 cut counts =
     printing (broken counts InputEnds).prints
-    (closed (after_lines 1 counts) (At (after_lines 1 counts).lines InputEnds))
+    (closed (after_lines 1 counts) (Some (missing_line counts)))
 
 pub ends_waiting : (counts : Counts) (rest : List ℕ) → length rest ≡ 0
-    → outcome (waiting counts) (lines rest) ≡ closed counts Nowhere
+    → outcome (waiting counts) (lines rest) ≡ closed counts None
 unfolding outcome lines ending
 ends_waiting counts [] e = refl
 ends_waiting counts (b ∷ rest) e = absurd (omega arith)
 
 pub ends_stopped : (counts : Counts) (reason : Reason) (rest : List ℕ)
-    → outcome (stopped counts reason) (lines rest) ≡ closed counts (At counts.lines reason)
+    → outcome (stopped counts reason) (lines rest)
+    ≡ closed counts (Some (record { line = counts.lines; reason = reason }))
 unfolding ending
 ends_stopped counts reason rest = outcome_stopped counts reason (lines rest)
 

@@ -3,7 +3,7 @@
 use mathlib.Core.Path.{◌≡◌, refl, sym, ap, ◌∙◌}
 use mathlib.Core.Bool.{Bool, true, false, not, cond, ◌&&◌, false≢true}
 use mathlib.Core.List.{List, [], ◌∷◌, ◌++◌, append_assoc}
-use Prim.Native.Nat.{ℕ, zero, suc, ◌+◌, ◌<◌, ◌≤◌}
+use Prim.Native.Nat.{ℕ, zero, suc, ◌+◌, ◌-◌, ◌<◌, ◌≤◌}
 use native.Mathlib.Omega.{arith}
 use borrow.Author.Tests.{eqb-true, ne_eqb, leb-true, le-leb}
 use lib.Dec.{leb, eqb}
@@ -87,6 +87,10 @@ pub first_line : (b : ℕ) (rest : List ℕ) → First (b ∷ rest)
 first_line b [] = alone b (eqb b 10) refl
 first_line b (c ∷ rest) = before b (eqb b 10) refl (first_line c rest)
 
+-- so many bytes of a block from a place on
+pub bytes_at : (at w : ℕ) (block : List ℕ) → take (at + w - at) (drop at block) ≡ slice at (at + w) block
+bytes_at at w block = let same : at + w - at ≡ w = omega arith in rw (same, take_drop at w block)
+
 -- ---- what the lines come to from a state on
 
 pub outcome_stopped : (counts : Counts) (reason : Reason) (rest : List (List ℕ))
@@ -119,11 +123,15 @@ no_feed_take (suc k) (b ∷ bytes) e = go (not (eqb b 10)) e (no_feed_take k byt
     go false e next = absurd (false≢true e)
 
 -- A state whose lines have w columns: a line that is not clean breaks it, for its length or since the input ends there.
-pub record Reader (s : State) (w : ℕ) (counts : Counts) (why : List ℕ → Reason) : Type 0 where
-  pub breaks : (line : List ℕ) → clean w line ≡ false → step s line ≡ broken counts (why line)
-  pub tells : (line : List ℕ) → clean w line ≡ false → why line ≡ cond (cut_short w line) InputEnds LineLength
+pub record Reader (s : State) (w : ℕ) (counts : Counts) : Type 0 where
+  pub breaks : (line : List ℕ) → clean w line ≡ false
+      → step s line ≡ broken counts (cond (cut_short w line) InputEnds LineLength)
 
-module _ {s : State} {w : ℕ} {counts : Counts} {why : List ℕ → Reason} (reader : Reader s w counts why) where
+module _ {s : State} {w : ℕ} {counts : Counts} (reader : Reader s w counts) where
+  -- why a line that is not clean breaks
+  abbrev why : List ℕ → Reason
+  why line = cond (cut_short w line) InputEnds LineLength
+
   -- an unclean first line
   unclean : {bytes : List ℕ} (f : First bytes) (rest : List (List ℕ)) → clean w f.first ≡ false
       → outcome s (lines bytes) ≡ finally (broken counts (why f.first)) rest
@@ -133,7 +141,7 @@ module _ {s : State} {w : ℕ} {counts : Counts} {why : List ℕ → Reason} (re
   -- an unclean line that is not cut short has another length
   other_length : (line : List ℕ) → clean w line ≡ false → (length line ≤ w → no_feed line ≡ false)
       → why line ≡ LineLength
-  other_length line e h = reader.tells line e ∙ rw (not_cut w line h)
+  other_length line e h = rw (not_cut w line h)
 
   -- a first line with a line feed that comes too early breaks for its length
   pub too_short : {bytes : List ℕ} (f : First bytes) (rest : List (List ℕ)) → length f.first ≤ w
@@ -232,4 +240,4 @@ module _ {s : State} {w : ℕ} {counts : Counts} {why : List ℕ → Reason} (re
       let few : length f.first ≤ w = omega (arith, f.short) in
       let bad : clean w f.first ≡ false = rw (ne_eqb _ _ short) in
       let unfed : no_feed f.first ≡ true = rw (← f.prefix) (no_feed_take (length f.first) (b ∷ bytes) e) in
-      unclean f rest bad ∙ rw (reader.tells f.first bad, le-leb _ _ few, unfed)
+      unclean f rest bad ∙ rw (le-leb _ _ few, unfed)

@@ -8,11 +8,10 @@ use borrow.Author.Tests.{eq-eqb, ne_eqb}
 use lib.ListN.{length, take, drop, set, length-set}
 use lib.Seq.{slice, length-take-le, take-suc-set}
 use lib.Ieee.{Float}
-use Rattle.sheet_lines.specs.declared.columns.Price.{Price}
-use Rattle.sheet_lines.specs.declared.columns.Price.TheVariants.{Ticks, Unpriced}
+use Rattle.std.proofs.Common.{Result, Ok, Err}
+use Rattle.sheet_lines.specs.declared.reasons.Reason.{Reason}
 use Rattle.sheet_lines.specs.declared.Request.{Request}
 use Rattle.sheet_lines.specs.Header.{price_bytes, read_price_line}
-use Rattle.sheet_lines.specs.Reason.{price_reason}
 use Rattle.sheet_requests.specs.declared.Counts.{Counts}
 use Rattle.sheet_requests.specs.Counts.{after_lines}
 use Rattle.sheet_requests.specs.Sheet.{collecting, quiet, broken, completed, with_prices, priced, lines, outcome}
@@ -53,13 +52,14 @@ module _ {block : List ℕ} {at end got : ℕ} {old : List Float} where
         long = refl;
       }
 
-  module _ {place i : ℕ} {now : List Float} {read : Price} (w : PricesSoFar block at end got old place i now)
+  module _ {place i : ℕ} {now : List Float} {read : Result Float Reason}
+      (w : PricesSoFar block at end got old place i now)
       (is : read ≡ read_price_line (slice place (place + price_bytes) block))
       (fit : (place + price_bytes ≤ length block) × (got ≤ i) × (i < end) × (end ≤ length old)) where
     -- what the next line is read as
     next : (r : Request) → end ≤ r.bars → (counts : Counts) (more : List ℕ)
         → outcome (collecting counts r (take got old)) (lines (drop at block ++ more))
-        ≡ finally (priced (after_lines (i - got) counts) r (take i now) (slice place (place + price_bytes) block) read)
+        ≡ finally (priced (after_lines (i - got) counts) r (take i now) read)
         (lines (drop (place + price_bytes) block ++ more))
     next r e counts more =
         let (p, q, h, l) = fit in
@@ -67,7 +67,7 @@ module _ {block : List ℕ} {at end got : ℕ} {old : List Float} where
         rw (w.same r e counts more, waits before r now i (omega (arith, w.long)) (λ z. omega arith), is)
         (line_at (price_reader before r (take i now)) block more place p)
 
-    pub one_read : {x : Float} → read ≡ Ticks x
+    pub one_read : {x : Float} → read ≡ Ok x
         → PricesSoFar block at end got old (place + price_bytes) (i + 1) (set now i x)
     one_read {x} t =
         let (p, q, h, l) = fit in
@@ -79,8 +79,9 @@ module _ {block : List ℕ} {at end got : ℕ} {old : List Float} where
           long = length-set now i x ∙ w.long;
         }
 
-    pub one_broken : read ≡ Unpriced → (r : Request) → end ≤ r.bars → (counts : Counts) (more : List ℕ)
+    pub one_broken : {reason : Reason} → read ≡ Err reason → (r : Request) → end ≤ r.bars
+        → (counts : Counts) (more : List ℕ)
         → outcome (collecting counts r (take got old)) (lines (drop at block ++ more))
-        ≡ finally (broken (after_lines (i - got) counts) (price_reason (slice place (place + price_bytes) block)))
+        ≡ finally (broken (after_lines (i - got) counts) reason)
         (lines (drop place block ++ more))
     one_broken t r e counts more = next r e counts more ∙ rw t (finally_broken (after_lines (i - got) counts) _ _ _)

@@ -10,16 +10,12 @@ use lib.Dec.{leb, eqb}
 use lib.ListN.{length, get_or, replicate, length-set}
 use lib.Seq.{get_or-set_same, get_or-set_other}
 use lib.Ieee.{Float}
-use Rattle.calls.specs.declared.Answer.{Answer}
-use Rattle.calls.specs.declared.Answer.TheVariants.{Cells, Refused}
-use Rattle.sheet_lines.specs.declared.columns.Price.{Price}
-use Rattle.sheet_lines.specs.declared.columns.Price.TheVariants.{Ticks, Unpriced}
+use Rattle.calls.specs.Answer.{Answer}
+use Rattle.std.specs.Prelude.{Ok, Err}
+use Rattle.std.proofs.Common.{Option, Result, Ok, Err}
 use Rattle.sheet_lines.specs.declared.Request.{Request}
-use Rattle.sheet_lines.specs.declared.Header.{Header}
-use Rattle.sheet_lines.specs.declared.Header.TheVariants.{Asked, Malformed}
 use Rattle.sheet_lines.specs.declared.reasons.Reason.{Reason}
 use Rattle.sheet_lines.specs.Header.{read_header, read_price_line}
-use Rattle.sheet_lines.specs.Reason.{header_reason, price_reason}
 use Rattle.sheet_requests.specs.declared.Counts.{Counts}
 use Rattle.sheet_requests.specs.declared.status.Fault.{Fault}
 use Rattle.sheet_requests.specs.Answer.{rule_answer}
@@ -34,7 +30,27 @@ use Rattle.sheet_requests.specs.Counts.{
   after_lines,
   count_lines,
 }
-use Rattle.sheet_requests.specs.Sheet.{State, waiting, collecting, stopped, Complete, Step, quiet, broken, counted_after, completed, with_prices, begun, priced, lines, ending, outcome, whole, sheet, broken_at}
+use Rattle.sheet_requests.specs.Sheet.{
+  State,
+  waiting,
+  collecting,
+  stopped,
+  Complete,
+  Step,
+  quiet,
+  broken,
+  counted_after,
+  completed,
+  with_prices,
+  begun,
+  priced,
+  lines,
+  ending,
+  outcome,
+  whole,
+  sheet,
+  broken_at,
+}
 use Rattle.sheet_requests.specs.inner.Place.{finally}
 use Rattle.sheet_requests.specs.ByDesk.{
   requests_from,
@@ -93,11 +109,11 @@ one_counted c r prices d long (low, high) = go (is_desk r.desk) refl (rule_answe
         ≡ cond (u && is_refusal a) (one_more (get_or c.refused (d - 1) 0)) (get_or c.refused (d - 1) 0)
     go false i a true e = absurd (true≢false (sym (ours (eqb-true r.desk d e)) ∙ i))
     go false i a false e = refl
-    go true i (Cells k) true e = refl
-    go true i (Cells k) false e = refl
-    go true i (Refused q) true e =
+    go true i (Ok k) true e = refl
+    go true i (Ok k) false e = refl
+    go true i (Err q) true e =
         rw (eqb-true r.desk d e) (get_or-set_same c.refused (d - 1) _ 0 (omega (arith, long)))
-    go true i (Refused q) false e =
+    go true i (Err q) false e =
         let (some, most) = desk_between r.desk i in
         get_or-set_other c.refused (r.desk - 1) (d - 1) _ 0 (λ z. eqb-false r.desk d e (omega arith))
 
@@ -106,8 +122,8 @@ still_long : (c : Counts) (r : Request) (prices : List Float) → length c.refus
 still_long c r prices long = go (is_desk r.desk) (rule_answer r prices)
   where
     go : (t : Bool) (a : Answer) → length (cond t (after c r a) c).refused ≡ desks
-    go true (Cells k) = long
-    go true (Refused q) = length-set c.refused (r.desk - 1) _ ∙ long
+    go true (Ok k) = long
+    go true (Err q) = length-set c.refused (r.desk - 1) _ ∙ long
     go false a = long
 
 -- ---- the counts after requests
@@ -142,7 +158,7 @@ refused_in (waiting c) = c.refused
 refused_in (collecting c r prices) = c.refused
 refused_in (stopped c reason) = c.refused
 
-abbrev owed : State → Fault → List ℕ
+abbrev owed : State → Option Fault → List ℕ
 owed (waiting c) fault = broken_text fault
 owed (collecting c r prices) fault = broken_text fault
 owed (stopped c reason) fault = []
@@ -194,14 +210,14 @@ tells (stopped c reason) [] long = refl
 tells (stopped c reason) (line ∷ rest) long = tells (stopped c reason) rest long
 tells (waiting c) (line ∷ rest) long = go (read_header line) (λ s. tells s rest)
   where
-    go : (h : Header) → ((s : State) → Tells s rest) → TellsAfter c.refused (begun c line h) rest
-    go (Asked r) next = with_prices_tells rest next (after_lines 1 c) r [] long
-    go Malformed next = broken_tells c (header_reason line) rest
+    go : (h : Result Request Reason) → ((s : State) → Tells s rest) → TellsAfter c.refused (begun c h) rest
+    go (Ok r) next = with_prices_tells rest next (after_lines 1 c) r [] long
+    go (Err reason) next = broken_tells c reason rest
 tells (collecting c r prices) (line ∷ rest) long = go (read_price_line line) (λ s. tells s rest)
   where
-    go : (p : Price) → ((s : State) → Tells s rest) → TellsAfter c.refused (priced c r prices line p) rest
-    go (Ticks x) next = with_prices_tells rest next (after_lines 1 c) r (prices ++ (x ∷ [])) long
-    go Unpriced next = broken_tells c (price_reason line) rest
+    go : (p : Result Float Reason) → ((s : State) → Tells s rest) → TellsAfter c.refused (priced c r prices p) rest
+    go (Ok x) next = with_prices_tells rest next (after_lines 1 c) r (prices ++ (x ∷ [])) long
+    go (Err reason) next = broken_tells c reason rest
 
 -- ---- from the first line on
 

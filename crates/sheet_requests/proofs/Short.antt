@@ -2,12 +2,11 @@
 use mathlib.Core.Path.{◌≡◌, refl}
 use mathlib.Core.Bool.{Bool, true, false, not, ◌&&◌, true≢false}
 use mathlib.Core.List.{List, [], ◌∷◌, ◌++◌}
-use Prim.Native.Nat.{ℕ, ◌+◌, ◌<◌, ◌≤◌}
+use Prim.Native.Nat.{ℕ, ◌<◌, ◌≤◌}
 use native.Mathlib.Omega.{arith}
 use lib.Dec.{eqb}
 use lib.ListN.{length, take}
 use lib.Ieee.{Float}
-use Rattle.sheet_lines.specs.declared.reasons.Reason.{Reason}
 use Rattle.sheet_lines.specs.declared.reasons.Reason.TheVariants.{LineLength}
 use Rattle.sheet_lines.specs.Reason.{no_feed}
 use Rattle.sheet_lines.specs.Printed.{head_bytes}
@@ -61,7 +60,7 @@ early_line (b ∷ rest) more e = go (eqb b 10) refl e (early_line rest more)
         }
 
 -- so few bytes with a line feed are a line of another length
-pub fed_short : {s : State} {w : ℕ} {counts : Counts} {why : List ℕ → Reason} → Reader s w counts why
+pub fed_short : {s : State} {w : ℕ} {counts : Counts} → Reader s w counts
     → (rest more : List ℕ) (others : List (List ℕ)) → no_feed rest ≡ false → length rest ≤ w
     → outcome s (lines (rest ++ more)) ≡ finally (broken counts LineLength) others
 fed_short reader rest more others e h =

@@ -1,10 +1,8 @@
 -- The requests that an input asks, the answers to them, and how many of a desk's are refused. Assumes nothing.
-use Rattle.std.specs.Prelude.{Bool, true, false, cond, List, [], ◌∷◌, ◌++◌, ℕ, zero, suc, ◌+◌, min, eqb, length}
-use Rattle.calls.specs.declared.Answer.{Answer}
-use Rattle.calls.specs.declared.Answer.TheVariants.{Cells, Refused}
+use Rattle.std.specs.Prelude.{Bool, true, false, cond, List, [], ◌∷◌, ◌++◌, ℕ, zero, suc, ◌+◌, min, eqb, length, Ok, Err, Option, Some, None}
+use Rattle.calls.specs.Answer.{Answer}
 use Rattle.sheet_lines.specs.Printed.{broken_line, head_line}
 use Rattle.sheet_requests.specs.declared.status.Fault.{Fault}
-use Rattle.sheet_requests.specs.declared.status.Fault.TheVariants.{Nowhere, At}
 use Rattle.sheet_requests.specs.Answer.{rule_answer}
 use Rattle.sheet_requests.specs.Counts.{is_desk, none_yet, most_count}
 use Rattle.sheet_requests.specs.Sheet.{Complete, State, waiting, lines, step, answer_of}
@@ -28,9 +26,9 @@ answers_of [] = []
 answers_of (q ∷ rest) = answer_of q.request q.prices ++ answers_of rest
 
 -- and for a line that breaks its columns
-abbrev pub broken_text : Fault → List ℕ
-broken_text Nowhere = []
-broken_text (At line reason) = head_line 0 0 broken_line 0
+abbrev pub broken_text : Option Fault → List ℕ
+broken_text None = []
+broken_text (Some fault) = head_line 0 0 broken_line 0
 
 -- ---- the counts
 
@@ -48,8 +46,8 @@ of_desks q = is_desk q.request.desk
 
 -- whether an answer is a refusal; whether that of the request's rule is
 abbrev pub is_refusal : Answer → Bool
-is_refusal (Cells k) = false
-is_refusal (Refused q) = true
+is_refusal (Ok k) = false
+is_refusal (Err q) = true
 
 abbrev pub refused_by_rule : Complete → Bool
 refused_by_rule q = is_refusal (rule_answer q.request q.prices)

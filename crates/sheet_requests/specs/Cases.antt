@@ -1,5 +1,5 @@
 -- Small cases, by computation: whole sheets with document 01's example. Assumes nothing.
-use Rattle.std.specs.Prelude.{◌≡◌, refl, cond, List, [], ◌∷◌, ◌++◌, map, ℕ, eqb}
+use Rattle.std.specs.Prelude.{◌≡◌, refl, cond, List, [], ◌∷◌, ◌++◌, map, ℕ, eqb, Option, Some, None}
 use Rattle.std.specs.Float.Ieee.{add, sub, div, of_int, lt, eq, le, to_bits}
 use Rattle.rounding.specs.Leaves.{sign_of}
 use Rattle.values.specs.Accepted.{accepted}
@@ -16,9 +16,9 @@ use Rattle.sheet_lines.specs.Read.{number, read_field, signed, read_price}
 use Rattle.sheet_lines.specs.Print.{print_field}
 use Rattle.sheet_lines.specs.Header.{request_of, read_header, read_price_line}
 use Rattle.sheet_lines.specs.Printed.{head_line, position_lines, answer_text, count_line}
+use Rattle.sheet_requests.specs.declared.status.Fault.{Fault}
+use Rattle.sheet_lines.specs.declared.reasons.Reason.{Reason}
 use Rattle.sheet_lines.specs.declared.reasons.Reason.TheVariants.{LineLength, PriceField, InputEnds}
-use Rattle.sheet_lines.specs.Reason.{header_reason, price_reason}
-use Rattle.sheet_requests.specs.declared.status.Fault.TheVariants.{Nowhere, At}
 use Rattle.sheet_requests.specs.Answer.{rule_answer, rule_line}
 use Rattle.sheet_requests.specs.Counts.{desks, count_lines}
 use Rattle.sheet_requests.specs.ByDesk.{requests_from, requests_of, desk_count}
@@ -107,6 +107,9 @@ request_cases = refl
 
 -- no input and a whole request break nowhere; the second price is none; an input
 -- ends after its second line, and inside its first; the line after a request is short
+abbrev at : ℕ → Reason → Option Fault
+at line reason = Some (record { line = line; reason = reason })
+
 faults :
     map (λ input. broken_at (bytes input))
     (
@@ -118,8 +121,8 @@ faults :
     ∷ "   0   1     1     0     1\n           5\nbad\n"
     ∷ []
     )
-    ≡ Nowhere ∷ Nowhere ∷ At 3 PriceField ∷ At 3 InputEnds ∷ At 1 InputEnds ∷ At 3 LineLength ∷ []
+    ≡ None ∷ None ∷ at 3 PriceField ∷ at 3 InputEnds ∷ at 1 InputEnds ∷ at 3 LineLength ∷ []
 unfolding whole outcome lines with_prices ending
-    read_header request_of read_price_line read_field read_price signed number header_reason price_reason
+    read_header request_of read_price_line read_field read_price signed number
     rule_answer answered checked windowed slices accepted of_int lt eq le to_bits
 faults = refl

@@ -1,7 +1,6 @@
 -- The desks, the counts of their refused requests and of lines, and what is printed last. Assumes nothing.
-use Rattle.std.specs.Prelude.{Bool, cond, ◌&&◌, List, [], ◌++◌, ℕ, zero, suc, ◌+◌, ◌-◌, ◌*◌, leb, ltb, get_or, set, replicate}
-use Rattle.calls.specs.declared.Answer.{Answer}
-use Rattle.calls.specs.declared.Answer.TheVariants.{Cells, Refused}
+use Rattle.std.specs.Prelude.{Bool, cond, ◌&&◌, List, [], ◌++◌, ℕ, zero, suc, ◌+◌, ◌-◌, ◌*◌, leb, ltb, get_or, set, replicate, Ok, Err}
+use Rattle.calls.specs.Answer.{Answer}
 use Rattle.sheet_lines.specs.declared.Request.{Request}
 use Rattle.sheet_lines.specs.Printed.{count_bytes, count_line}
 use Rattle.sheet_requests.specs.declared.Counts.{Counts}
@@ -41,8 +40,8 @@ one_more_of c desk = record { refused = set c.refused (desk - 1) (one_more (refu
 
 -- after the answer of its rule to a request of one of the desks
 abbrev pub after : Counts → Request → Answer → Counts
-after c r (Cells k) = c
-after c r (Refused q) = one_more_of c r.desk
+after c r (Ok k) = c
+after c r (Err q) = one_more_of c r.desk
 
 -- after k lines that were read
 abbrev pub after_lines : ℕ → Counts → Counts

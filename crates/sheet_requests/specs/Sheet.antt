@@ -1,19 +1,14 @@
 -- What the program writes for a whole input, and where the input breaks its columns: a
 -- step on its lines, from the first to the last. Assumes nothing.
-use Rattle.std.specs.Prelude.{cond, List, [], ◌∷◌, ◌++◌, ℕ, eqb, length, Float}
-use Rattle.sheet_lines.specs.declared.columns.Price.{Price}
-use Rattle.sheet_lines.specs.declared.columns.Price.TheVariants.{Ticks, Unpriced}
+use Rattle.std.specs.Prelude.{cond, List, [], ◌∷◌, ◌++◌, ℕ, eqb, length, Float, Option, Some, None, Result, Ok, Err}
 use Rattle.sheet_lines.specs.declared.Request.{Request}
-use Rattle.sheet_lines.specs.declared.Header.{Header}
-use Rattle.sheet_lines.specs.declared.Header.TheVariants.{Asked, Malformed}
 use Rattle.sheet_lines.specs.declared.reasons.Reason.{Reason}
 use Rattle.sheet_lines.specs.declared.reasons.Reason.TheVariants.{InputEnds}
 use Rattle.sheet_lines.specs.Header.{read_header, read_price_line}
-use Rattle.sheet_lines.specs.Reason.{header_reason, price_reason}
+use Rattle.sheet_lines.specs.Rule.{rule_number}
 use Rattle.sheet_lines.specs.Printed.{broken_line, no_such_desk, head_line, answer_text}
 use Rattle.sheet_requests.specs.declared.Counts.{Counts}
 use Rattle.sheet_requests.specs.declared.status.Fault.{Fault}
-use Rattle.sheet_requests.specs.declared.status.Fault.TheVariants.{Nowhere, At}
 use Rattle.sheet_requests.specs.Answer.{rule_answer, rule_line}
 use Rattle.sheet_requests.specs.Counts.{is_desk, none_yet, after, after_lines, closing}
 
@@ -62,7 +57,7 @@ broken c reason =
 abbrev pub answer_of : Request → List Float → List ℕ
 answer_of r prices =
     cond (is_desk r.desk) (answer_text r (rule_answer r prices) (rule_line r prices))
-    (head_line r.desk r.rule no_such_desk 0)
+    (head_line r.desk (rule_number r.rule) no_such_desk 0)
 
 -- the counts after it: refusal 15 is in none
 abbrev pub counted_after : Counts → Request → List Float → Counts
@@ -82,17 +77,18 @@ unfoldable pub with_prices : Counts → Request → List Float → Step
 with_prices c r prices =
     cond (eqb (length prices) r.bars) (completed c r prices) (quiet (collecting c r prices))
 
-abbrev pub begun : Counts → List ℕ → Header → Step
-begun c line (Asked r) = with_prices (after_lines 1 c) r []
-begun c line Malformed = broken c (header_reason line)
+-- what was read of a request's first line, and of a price's line, or why it is refused
+abbrev pub begun : Counts → Result Request Reason → Step
+begun c (Ok r) = with_prices (after_lines 1 c) r []
+begun c (Err reason) = broken c reason
 
-abbrev pub priced : Counts → Request → List Float → List ℕ → Price → Step
-priced c r prices line (Ticks x) = with_prices (after_lines 1 c) r (prices ++ (x ∷ []))
-priced c r prices line Unpriced = broken c (price_reason line)
+abbrev pub priced : Counts → Request → List Float → Result Float Reason → Step
+priced c r prices (Ok x) = with_prices (after_lines 1 c) r (prices ++ (x ∷ []))
+priced c r prices (Err reason) = broken c reason
 
 abbrev pub step : State → List ℕ → Step
-step (waiting c) line = begun c line (read_header line)
-step (collecting c r prices) line = priced c r prices line (read_price_line line)
+step (waiting c) line = begun c (read_header line)
+step (collecting c r prices) line = priced c r prices (read_price_line line)
 step (stopped c reason) line = quiet (stopped c reason)
 
 -- ---- the whole
@@ -100,22 +96,26 @@ step (stopped c reason) line = quiet (stopped c reason)
 -- what the lines come to: all that is printed, and where they break
 pub record Outcome : Type 0 where
   pub text : List ℕ
-  pub fault : Fault
+  pub fault : Option Fault
 
 -- a text printed, and then the rest
 abbrev pub printing : List ℕ → Outcome → Outcome
 printing text rest = record { text = text ++ rest.text; fault = rest.fault }
 
 -- what is printed last
-abbrev pub closed : Counts → Fault → Outcome
+abbrev pub closed : Counts → Option Fault → Outcome
 closed c fault = record { text = closing c; fault = fault }
+
+-- the line after those that were read is missing, or not whole
+abbrev pub missing_line : Counts → Fault
+missing_line c = record { line = (after_lines 1 c).lines; reason = InputEnds }
 
 -- The input ends: inside a request, the line that is missing breaks it.
 unfoldable pub ending : State → Outcome
-ending (waiting c) = closed c Nowhere
+ending (waiting c) = closed c None
 ending (collecting c r prices) =
-    printing (broken c InputEnds).prints (closed (after_lines 1 c) (At (after_lines 1 c).lines InputEnds))
-ending (stopped c reason) = closed c (At c.lines reason)
+    printing (broken c InputEnds).prints (closed (after_lines 1 c) (Some (missing_line c)))
+ending (stopped c reason) = closed c (Some (record { line = c.lines; reason = reason }))
 
 -- what the lines come to from a state on
 unfoldable pub outcome : State → List (List ℕ) → Outcome
@@ -129,6 +129,6 @@ whole input = outcome (waiting none_yet) (lines input)
 abbrev pub sheet : List ℕ → List ℕ
 sheet input = (whole input).text
 
--- Where the input breaks its columns: the line, counted from 1, and the reason.
-abbrev pub broken_at : List ℕ → Fault
+-- Where the input breaks its columns, if it does: the line, counted from 1, and the reason.
+abbrev pub broken_at : List ℕ → Option Fault
 broken_at input = (whole input).fault

@@ -1,10 +1,9 @@
 -- How far a run has come, what is printed last, and the numbers with which it ends. Assumes nothing.
-use Rattle.std.specs.Prelude.{Bool, true, false, ◌≡◌, List, [], ◌++◌, ℕ}
+use Rattle.std.specs.Prelude.{Bool, true, false, ◌≡◌, List, [], ◌++◌, ℕ, Option, Some, None}
 use Rattle.sheet_lines.specs.Reason.{reason_number}
 use Rattle.sheet_requests.specs.declared.status.Status.{Status}
 use Rattle.sheet_requests.specs.declared.status.Status.TheVariants.{Reading, Done, ReadFailed, WriteFailed}
 use Rattle.sheet_requests.specs.declared.status.Fault.{Fault}
-use Rattle.sheet_requests.specs.declared.status.Fault.TheVariants.{Nowhere, At}
 use Rattle.sheet_requests.specs.declared.status.End.{End}
 use Rattle.sheet_requests.specs.Sheet.{State, printing, lines, outcome, whole}
 
@@ -21,9 +20,9 @@ failed_end = record { status = 1; reason = 0; line = 0 }
 
 -- The numbers with which a run ends: status 0 only where all was read and written and no line broke its columns, and 3
 -- where one did.
-abbrev pub end_of : Status → Fault → End
-end_of Done Nowhere = record { status = 0; reason = 0; line = 0 }
-end_of Done (At line reason) = record { status = 3; reason = reason_number reason; line = line }
+abbrev pub end_of : Status → Option Fault → End
+end_of Done None = record { status = 0; reason = 0; line = 0 }
+end_of Done (Some fault) = record { status = 3; reason = reason_number fault.reason; line = fault.line }
 end_of Reading fault = failed_end
 end_of ReadFailed fault = failed_end
 end_of WriteFailed fault = failed_end

@@ -12,6 +12,7 @@ use crate::Counts;
 use crate::blocks::{Place, Sheet, Stage};
 use calls::Answer;
 use sheet_lines::Request;
+use sheet_lines::rule::Rule;
 use sheet_lines::text::NO_SUCH_DESK;
 
 // Answers the request by its rule, on the first prices of the series; the positions are in `out`.
@@ -21,18 +22,16 @@ pub fn answer(request: Request, series: &[f64], out: &mut [f64], work: &mut [f64
     ensures { RequestCall request (take request.bars series.now)
         out.old work.old result out.new work.new }
 {
-    let bars = request.bars;
-    let prices = &series[..bars];
-    if request.rule == 1 {
-        rules::single_sma_positions(prices, request.n, out, work)
-    } else if request.rule == 2 {
-        rules::double_sma_positions(prices, request.n, request.m, out)
-    } else {
-        rules::mid_positions(prices, request.n, out, work)
+    let prices = &series[..request.bars];
+    match request.rule {
+        Rule::Single => rules::single_sma_positions(prices, request.n, out, work),
+        Rule::Double => rules::double_sma_positions(prices, request.n, request.m, out),
+        Rule::Middle => rules::mid_positions(prices, request.n, out, work),
     }
 }
 
-// Answers a request of one of the desks by its rule, and prints the answer.
+// Answers a request of one of the desks by its rule, and prints the answer. The slices stay parameters of their own:
+// the contracts say of each by itself what a call leaves in it.
 fn answer_by_rule(
     request: Request,
     counts: Counts,
@@ -57,7 +56,7 @@ fn answer_by_rule(
             stage: Stage::Waiting,
             counts: counts.after(request, given),
         },
-        at: at,
+        at,
         filled: end,
     }
 }
@@ -69,13 +68,20 @@ fn refuse_desk(request: Request, counts: Counts, at: usize, text: &mut [u8], fil
         → Stepped (completed counts request prices) series at filled result text.old text.new)
         × (result.sheet.stage ≡ Stage.Waiting) × (result.filled ≡ filled + head_bytes) }
 {
-    sheet_lines::text::print_head(text, filled, request.desk, request.rule, NO_SUCH_DESK, 0);
+    sheet_lines::text::print_head(
+        text,
+        filled,
+        request.desk,
+        request.rule.number(),
+        NO_SUCH_DESK,
+        0,
+    );
     Place {
         sheet: Sheet {
             stage: Stage::Waiting,
-            counts: counts,
+            counts,
         },
-        at: at,
+        at,
         filled: filled + sheet_lines::text::HEAD_BYTES,
     }
 }
@@ -120,26 +126,17 @@ pub fn answer_if_complete(
         (place.filled + text_owed place.sheet.stage)
         × (work.new ≡ work.old) }
 {
-    let sheet = place.sheet;
-    let stage = sheet.stage;
-    match stage {
-        Stage::Waiting => place,
-        Stage::Collecting(request, got) => {
-            if got == request.bars {
-                answer_complete(
-                    request,
-                    sheet.counts,
-                    place.at,
-                    series,
-                    out,
-                    work,
-                    text,
-                    place.filled,
-                )
-            } else {
-                place
-            }
-        }
-        Stage::Stopped(_) => place,
+    match place.sheet.stage {
+        Stage::Collecting(request, got) if got == request.bars => answer_complete(
+            request,
+            place.sheet.counts,
+            place.at,
+            series,
+            out,
+            work,
+            text,
+            place.filled,
+        ),
+        Stage::Waiting | Stage::Collecting(_, _) | Stage::Stopped(_) => place,
     }
 }

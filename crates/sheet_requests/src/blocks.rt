@@ -8,10 +8,9 @@ ghost use Rattle.sheet_requests.specs.inner.Place.{beginning, next_line_bytes, S
 ghost use Rattle.sheet_requests.specs.inner.Taken.{text_room, Placed, Taken};
 
 use crate::Counts;
-use sheet_lines::columns::Price;
 use sheet_lines::reasons::Reason;
 use sheet_lines::text::BROKEN_LINE;
-use sheet_lines::{HEADER_BYTES, Header, PRICE_BYTES, Request};
+use sheet_lines::{HEADER_BYTES, PRICE_BYTES, Request};
 
 // The room for text beyond a byte for each byte read: the longest answer, and the refusal of a broken line.
 pub const TEXT_ROOM: usize = sheet_lines::text::HEAD_BYTES
@@ -42,12 +41,12 @@ pub struct Place {
     pub filled: usize,
 }
 
-// Prices that were read: the byte after them, how many there are, and whether no line was broken.
+// Prices that were read: the byte after them, how many there are, and why the next line is broken, if one was met.
 #[derive(Clone, Copy)]
 pub struct Run {
     pub at: usize,
     pub got: usize,
-    pub whole: bool,
+    pub broken: Option<Reason>,
 }
 
 // Reads prices from `at` on until the request has all or too few bytes are left.
@@ -56,25 +55,25 @@ fn read_prices(block: &[u8], at: usize, request: Request, got: usize, series: &m
         × (request.bars ≤ length series.old) }
     ensures { PricesRead block.now at request got series.old result series.new }
 {
-    let end = got + cells::smaller(request.bars - got, (block.len() - at) / PRICE_BYTES);
+    let end = got + (request.bars - got).min((block.len() - at) / PRICE_BYTES);
     let mut place = at;
-    let mut i = got;
-    while i < end {
-        let Price::Ticks(price) = sheet_lines::read_price_line(block, place) else {
-            return Run {
-                at: place,
-                got: i,
-                whole: false,
-            };
-        };
-        series[i] = price;
-        i += 1;
+    for i in got..end {
+        match sheet_lines::read_price_line(&block[place..place + PRICE_BYTES]) {
+            Ok(price) => series[i] = price,
+            Err(reason) => {
+                return Run {
+                    at: place,
+                    got: i,
+                    broken: Some(reason),
+                };
+            }
+        }
         place += PRICE_BYTES;
     }
     Run {
         at: place,
-        got: i,
-        whole: true,
+        got: end,
+        broken: None,
     }
 }
 
@@ -91,7 +90,7 @@ fn stop(counts: Counts, reason: Reason, at: usize, text: &mut [u8], filled: usiz
             stage: Stage::Stopped(reason),
             counts: counts.after_lines(1),
         },
-        at: at,
+        at,
         filled: filled + sheet_lines::text::HEAD_BYTES,
     }
 }
@@ -103,21 +102,18 @@ fn take_header(place: Place, block: &[u8], text: &mut [u8]) -> Place
     ensures { (series : List Float)
         → Taken block.now place series text.old result series text.new }
 {
-    let sheet = place.sheet;
-    let counts = sheet.counts;
-    let at = place.at;
-    let filled = place.filled;
-    let Header::Asked(request) = sheet_lines::read_header(block, at) else {
-        let reason = sheet_lines::reasons::header_reason(block, at);
-        return stop(counts, reason, block.len(), text, filled);
-    };
-    Place {
-        sheet: Sheet {
-            stage: Stage::Collecting(request, 0),
-            counts: counts.after_lines(1),
+    let counts = place.sheet.counts;
+    let next = place.at + HEADER_BYTES;
+    match sheet_lines::read_header(&block[place.at..next]) {
+        Ok(request) => Place {
+            sheet: Sheet {
+                stage: Stage::Collecting(request, 0),
+                counts: counts.after_lines(1),
+            },
+            at: next,
+            filled: place.filled,
         },
-        at: at + HEADER_BYTES,
-        filled: filled,
+        Err(reason) => stop(counts, reason, block.len(), text, place.filled),
     }
 }
 
@@ -136,24 +132,18 @@ fn take_prices(
     ensures { Taken block.now place series.old text.old
         result series.new text.new }
 {
-    let sheet = place.sheet;
-    let before = sheet.counts;
-    let at = place.at;
-    let filled = place.filled;
-    let run = read_prices(block, at, request, got, series);
-    let counts = before.after_lines(run.got - got);
-    if run.whole {
-        Place {
+    let run = read_prices(block, place.at, request, got, series);
+    let counts = place.sheet.counts.after_lines(run.got - got);
+    match run.broken {
+        None => Place {
             sheet: Sheet {
                 stage: Stage::Collecting(request, run.got),
-                counts: counts,
+                counts,
             },
             at: run.at,
-            filled: filled,
-        }
-    } else {
-        let reason = sheet_lines::reasons::price_reason(block, run.at);
-        stop(counts, reason, block.len(), text, filled)
+            filled: place.filled,
+        },
+        Some(reason) => stop(counts, reason, block.len(), text, place.filled),
     }
 }
 
@@ -165,15 +155,12 @@ pub fn take_lines(place: Place, block: &[u8], series: &mut [f64], text: &mut [u8
     ensures { Taken block.now place series.old text.old
         result series.new text.new }
 {
-    let sheet = place.sheet;
-    let stage = sheet.stage;
-    match stage {
+    match place.sheet.stage {
         Stage::Waiting => take_header(place, block, text),
         Stage::Collecting(request, got) => take_prices(place, request, got, block, series, text),
         Stage::Stopped(_) => Place {
-            sheet: sheet,
             at: block.len(),
-            filled: place.filled,
+            ..place
         },
     }
 }
@@ -187,9 +174,8 @@ pub fn take_short(place: Place, block: &[u8], text: &mut [u8]) -> Place
         → Taken block.now place series text.old result series text.new)
         × (result.sheet.stage ≡ Stage.Stopped Reason.LineLength) × (result.at ≡ length block.now) }
 {
-    let sheet = place.sheet;
     stop(
-        sheet.counts,
+        place.sheet.counts,
         Reason::LineLength,
         block.len(),
         text,
@@ -201,9 +187,7 @@ pub fn take_short(place: Place, block: &[u8], text: &mut [u8]) -> Place
 pub fn next_line_bytes(place: Place) -> usize
     ensures { result ≡ next_line_bytes place.sheet.stage }
 {
-    let sheet = place.sheet;
-    let stage = sheet.stage;
-    match stage {
+    match place.sheet.stage {
         Stage::Waiting => HEADER_BYTES,
         Stage::Collecting(_, _) => PRICE_BYTES,
         Stage::Stopped(_) => 1,

@@ -1,7 +1,7 @@
 // The end of a sheet: what is printed last, and where the input breaks.
 ghost use Rattle.std.specs.Prelude.{◌≡◌, ◌++◌, ◌<◌, ◌≤◌, length, take};
 ghost use Rattle.sheet_requests.specs.Counts.{after_lines, closing};
-ghost use Rattle.sheet_requests.specs.Sheet.{broken};
+ghost use Rattle.sheet_requests.specs.Sheet.{broken, missing_line};
 ghost use Rattle.sheet_requests.specs.inner.Place.{next_line_bytes};
 ghost use Rattle.sheet_requests.specs.inner.Finished.{cut_bytes, Finished, FaultAtEnd};
 
@@ -30,24 +30,22 @@ fn print_end(sheet: Sheet, kept: usize, text: &mut [u8]) -> usize
     requires { (kept < next_line_bytes sheet.stage) × (cut_bytes ≤ length text.old) }
     ensures { Finished Status.Done sheet kept result text.new }
 {
-    let stage = sheet.stage;
-    let counts = sheet.counts;
-    match stage {
+    match sheet.stage {
         Stage::Waiting => {
             if kept == 0 {
-                counts.print(text, 0);
+                sheet.counts.print(text, 0);
                 CLOSING_BYTES
             } else {
-                print_cut(text, counts);
+                print_cut(text, sheet.counts);
                 CUT_BYTES
             }
         }
         Stage::Collecting(_, _) => {
-            print_cut(text, counts);
+            print_cut(text, sheet.counts);
             CUT_BYTES
         }
         Stage::Stopped(_) => {
-            counts.print(text, 0);
+            sheet.counts.print(text, 0);
             CLOSING_BYTES
         }
     }
@@ -61,36 +59,32 @@ pub fn finish(status: Status, sheet: Sheet, kept: usize, text: &mut [u8]) -> usi
 {
     match status {
         Status::Done => print_end(sheet, kept, text),
-        Status::Reading => 0,
-        Status::ReadFailed => 0,
-        Status::WriteFailed => 0,
+        Status::Reading | Status::ReadFailed | Status::WriteFailed => 0,
     }
 }
 
 // The line after those that were read is missing, or not whole.
 fn missing_line(counts: Counts) -> Fault
-    ensures { result ≡ Fault.At (after_lines 1 counts).lines Reason.InputEnds }
+    ensures { result ≡ missing_line counts }
 {
-    let cut = counts.after_lines(1);
-    Fault::At(cut.lines, Reason::InputEnds)
+    Fault {
+        line: counts.after_lines(1).lines,
+        reason: Reason::InputEnds,
+    }
 }
 
 // Where the input breaks, if it ends here with `kept` bytes that are too few for a line.
-pub fn fault_at_end(sheet: Sheet, kept: usize) -> Fault
+pub fn fault_at_end(sheet: Sheet, kept: usize) -> Option<Fault>
     requires { kept < next_line_bytes sheet.stage }
     ensures { FaultAtEnd sheet kept result }
 {
-    let stage = sheet.stage;
-    let counts = sheet.counts;
-    match stage {
-        Stage::Waiting => {
-            if kept == 0 {
-                Fault::Nowhere
-            } else {
-                missing_line(counts)
-            }
-        }
-        Stage::Collecting(_, _) => missing_line(counts),
-        Stage::Stopped(reason) => Fault::At(counts.lines, reason),
+    match sheet.stage {
+        Stage::Waiting if kept == 0 => None,
+        Stage::Waiting => Some(missing_line(sheet.counts)),
+        Stage::Collecting(_, _) => Some(missing_line(sheet.counts)),
+        Stage::Stopped(reason) => Some(Fault {
+            line: sheet.counts.lines,
+            reason,
+        }),
     }
 }

@@ -61,10 +61,7 @@ fn many_more(count: u64, more: usize) -> u64
 fn is_desk(desk: u64) -> bool
     ensures { result ≡ is_desk desk }
 {
-    if desk < 1 {
-        return false;
-    }
-    desk <= DESKS as u64
+    (1..=DESKS as u64).contains(&desk)
 }
 
 impl Counts {
@@ -87,7 +84,7 @@ impl Counts {
         let at = (desk - 1) as usize;
         refused[at] = many_more(refused[at], 1);
         Counts {
-            refused: refused,
+            refused,
             lines: self.lines,
         }
     }
@@ -98,8 +95,8 @@ impl Counts {
         ensures { result ≡ after self request answer }
     {
         match answer {
-            Answer::Cells(_) => self,
-            Answer::Refused(_) => self.one_more(request.desk),
+            Ok(_) => self,
+            Err(_) => self.one_more(request.desk),
         }
     }
 
@@ -107,10 +104,9 @@ impl Counts {
     pub fn after_lines(self, lines: usize) -> Self
         ensures { result ≡ after_lines lines self }
     {
-        let refused = self.refused;
         Counts {
-            refused: refused,
             lines: many_more(self.lines, lines),
+            ..self
         }
     }
 
@@ -119,16 +115,13 @@ impl Counts {
         requires { at + closing_bytes ≤ length text.old }
         ensures { Adds at (closing self) (at + closing_bytes) text.old text.new }
     {
-        let refused = self.refused;
-        let mut i = 0;
-        while i < DESKS {
+        for i in 0..DESKS {
             sheet_lines::text::print_count(
                 text,
                 at + sheet_lines::text::COUNT_BYTES * i,
                 (i + 1) as u64,
-                refused[i],
+                self.refused[i],
             );
-            i += 1;
         }
     }
 }

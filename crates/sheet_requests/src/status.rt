@@ -6,6 +6,7 @@ use sheet_lines::reasons::Reason;
 
 // How the program stands: it reads on; all is read, to the end of the
 // input or to a line that broke its columns; or a read or a write failed.
+// Each of the four is told by name in the definition of what is printed last (Whole.antt), so it is no Result.
 #[derive(Clone, Copy)]
 pub enum Status {
     Reading,
@@ -14,14 +15,15 @@ pub enum Status {
     WriteFailed,
 }
 
-// Where an input breaks its columns: nowhere, or in a line, counted from 1, for a reason.
+// Where an input breaks its columns: the line, counted from 1, and the reason.
 #[derive(Clone, Copy)]
-pub enum Fault {
-    Nowhere,
-    At(u64, Reason),
+pub struct Fault {
+    pub line: u64,
+    pub reason: Reason,
 }
 
 // The numbers with which a run ends: the exit status, and of a line that broke its columns the reason and the line.
+// Numbers, since C is handed them.
 #[repr(C)]
 #[derive(Clone, Copy)]
 pub struct End {
@@ -36,26 +38,24 @@ pub fn goes_on(status: Status) -> bool
 {
     match status {
         Status::Reading => true,
-        Status::Done => false,
-        Status::ReadFailed => false,
-        Status::WriteFailed => false,
+        Status::Done | Status::ReadFailed | Status::WriteFailed => false,
     }
 }
 
 // The numbers of a run that read all, up to the end of the input or to where it breaks.
-fn end_of_all(fault: Fault) -> End
+fn end_of_all(fault: Option<Fault>) -> End
     ensures { result ≡ end_of Status.Done fault }
 {
     match fault {
-        Fault::Nowhere => End {
+        None => End {
             status: 0,
             reason: 0,
             line: 0,
         },
-        Fault::At(line, reason) => End {
+        Some(fault) => End {
             status: 3,
-            reason: sheet_lines::reasons::number_of(reason),
-            line: line,
+            reason: sheet_lines::reasons::number_of(fault.reason),
+            line: fault.line,
         },
     }
 }
@@ -72,13 +72,11 @@ fn failed() -> End
 }
 
 // The numbers of a run that ended so.
-pub fn end_of(status: Status, fault: Fault) -> End
+pub fn end_of(status: Status, fault: Option<Fault>) -> End
     ensures { result ≡ end_of status fault }
 {
     match status {
         Status::Done => end_of_all(fault),
-        Status::Reading => failed(),
-        Status::ReadFailed => failed(),
-        Status::WriteFailed => failed(),
+        Status::Reading | Status::ReadFailed | Status::WriteFailed => failed(),
     }
 }

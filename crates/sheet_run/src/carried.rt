@@ -25,8 +25,7 @@ fn read_status(input: Input, stage: Stage) -> Status
         Input::Failed => Status::ReadFailed,
         Input::Ended => Status::Done,
         Input::Bytes(_) => match stage {
-            Stage::Waiting => Status::Reading,
-            Stage::Collecting(_, _) => Status::Reading,
+            Stage::Waiting | Stage::Collecting(_, _) => Status::Reading,
             Stage::Stopped(_) => Status::Done,
         },
     }
@@ -47,11 +46,10 @@ pub fn write_status(output: Output, status: Status) -> Status
 pub fn status(carried: Carried) -> Status
     ensures { result ≡ status_of carried }
 {
-    let place = carried.place;
-    let sheet = place.sheet;
-    let input = carried.input;
-    let stage = sheet.stage;
-    write_status(carried.output, read_status(input, stage))
+    write_status(
+        carried.output,
+        read_status(carried.input, carried.place.sheet.stage),
+    )
 }
 
 // Before the first turn.

@@ -4,7 +4,7 @@
 // holds what came, and that the bytes handed over are written, is assumed here, and
 // tested by tools/sheet_compare; what is done with the bytes in the buffers is proved.
 ghost use Rattle.std.specs.Prelude.{◌≡◌, ◌≤◌, ◌+◌, length, take};
-ghost use Rattle.sheet_run.specs.Run.{input_of, bytes_read};
+ghost use Rattle.sheet_run.specs.Run.{bytes_read};
 ghost use Rattle.sheet_run.specs.inner.Refills.{Refills};
 
 use crate::streams;
@@ -12,6 +12,7 @@ use crate::streams::Streams;
 use std::io::{Error, ErrorKind, Read, Stdout, Write};
 
 // What a read answered: so many bytes came, the input has ended, or it could not be read.
+// Not the count of a Read alone: before the first turn no byte has come, and the input has not ended.
 #[derive(Clone, Copy)]
 pub enum Input {
     Bytes(usize),
@@ -20,6 +21,7 @@ pub enum Input {
 }
 
 // What became of a text: how many bytes were handed over to be written, and whether all were taken.
+// The number is there in both cases: the contract of a turn says it of a write that failed too.
 #[derive(Clone, Copy)]
 pub struct Output {
     pub bytes: usize,
@@ -33,34 +35,19 @@ pub struct Refilled {
     pub input: Input,
 }
 
-// What the answer of a read says: below 0 it failed, and with no byte the input has ended.
-fn input_of(got: isize, room: &[u8]) -> Input
-    ensures { result ≡ input_of got (length room.now) }
-{
-    if got < 0 {
-        return Input::Failed;
-    }
-    let count = io::count(got, room);
-    if count == 0 {
-        Input::Ended
-    } else {
-        Input::Bytes(count)
-    }
-}
-
-// Reads once. The reason why a read failed goes to standard error.
+// Reads once: with no byte the input has ended. The reason why a read failed goes to standard error.
 fn read_some(streams: Streams, room: &mut [u8]) -> Input
     ensures { bytes_read result ≤ length room.old }
 {
     let mut input = streams.input;
-    let got = match input.read(room) {
-        Ok(count) => count as isize,
+    match input.read(room) {
+        Ok(0) => Input::Ended,
+        Ok(count) => Input::Bytes(count),
         Err(why) => {
             streams::tell(streams.errors, "reading", why);
-            -1
+            Input::Failed
         }
-    };
-    input_of(got, room)
+    }
 }
 
 // Reads once behind the first `kept` bytes of the block, which stay.
@@ -78,8 +65,7 @@ fn count_of(input: Input) -> usize
 {
     match input {
         Input::Bytes(count) => count,
-        Input::Ended => 0,
-        Input::Failed => 0,
+        Input::Ended | Input::Failed => 0,
     }
 }
 
@@ -92,7 +78,7 @@ pub fn refill(streams: Streams, block: &mut [u8], at: usize, end: usize) -> Refi
     let input = read_on(streams, block, kept);
     Refilled {
         end: kept + count_of(input),
-        input: input,
+        input,
     }
 }
 
@@ -100,13 +86,13 @@ pub fn refill(streams: Streams, block: &mut [u8], at: usize, end: usize) -> Refi
 // interrupts is one that failed.
 fn write_all(output: Stdout, bytes: &[u8]) -> Result<(), Error> {
     let mut output = output;
-    let mut done = 0;
-    while done < bytes.len() {
-        let count = output.write(&bytes[done..])?;
+    let mut rest = bytes;
+    while !rest.is_empty() {
+        let count = output.write(rest)?;
         if count == 0 {
             return Err(Error::new(ErrorKind::WriteZero, "failed to write whole buffer"));
         }
-        done += count;
+        rest = &rest[count..];
     }
     Ok(())
 }
@@ -126,6 +112,6 @@ pub fn write_text(streams: Streams, text: &[u8], filled: usize) -> Output
     };
     Output {
         bytes: bytes.len(),
-        taken: taken,
+        taken,
     }
 }

@@ -32,7 +32,7 @@ const TEXT_BYTES: usize = BLOCK_BYTES + TEXT_ROOM;
 #[derive(Clone, Copy)]
 pub struct Closed {
     pub output: Output,
-    pub fault: Fault,
+    pub fault: Option<Fault>,
 }
 
 // Moves the bytes that are left to the front of the block, reads
@@ -51,17 +51,21 @@ pub fn turn(
         result block.new series.new text.new
         × (work.new ≡ work.old) }
 {
-    let place = carried.place;
-    let read = input::refill(streams, block, place.at, carried.end);
-    let end = read.end;
-    let input = read.input;
-    let next = sheet_text::feed(place.sheet, &block[..end], series, out, work, text);
+    let read = input::refill(streams, block, carried.place.at, carried.end);
+    let next = sheet_text::feed(
+        carried.place.sheet,
+        &block[..read.end],
+        series,
+        out,
+        work,
+        text,
+    );
     let output = input::write_text(streams, text, next.filled);
     Carried {
         place: next,
-        end: end,
-        input: input,
-        output: output,
+        end: read.end,
+        input: read.input,
+        output,
     }
 }
 
@@ -70,29 +74,24 @@ pub fn close(streams: Streams, carried: Carried, text: &mut [u8]) -> Closed
     requires { Carrying carried × (cut_bytes ≤ length text.old) }
     ensures { Closes carried result text.new }
 {
-    let place = carried.place;
-    let sheet = place.sheet;
-    let kept = carried.end - place.at;
+    let sheet = carried.place.sheet;
+    let kept = carried.end - carried.place.at;
     let count = sheet_requests::closing::finish(carried::status(carried), sheet, kept, text);
     let output = input::write_text(streams, text, count);
     let fault = sheet_requests::closing::fault_at_end(sheet, kept);
-    Closed {
-        output: output,
-        fault: fault,
-    }
+    Closed { output, fault }
 }
 
 // The numbers with which a run ends so.
 pub fn end_of(carried: Carried, closed: Closed) -> End
     ensures { result ≡ end_of (write_status closed.output.taken (status_of carried)) closed.fault }
 {
-    let fault = closed.fault;
     let status = carried::write_status(closed.output, carried::status(carried));
-    sheet_requests::status::end_of(status, fault)
+    sheet_requests::status::end_of(status, closed.fault)
 }
 
 // Turns until the end of the input, or until a line breaks its columns.
-// They are counted down, from a number that no run uses up.
+// They are counted, up to a number that no run reaches.
 fn run(
     streams: Streams,
     block: &mut [u8],
@@ -105,10 +104,11 @@ fn run(
     ensures { Ends result }
 {
     let mut carried = carried::first();
-    let mut turns = u64::MAX;
-    while turns > 0 && sheet_requests::status::goes_on(carried::status(carried)) {
+    for _ in 0..u64::MAX {
+        if !sheet_requests::status::goes_on(carried::status(carried)) {
+            break;
+        }
         carried = turn(streams, carried, block, series, out, work, text);
-        turns -= 1;
     }
     end_of(carried, close(streams, carried, text))
 }
@@ -118,9 +118,9 @@ pub fn tegbalowu_sheet(input: Stdin, output: Stdout, errors: Stderr) -> End
     ensures { Ends result }
 {
     let streams = Streams {
-        input: input,
-        output: output,
-        errors: errors,
+        input,
+        output,
+        errors,
     };
     let mut block = [0u8; BLOCK_BYTES];
     let mut series = [0.0; MOST_BARS];

@@ -7,18 +7,15 @@ use native.Mathlib.Numerals.{add-one}
 use native.Mathlib.Omega.{arith}
 use borrow.Author.Tests.{eqb-true}
 use lib.Dec.{eqb}
-use lib.ListN.{length, get_or, length-append}
+use lib.ListN.{length, take, get_or, length-append}
 use lib.Ieee.{Float, lt}
-use Rattle.calls.specs.declared.Answer.{Answer}
-use Rattle.calls.specs.Answer.{count_of, refusal_of}
+use Rattle.calls.specs.Answer.{Answer, count_of, refusal_of}
 use Rattle.cells.specs.Line.{Line, plus_zero}
-use Rattle.sheet_lines.specs.declared.columns.Price.{Price}
-use Rattle.sheet_lines.specs.declared.columns.Price.TheVariants.{Ticks, Unpriced}
+use Rattle.std.proofs.Common.{Result, Ok, Err}
 use Rattle.sheet_lines.specs.Print.{leading, print_field}
 use Rattle.sheet_lines.specs.declared.Request.{Request}
-use Rattle.sheet_lines.specs.declared.Header.{Header}
-use Rattle.sheet_lines.specs.declared.Header.TheVariants.{Asked, Malformed}
-use Rattle.sheet_lines.specs.Header.{header_bytes, price_bytes, columned, read_header, read_price_line}
+use Rattle.sheet_lines.specs.Header.{header_bytes, price_bytes, read_header, read_price_line}
+use Rattle.sheet_lines.specs.Rule.{rule_number}
 use Rattle.sheet_lines.specs.Printed.{
   broken_line,
   no_such_desk,
@@ -30,7 +27,7 @@ use Rattle.sheet_lines.specs.Printed.{
 }
 use Rattle.sheet_lines.specs.declared.reasons.Reason.{Reason}
 use Rattle.sheet_lines.specs.declared.reasons.Reason.TheVariants.{InputEnds}
-use Rattle.sheet_lines.specs.Reason.{header_reason, price_reason}
+use Rattle.sheet_lines.specs.Reason.{no_feed, columned, clean}
 use Rattle.sheet_requests.specs.declared.Counts.{Counts}
 use Rattle.sheet_requests.specs.Answer.{rule_answer, rule_line}
 use Rattle.sheet_requests.specs.Counts.{desks, is_desk, none_yet, refused_of, after_lines, count_lines, closing}
@@ -154,18 +151,21 @@ with_prices_few c r prices = go (eqb (length prices) r.bars)
     a = rule_answer r prices
 
     text : List ℕ
-    text = head_line r.desk r.rule (refusal_of a) (count_of a) ++ position_lines (count_of a) (rule_line r prices)
+    text =
+        head_line r.desk (rule_number r.rule) (refusal_of a) (count_of a)
+        ++ position_lines (count_of a) (rule_line r prices)
 
-    long : (t : Bool) → length (cond t text (head_line r.desk r.rule no_such_desk 0)) ≤ 19 + 5 * length prices
+    long : (t : Bool)
+        → length (cond t text (head_line r.desk (rule_number r.rule) no_such_desk 0)) ≤ 19 + 5 * length prices
     long true =
         rw (
-          length-append (head_line r.desk r.rule (refusal_of a) (count_of a))
+          length-append (head_line r.desk (rule_number r.rule) (refusal_of a) (count_of a))
               (position_lines (count_of a) (rule_line r prices)),
           length_head,
           length_positions,
         )
         (omega (arith, rule_most r prices))
-    long false = omega (arith, length_head r.desk r.rule no_such_desk 0)
+    long false = omega (arith, length_head r.desk (rule_number r.rule) no_such_desk 0)
 
     go : (t : Bool) →
         let s : Step = cond t (completed c r prices) (quiet (collecting c r prices)) in
@@ -176,23 +176,23 @@ with_prices_few c r prices = go (eqb (length prices) r.bars)
 broken_few : (c : Counts) (reason : Reason) → length (broken c reason).prints ≡ 19
 broken_few c reason = length_head 0 0 broken_line 0
 
-asked_long : (line : List ℕ) (r : Request) → read_header line ≡ Asked r → length line ≡ header_bytes
-unfolding read_header
-asked_long line r e = go (columned 26 line) _ (columned_long 26 line) e
+clean_long : {A : Type 0} (columns : ℕ) (line : List ℕ) (said : Result A Reason) (reason : Reason) {x : A}
+    → cond (clean columns line) said (Err reason) ≡ Ok x → length line ≡ columns + 1
+clean_long {A} columns line said reason {x} e =
+    go (columned columns line) (no_feed (take columns line)) (columned_long columns line) e
   where
-    go : (t : Bool) (x : Header) → (t ≡ true → length line ≡ header_bytes) → cond t x Malformed ≡ Asked r
-        → length line ≡ header_bytes
-    go true _ f e = f refl
-    go false _ f e = let z : ◌≡◌ {A = ℕ} 0 1 = cc in absurd (omega arith)
+    go : (t u : Bool) → (t ≡ true → length line ≡ columns + 1) → cond (t && u) said (Err reason) ≡ Ok x
+        → length line ≡ columns + 1
+    go true u f d = f refl
+    go false u f d = let z : ◌≡◌ {A = ℕ} 0 1 = cc in absurd (omega arith)
 
-priced_long : (line : List ℕ) (x : Float) → read_price_line line ≡ Ticks x → length line ≡ price_bytes
+asked_long : (line : List ℕ) (r : Request) → read_header line ≡ Ok r → length line ≡ header_bytes
+unfolding read_header
+asked_long line r e = clean_long 26 line _ _ e
+
+priced_long : (line : List ℕ) (x : Float) → read_price_line line ≡ Ok x → length line ≡ price_bytes
 unfolding read_price_line
-priced_long line x e = go (columned 12 line) _ (columned_long 12 line) e
-  where
-    go : (t : Bool) (p : Price) → (t ≡ true → length line ≡ price_bytes) → cond t p Unpriced ≡ Ticks x
-        → length line ≡ price_bytes
-    go true _ f e = f refl
-    go false _ f e = let z : ◌≡◌ {A = ℕ} 0 1 = cc in absurd (omega arith)
+priced_long line x e = clean_long 12 line _ _ e
 
 -- a line prints no more than it and the state before it allow
 stepped : (s : State) (line : List ℕ)
@@ -200,23 +200,23 @@ stepped : (s : State) (line : List ℕ)
 stepped (stopped c reason) line = omega arith
 stepped (waiting c) line = go (read_header line) (asked_long line)
   where
-    go : (h : Header) → ((r : Request) → h ≡ Asked r → length line ≡ header_bytes)
-        → length (begun c line h).prints + owing (begun c line h).state ≤ 291 + length line
-    go (Asked r) f = omega (arith, with_prices_few (after_lines 1 c) r [], f r refl)
-    go Malformed f = omega (arith, broken_few c (header_reason line))
+    go : (h : Result Request Reason) → ((r : Request) → h ≡ Ok r → length line ≡ header_bytes)
+        → length (begun c h).prints + owing (begun c h).state ≤ 291 + length line
+    go (Ok r) f = omega (arith, with_prices_few (after_lines 1 c) r [], f r refl)
+    go (Err reason) f = omega (arith, broken_few c reason)
 stepped (collecting c r prices) line = go (read_price_line line) (priced_long line)
   where
-    go : (p : Price) → ((x : Float) → p ≡ Ticks x → length line ≡ price_bytes)
-        → length (priced c r prices line p).prints + owing (priced c r prices line p).state
+    go : (p : Result Float Reason) → ((x : Float) → p ≡ Ok x → length line ≡ price_bytes)
+        → length (priced c r prices p).prints + owing (priced c r prices p).state
         ≤ 310 + 5 * length prices + length line
-    go (Ticks x) f =
+    go (Ok x) f =
         omega (
           arith,
           with_prices_few (after_lines 1 c) r (prices ++ (x ∷ [])),
           length-append prices (x ∷ []),
           f x refl,
         )
-    go Unpriced f = omega (arith, broken_few c (price_reason line))
+    go (Err reason) f = omega (arith, broken_few c reason)
 
 ends_few : (s : State) → length (ending s).text ≤ owing s
 unfolding ending

@@ -2,10 +2,10 @@
 use mathlib.Core.Path.{◌≡◌, ◌∙◌}
 use mathlib.Core.Bool.{Bool, true, false, not}
 use mathlib.Core.List.{List, ◌++◌, append_assoc}
-use Prim.Native.Nat.{ℕ, ◌+◌, ◌<◌, ◌≤◌}
+use Prim.Native.Nat.{ℕ, ◌+◌, ◌-◌, ◌<◌, ◌≤◌}
 use native.Mathlib.Omega.{arith}
-use lib.ListN.{length, take, drop}
-use lib.Seq.{slice, take_all, drop-length}
+use lib.ListN.{length, take, drop, length-drop}
+use lib.Seq.{take_all, drop-length}
 use lib.Ieee.{Float}
 use Rattle.sheet_lines.specs.declared.reasons.Reason.TheVariants.{LineLength}
 use Rattle.sheet_lines.specs.Reason.{no_feed}
@@ -63,15 +63,15 @@ onward taken answered =
 
 -- ---- a line feed among the bytes that are left
 
-module _ (block : List ℕ) (at : ℕ) {r : Bool} (is : r ≡ not (no_feed (slice at (length block) block))) where
-  all : take (length block) block ≡ block
-  all = take_all (length block) block (omega arith)
+module _ (block : List ℕ) (at : ℕ) {r : Bool} (is : r ≡ not (no_feed (take (length block - at) (drop at block)))) where
+  all : take (length block - at) (drop at block) ≡ drop at block
+  all = take_all (length block - at) (drop at block) (omega (arith, length-drop at block))
 
   pub fed_rest : r ≡ true → no_feed (drop at block) ≡ false
-  fed_rest e = rw all at (fed_of r (no_feed (slice at (length block) block)) is e)
+  fed_rest e = rw all at (fed_of r _ is e)
 
   pub unfed_rest : r ≡ false → no_feed (drop at block) ≡ true
-  unfed_rest e = rw all at (unfed_of r (no_feed (slice at (length block) block)) is e)
+  unfed_rest e = rw all at (unfed_of r _ is e)
 
 -- a short line was met, and the block is read to its end
 pub stopped : {q r : Place} {series' : List Float} {text' text'' : List ℕ} (sheet : Sheet) (block : List ℕ)

@@ -1,9 +1,7 @@
 -- The contract of the sheet over lent slices. Assumes nothing.
-use Rattle.std.specs.Prelude.{List, ℕ, ◌+◌, leb, length, get_or}
-use Rattle.calls.specs.declared.Answer.{Answer}
-use Rattle.calls.specs.declared.Answer.TheVariants.{Cells}
+use Rattle.std.specs.Prelude.{List, ℕ, ◌+◌, leb, length, get_or, Ok}
+use Rattle.calls.specs.Answer.{Answer, unless}
 use Rattle.calls.specs.declared.Refusal.TheVariants.{OutputTooShort}
-use Rattle.calls.specs.Answer.{unless}
 use Rattle.calls.specs.Call.{Call}
 use Rattle.sheet_lines.specs.Printed.{head_bytes}
 use Rattle.sheet_requests.specs.Counts.{closing_bytes}
@@ -20,7 +18,7 @@ bytes_of text i = get_or text i 0
 
 -- refusal 3 where the output is short, and else as many bytes as the sheet has
 abbrev pub sheet_answer : List ℕ → ℕ → Answer
-sheet_answer input room = unless (leb (length input + sheet_room) room) OutputTooShort (Cells (length (sheet input)))
+sheet_answer input room = unless (leb (length input + sheet_room) room) OutputTooShort (Ok (length (sheet input)))
 
 -- The first bytes of the output are the sheet of the input, all of it; later bytes stay.
 abbrev pub SheetCall : List ℕ → List ℕ → Answer → List ℕ → Type 0

@@ -40,15 +40,16 @@ pub fn feed(
         × (work.new ≡ work.old) }
 {
     let mut place = Place {
-        sheet: sheet,
+        sheet,
         at: 0,
         filled: 0,
     };
+    // The step is what a turn read, which no range counts.
     while sheet_requests::blocks::next_line_bytes(place) <= block.len() - place.at {
         let read = sheet_requests::blocks::take_lines(place, block, series, text);
         place = sheet_requests::answers::answer_if_complete(read, series, out, work, text);
     }
-    if sheet_lines::reasons::has_feed(block, place.at, block.len()) {
+    if sheet_lines::reasons::has_feed(&block[place.at..]) {
         sheet_requests::blocks::take_short(place, block, text)
     } else {
         place
@@ -60,11 +61,7 @@ fn copy(text: &[u8], count: usize, out: &mut [u8], at: usize)
     requires { (count ≤ length text.now) × (at + count ≤ length out.old) }
     ensures { Copied text.now count at out.old out.new }
 {
-    let mut i = 0;
-    while i < count {
-        out[at + i] = text[i];
-        i += 1;
-    }
+    out[at..at + count].copy_from_slice(&text[..count]);
 }
 
 // Feeds the input from the place up to `end`, and writes what it prints behind what is written.
@@ -86,16 +83,19 @@ fn part(
         series.new out.new
         × (work.new ≡ work.old) }
 {
-    let at = place.at;
-    let filled = place.filled;
-    let next = feed(place.sheet, &input[at..end], series, cells, work, text);
-    let sheet = next.sheet;
-    let count = next.filled;
-    copy(text, count, out, filled);
+    let next = feed(
+        place.sheet,
+        &input[place.at..end],
+        series,
+        cells,
+        work,
+        text,
+    );
+    copy(text, next.filled, out, place.filled);
     Place {
-        sheet: sheet,
-        at: at + next.at,
-        filled: filled + count,
+        sheet: next.sheet,
+        at: place.at + next.at,
+        filled: place.filled + next.filled,
     }
 }
 
@@ -118,6 +118,7 @@ fn fill(
         at: 0,
         filled: 0,
     };
+    // The step is what a part read, which no range counts.
     while PART_BYTES < input.len() - place.at {
         let end = place.at + PART_BYTES;
         place = part(place, input, end, series, cells, work, text, out);
@@ -138,14 +139,14 @@ pub fn sheet_text(input: &[u8], out: &mut [u8]) -> Answer
     ensures { SheetCall input.now out.old result out.new }
 {
     if out.len() < SHEET_ROOM {
-        return Answer::Refused(Refusal::OutputTooShort);
+        return Err(Refusal::OutputTooShort);
     }
     if out.len() - SHEET_ROOM < input.len() {
-        return Answer::Refused(Refusal::OutputTooShort);
+        return Err(Refusal::OutputTooShort);
     }
     let mut series = [0.0; MOST_BARS];
     let mut cells = [0.0; MOST_BARS];
     let mut work = [0.0; WORK_CELLS];
     let mut text = [0u8; TEXT_BYTES];
-    Answer::Cells(fill(input, &mut series, &mut cells, &mut work, &mut text, out))
+    Ok(fill(input, &mut series, &mut cells, &mut work, &mut text, out))
 }

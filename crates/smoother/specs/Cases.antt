@@ -1,9 +1,8 @@
 -- Small cases, computed from the definitions: which numbers are periods, answers, and cells that pure.rs gave. Assumes
 -- nothing.
-use Rattle.std.specs.Prelude.{◌≡◌, ℕ, true, false, List, [], ◌∷◌, map, replicate, pos, negsuc, refl, Float}
+use Rattle.std.specs.Prelude.{◌≡◌, ℕ, true, false, List, [], ◌∷◌, map, replicate, pos, negsuc, refl, Float, Ok, Err}
 use Rattle.std.specs.Float.{nan, inf, fin, binary64}
 use Rattle.std.specs.Float.Ieee.{neg, add, sub, mul, div, lt, eq, le, of_int, of_bits, to_bits, to_unsigned}
-use Rattle.calls.specs.declared.Answer.TheVariants.{Cells, Refused}
 use Rattle.calls.specs.declared.Refusal.TheVariants.{OutputTooShort, ParameterNotFinite, WindowTooLong}
 use Rattle.values.specs.Accepted.{accepted, finite}
 use Rattle.calls.specs.Answer.{slices, checked}
@@ -35,11 +34,11 @@ unfolding is_period le lt eq of_int to_unsigned
 period_cases = (refl, refl)
 
 -- two bars, and an output of that length; an output of one cell is refused first; no bars
-answer_cases : (map (λ x. smoother_answer (num 5 ∷ num 6 ∷ []) x 2) periods ≡ replicate 4 (Cells 2))
-    × (map (λ x. smoother_answer (num 5 ∷ num 6 ∷ []) x 2) others ≡ replicate 7 (Refused WindowTooLong))
-    × (map (λ x. smoother_answer (num 5 ∷ num 6 ∷ []) x 2) not_finite ≡ replicate 3 (Refused ParameterNotFinite))
-    × (smoother_answer (num 5 ∷ num 6 ∷ []) nan 1 ≡ Refused OutputTooShort)
-    × (smoother_answer [] (num 20) 0 ≡ Cells 0)
+answer_cases : (map (λ x. smoother_answer (num 5 ∷ num 6 ∷ []) x 2) periods ≡ replicate 4 (Ok 2))
+    × (map (λ x. smoother_answer (num 5 ∷ num 6 ∷ []) x 2) others ≡ replicate 7 (Err WindowTooLong))
+    × (map (λ x. smoother_answer (num 5 ∷ num 6 ∷ []) x 2) not_finite ≡ replicate 3 (Err ParameterNotFinite))
+    × (smoother_answer (num 5 ∷ num 6 ∷ []) nan 1 ≡ Err OutputTooShort)
+    × (smoother_answer [] (num 20) 0 ≡ Ok 0)
 unfolding smoother_answer is_period finite checked slices accepted le lt eq of_int to_unsigned to_bits
 answer_cases = (refl, refl, refl, refl, refl)
 

@@ -1,14 +1,12 @@
 -- The ultimate smoother of John Ehlers: what `ultimate_smoother` answers and writes. Assumes nothing.
-use Rattle.std.specs.Prelude.{ℕ, zero, suc, List, [], ◌∷◌, length, Float}
+use Rattle.std.specs.Prelude.{ℕ, zero, suc, List, [], ◌∷◌, length, Float, Ok}
 use Rattle.std.specs.Float.{binary64}
 use Rattle.std.specs.Float.Ieee.{add, sub, mul}
 use Rattle.smoother_table.specs.declared.Coefficients.{Coefficients}
 use Rattle.smoother_table.specs.Coefficients.{power, coefficients}
 use Rattle.calls.specs.declared.Refusal.TheVariants.{ParameterNotFinite, WindowTooLong}
-use Rattle.calls.specs.declared.Answer.{Answer}
-use Rattle.calls.specs.declared.Answer.TheVariants.{Cells}
+use Rattle.calls.specs.Answer.{Answer, checked, and_then, unless}
 use Rattle.values.specs.Accepted.{accepted, finite}
-use Rattle.calls.specs.Answer.{checked, and_then, unless}
 use Rattle.cells.specs.Line.{Line, line}
 use Rattle.smoother_table.specs.Period.{is_period, whole_part}
 use Rattle.calls.specs.Call.{Call}
@@ -43,7 +41,7 @@ smoother_answer s period output =
     and_then (checked accepted (s ∷ []) (output ∷ []) [])
     (unless (finite period) ParameterNotFinite
     (unless (is_period period) WindowTooLong
-    (Cells (length s))))
+    (Ok (length s))))
 
 -- what a call of `ultimate_smoother` promises
 abbrev pub UltimateSmootherCall : List Float → Float → List Float → Answer → List Float → Type 0

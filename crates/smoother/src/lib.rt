@@ -3,8 +3,6 @@
 
 ghost use Rattle.std.specs.Prelude.{◌≡◌, ◌≤◌, length};
 ghost use Rattle.smoother.specs.Smoother.{formula, UltimateSmootherCall};
-ghost use Rattle.cells.specs.Line.{line};
-ghost use Rattle.cells.specs.Written.{Writing};
 ghost use Rattle.smoother_table.specs.Coefficients.{coefficients};
 ghost use Rattle.smoother.specs.inner.Stages.{FirstFour, Smoothed};
 ghost use Rattle.limits.specs.Limits.{longest_period};
@@ -19,25 +17,12 @@ pub fn step(c: Coefficients, p0: f64, p1: f64, p2: f64, us1: f64, us2: f64) -> f
     (1.0 - c.c1) * p0 + (2.0 * c.c1 - c.c2) * p1 - (c.c1 + c.c3) * p2 + c.c2 * us1 + c.c3 * us2
 }
 
-// Copies the first n cells.
-fn copy(from: &[f64], n: usize, to: &mut [f64])
-    requires { (n ≤ length from.now) × (n ≤ length to.old) }
-    ensures { Writing n (line from.now) to.old to.new }
-{
-    let mut i = 0;
-    while i < n {
-        to[i] = from[i];
-        i += 1;
-    }
-}
-
 // Writes the cells from bar 4 on, where the first four stand.
 fn write_steps(price: &[f64], c: Coefficients, out: &mut [f64])
     requires { FirstFour c price.now out.old }
     ensures { Smoothed c price.now out.old out.new }
 {
-    let mut i = 4;
-    while i < price.len() {
+    for i in 4..price.len() {
         out[i] = step(
             c,
             price[i],
@@ -46,7 +31,6 @@ fn write_steps(price: &[f64], c: Coefficients, out: &mut [f64])
             out[i - 1],
             out[i - 2],
         );
-        i += 1;
     }
 }
 
@@ -55,10 +39,9 @@ pub fn write_smooth(price: &[f64], period: usize, out: &mut [f64])
     requires { (period ≤ longest_period) × (length price.now ≤ length out.old) }
     ensures { Smoothed (coefficients period) price.now out.old out.new }
 {
-    if price.len() <= 4 {
-        copy(price, price.len(), out);
-    } else {
-        copy(price, 4, out);
+    let first = price.len().min(4);
+    out[..first].copy_from_slice(&price[..first]);
+    if price.len() > 4 {
         write_steps(price, Coefficients::of_period(period), out);
     }
 }
@@ -67,17 +50,14 @@ pub fn write_smooth(price: &[f64], period: usize, out: &mut [f64])
 pub fn ultimate_smoother(price: &[f64], period: f64, out: &mut [f64]) -> Answer
     ensures { UltimateSmootherCall price.now period out.old result out.new }
 {
-    let due = checks::check(price, out.len());
-    if let Answer::Refused(_) = due {
-        return due;
+    checks::check(price, out.len())?;
+    if !values::is_finite(period) {
+        return Err(Refusal::ParameterNotFinite);
     }
-    if values::is_finite(period) {
-        if smoother_table::is_period(period) {
-            let whole = std::num::truncating_f64_to_u64(period) as usize;
-            write_smooth(price, whole, out);
-            return Answer::Cells(price.len());
-        }
-        return Answer::Refused(Refusal::WindowTooLong);
+    if !smoother_table::is_period(period) {
+        return Err(Refusal::WindowTooLong);
     }
-    Answer::Refused(Refusal::ParameterNotFinite)
+    let whole = std::num::truncating_f64_to_u64(period) as usize;
+    write_smooth(price, whole, out);
+    Ok(price.len())
 }

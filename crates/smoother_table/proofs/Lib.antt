@@ -1,3 +1,2 @@
 pub mod Bounds
-pub mod Entries
 pub mod Period

@@ -1,5 +1,5 @@
 -- Tests of every element of a list, and of two tests together. Assumes nothing.
-use Rattle.std.proofs.Common.{◌≡◌, ℕ, zero, suc, ◌+◌, ◌<◌, ◌≤◌, Bool, true, false, ◌&&◌, List, [], ◌∷◌, length, get_or, drop, sym, refl, true≢false, le_of_suc-le-suc, not-suc-le-zero, zero-lt-suc, add-one, arith, drop_of_length-le, drop-cons}
+use Rattle.std.proofs.Common.{◌≡◌, ℕ, zero, suc, ◌<◌, ◌↔◌, Bool, true, false, ◌&&◌, IsTrue, List, [], ◌∷◌, length, get_or, sym, refl, true≢false, le_of_suc-le-suc, not-suc-le-zero, zero-lt-suc, arith}
 use lib.Ieee.{Float, nan}
 use Rattle.values.specs.Accepted.{all}
 
@@ -21,24 +21,38 @@ pub and_parts : (t u : Bool) → t && u ≡ true → (t ≡ true) × (u ≡ true
 and_parts true u e = (refl, e)
 and_parts false u e = absurd (true≢false (sym e))
 
--- where every element passes, each does
+module _ {A : Type 0} (d : A) (p : A → Bool) where
+  -- where every element passes, each does
+  pub each_of_all : (s : List A) (i : ℕ) → all p s ≡ true → i < length s → p (get_or s i d) ≡ true
+  each_of_all [] i e h = absurd (not-suc-le-zero h)
+  each_of_all (x ∷ s) zero e h = (and_parts (p x) (all p s) e).0
+  each_of_all (x ∷ s) (suc i) e h = each_of_all s i (and_parts (p x) (all p s) e).1 (le_of_suc-le-suc h)
+
+  -- where each passes, all do
+  pub all_of_each : (s : List A) → ((i : ℕ) → i < length s → p (get_or s i d) ≡ true) → all p s ≡ true
+  all_of_each [] h = refl
+  all_of_each (x ∷ s) h = rw (h zero (zero-lt-suc (length s)), all_of_each s (λ i l. h (suc i) (omega arith)))
+
+  -- a test that is passed where each passes
+  pub all_passed : (s : List A) (t : Bool) → IsTrue t ↔ ((i : ℕ) → i < length s → p (get_or s i d) ≡ true)
+      → t ≡ all p s
+  all_passed s true h = sym (all_of_each s (h.0 refl))
+  all_passed s false h = none (all p s) refl
+    where
+      none : (u : Bool) → all p s ≡ u → false ≡ all p s
+      none true e = absurd (true≢false (sym (h.1 (λ i l. each_of_all s i e l))))
+      none false e = sym e
+
+-- the same of prices
 pub all_at : (p : Float → Bool) (s : List Float) (i : ℕ) → all p s ≡ true → i < length s → p (get_or s i nan) ≡ true
-all_at p [] i e h = absurd (not-suc-le-zero h)
-all_at p (x ∷ s) zero e h = (and_parts (p x) (all p s) e).0
-all_at p (x ∷ s) (suc i) e h = all_at p s i (and_parts (p x) (all p s) e).1 (le_of_suc-le-suc h)
+all_at = each_of_all nan
 
-module _ (p : Float → Bool) (s : List Float) (i : ℕ) where
-  -- what is left to be tested from index i on
-  pub all_next : i < length s → all p (drop i s) ≡ p (get_or s i nan) && all p (drop (i + 1) s)
-  all_next h = rw (add-one, drop-cons s i nan)
-
-  pub all_none : length s ≤ i → all p (drop i s) ≡ true
-  all_none h = rw (drop_of_length-le s h)
-
--- where each passes, all do
 pub all_of : (p : Float → Bool) (s : List Float) → ((i : ℕ) → i < length s → p (get_or s i nan) ≡ true) → all p s ≡ true
-all_of p [] h = refl
-all_of p (x ∷ s) h = rw (h zero (zero-lt-suc (length s)), all_of p s (λ i l. h (suc i) (omega arith)))
+all_of = all_of_each nan
+
+pub all_tested : (p : Float → Bool) (s : List Float) (t : Bool)
+    → IsTrue t ↔ ((i : ℕ) → i < length s → p (get_or s i nan) ≡ true) → t ≡ all p s
+all_tested = all_passed nan
 
 -- where two tests agree on every element, they agree on all
 pub all_same : (p q : Float → Bool) (s : List Float)

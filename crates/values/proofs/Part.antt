@@ -1,10 +1,10 @@
 -- A test of some cells of a line: with one cell more, of two parts that meet, of a whole series. Assumes nothing.
-use Rattle.std.proofs.Common.{◌≡◌, ℕ, zero, suc, ◌+◌, ◌<◌, Bool, true, ◌&&◌, List, [], ◌∷◌, length, sym, refl, ap, ◌∙◌, add-one, arith}
+use Rattle.std.proofs.Common.{◌≡◌, ℕ, zero, suc, ◌+◌, ◌<◌, ◌≤◌, Bool, true, false, true≢false, ◌&&◌, List, [], ◌∷◌, length, sym, refl, ap, ◌∙◌, add-one, arith}
 use lib.Ieee.{Float}
 use Rattle.cells.specs.Line.{Line, line}
 use Rattle.values.specs.Accepted.{all}
 use Rattle.values.specs.inner.Part.{pass_from, Passing}
-use Rattle.values.proofs.All.{and_true, and_assoc}
+use Rattle.values.proofs.All.{and_true, and_assoc, all_at}
 
 parts_meet : (p : Float → Bool) (f : Line) (a k m : ℕ) → pass_from p f a k && pass_from p f (a + k) m
     ≡ pass_from p f a (k + m)
@@ -65,3 +65,19 @@ module _ {p : Float → Bool} {f : Line} {a : ℕ} where
 pub all_passing : {p : Float → Bool} (s : List Float) {k : ℕ} {t : Bool} → Passing p (line s) 0 k t → k ≡ length s
     → t ≡ all p s
 all_passing {p} s r e = r.is ∙ rw e (whole p s)
+
+-- a test whose value is known
+pub told : {p : Float → Bool} {f : Line} {a k : ℕ} {t u : Bool} → t ≡ u → Passing p f a k t → Passing p f a k u
+told e h = record { is = sym e ∙ h.is }
+
+-- where some of them do not pass, not all do
+pub part_fails : {p : Float → Bool} (s : List Float) {k : ℕ} → Passing p (line s) 0 k false → k ≤ length s
+    → all p s ≡ false
+part_fails {p = p} s {k} h le = go (all p s) refl
+  where
+    go : (t : Bool) → all p s ≡ t → all p s ≡ false
+    go false e = e
+    go true e =
+        let each : Passing p (line s) 0 k true = each_passing k
+        (λ i l. let at : 0 + i ≡ i = omega arith in rw at (all_at p s i e (omega arith))) in
+        absurd (true≢false (each.is ∙ sym h.is))

@@ -17,11 +17,7 @@ use limits::{LARGEST_TICK, LARGEST_VALUE};
 pub fn within_limit(x: f64) -> bool
     ensures { result ≡ within value_power x }
 {
-    if x >= -LARGEST_VALUE {
-        x <= LARGEST_VALUE
-    } else {
-        false
-    }
+    x >= -LARGEST_VALUE && x <= LARGEST_VALUE
 }
 
 // 0, unless x is -0.0.
@@ -59,22 +55,14 @@ pub fn is_tick(x: f64) -> bool
 pub fn is_finite(x: f64) -> bool
     ensures { result ≡ finite x }
 {
-    let infinity = 1.0 / 0.0;
-    if x < infinity { -infinity < x } else { false }
+    f64::is_finite(x)
 }
 
 // Whether all of them may be parameters.
 pub fn all_finite(numbers: &[f64]) -> bool
     ensures { result ≡ all finite numbers.now }
 {
-    let mut i = 0;
-    while i < numbers.len() {
-        if !is_finite(numbers[i]) {
-            return false;
-        }
-        i += 1;
-    }
-    true
+    numbers.iter().all(|x| is_finite(*x))
 }
 
 // x, or 2^31 where x is not below it, as a NaN is not.

@@ -3,7 +3,7 @@ use mathlib.Core.Path.{◌≡◌, refl, sym, ap, ◌∙◌}
 use mathlib.Core.Bool.{Bool, true, false, not}
 use mathlib.Core.List.{List}
 use Prim.Native.Nat.{ℕ, zero, suc, ◌+◌, ◌-◌, ◌<◌, ◌≤◌}
-use native.Mathlib.Nat.{add-zero, zero-add}
+use native.Mathlib.Nat.{zero-add}
 use native.Mathlib.Omega.{arith}
 use borrow.Author.Tests.{le-leb, lt-leb}
 use lib.Dec.{T, ltb, ltb→lt, nltb→le}
@@ -13,9 +13,6 @@ use Rattle.cells.specs.Line.{Line, line, plus_zero, minus_zero}
 use Rattle.cells.proofs.Line.{from_bar_lem}
 use Rattle.cells.specs.Written.{Writing}
 use Rattle.cells.proofs.Written.{read_back, writing_same, then_written, stood}
-use Rattle.windows.specs.declared.Eight.{Eight}
-use Rattle.windows.specs.declared.Sixteen.{Sixteen}
-use Rattle.windows.specs.inner.Eight.{EightOf, SixteenOf}
 use Rattle.windows.specs.Window.{over, sum_from, window_sum, mean}
 use Rattle.windows.proofs.Window.{causal_mean}
 use Rattle.window_means.specs.inner.Row.{row_at, means_of_row, RowRoom, RowUpTo, RowHolds}
@@ -86,41 +83,13 @@ module _ {from to bars n first e : ℕ} {old now : List Float} (g : RowRoom from
       let y : to + i + k ≡ to + (i + k) = omega arith in
       rw (x, y) (mean_for_row (i + k) (omega arith) (omega arith))
 
--- ---- bars side by side
-
-pub eight_moved : (a b : ℕ) {f g : Line} {r : Eight} → EightOf g a r → ((k : ℕ) → k < 8 → g (a + k) ≡ f (b + k))
-    → EightOf f b r
-eight_moved a b {f} {g} e h =
-    let first : g a ≡ f b = rw (add-zero, add-zero) at (h 0 (omega arith)) in
-    record {
-      lane0 = e.lane0 ∙ first;
-      lane1 = e.lane1 ∙ h 1 (omega arith);
-      lane2 = e.lane2 ∙ h 2 (omega arith);
-      lane3 = e.lane3 ∙ h 3 (omega arith);
-      lane4 = e.lane4 ∙ h 4 (omega arith);
-      lane5 = e.lane5 ∙ h 5 (omega arith);
-      lane6 = e.lane6 ∙ h 6 (omega arith);
-      lane7 = e.lane7 ∙ h 7 (omega arith);
-    }
-
-pub sixteen_moved : (a b : ℕ) {f g : Line} {r : Sixteen} → SixteenOf g a r → ((k : ℕ) → k < 16 → g (a + k) ≡ f (b + k))
-    → SixteenOf f b r
-sixteen_moved a b {f} {g} e h = record {
-  low = eight_moved a b e.low (λ k l. h k (omega arith));
-  high =
-      eight_moved (a + 8) (b + 8) e.high
-      (λ k l.
-      let x : a + 8 + k ≡ a + (8 + k) = omega arith in
-      let y : b + 8 + k ≡ b + (8 + k) = omega arith in
-      rw (x, y) (h (8 + k) (omega arith)));
-}
-
 -- ---- on from a bar that was reached
 
-pub row_goes_on : {from to bars n first r e : ℕ} {old mid now : List Float} → RowRoom from to bars n first (length old)
-    → RowUpTo from to bars n first r old mid → Writing e (means_of_row from to n r mid) mid now
+pub row_goes_on : {N from to bars n first r e : ℕ} {old mid now : List Float}
+    → RowRoom from to bars n first (length old) → RowUpTo N from to bars n first r old mid
+    → Writing e (means_of_row from to n r mid) mid now
     → (to + r ≤ e) × (e ≤ to + bars) → Writing e (means_of_row from to n first old) old now
-row_goes_on {from} {to} {bars} {n} {first} {r} {e} {old} {mid} g w v (p, q) =
+row_goes_on {N} {from} {to} {bars} {n} {first} {r} {e} {old} {mid} g w v (p, q) =
     writing_same (then_written w.means v p)
     (λ j l. same j l (ltb j (to + r)) (ltb→lt j (to + r)) (nltb→le j (to + r)))
   where
@@ -139,8 +108,8 @@ row_goes_on {from} {to} {bars} {n} {first} {r} {e} {old} {mid} g w v (p, q) =
         ∙ sym (row_cell_lem from to n first old (j - to) (omega arith)))
 
 -- a row that was reached has room for the rest
-pub row_room : {from to bars n first r : ℕ} {old mid : List Float} → RowRoom from to bars n first (length old)
-    → RowUpTo from to bars n first r old mid → RowRoom from to bars n r (length mid)
+pub row_room : {N from to bars n first r : ℕ} {old mid : List Float} → RowRoom from to bars n first (length old)
+    → RowUpTo N from to bars n first r old mid → RowRoom from to bars n r (length mid)
 row_room g w =
     let long = w.means.long in
     let on = w.on in

@@ -1,4 +1,4 @@
-pub mod EightSums
+pub mod Lanes
 pub mod RunningSums
 pub mod Window
 pub mod Means

@@ -1,5 +1,6 @@
 -- What the functions that write running means ask and promise.
-pub mod Eight
+pub mod Windows
+pub mod Lanes
 pub mod RunningSums
 pub mod Sums
 pub mod Means

@@ -2,7 +2,7 @@
 ghost use Rattle.std.specs.Prelude.{length};
 ghost use Rattle.cells.specs.Line.{line};
 ghost use Rattle.cells.specs.Written.{Writing};
-ghost use Rattle.windows.specs.inner.Eight.{WindowRoom};
+ghost use Rattle.windows.specs.inner.Windows.{WindowRoom};
 ghost use Rattle.windows.specs.inner.Means.{running_mean, on_from, running_means, Summed};
 
 // Writes the running means from bar n on, where `first` is the sum of the first n bars: two bars a turn, so that two
@@ -15,6 +15,7 @@ pub fn slide_means(series: &[f64], n: usize, first: f64, means: &mut [f64])
     let count = n as f64;
     let mut sum = first;
     let mut i = n;
+    // `while`: whether a bar is left over after the pairs is seen from `i`.
     while i + 2 <= series.len() {
         let next = sum + (series[i] - series[i - n]);
         sum = next + (series[i + 1] - series[i + 1 - n]);

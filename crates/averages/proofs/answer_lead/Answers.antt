@@ -5,7 +5,7 @@ use Prim.Native.Nat.{◌<◌}
 use native.Mathlib.Omega.{arith}
 use lib.ListN.{length}
 use Rattle.calls.specs.Answer.{count_of}
-use Rattle.calls.proofs.Call.{some_cells, no_cells, all_called, none_called}
+use Rattle.calls.proofs.Call.{some_cells, all_called}
 use Rattle.calls.proofs.Room.{answered_room, answered_windows, none_fits, all_bars}
 use Rattle.cells.proofs.Leads.{lead_only}
 use Rattle.averages.proofs.Stages.{window_room}
@@ -34,8 +34,3 @@ returns-then-has_cells c f =
     r.short r.out_long in
     all_called (all_bars _ _ _ _ _) answer (due (goal.at.returns-then-has_cells c).Then-has_cells)
     (lead_only c.fill_nan.ensures f (omega arith))
-
-pub returns-else-has_cells : goal.returns-else-has_cells
-returns-else-has_cells c f =
-    none_called c.answer_window-due.ensures
-    (no_cells c.answer_window-due.result c.has_cells.ensures c.if-has_cells.false)

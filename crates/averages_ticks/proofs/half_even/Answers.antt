@@ -1,18 +1,8 @@
 -- `half_even` meets its contract: a half up that is a tie goes down to the even one. Assumes nothing.
 use mathlib.Core.Path.{sym}
 use native.Mathlib.Omega.{arith}
-use Rattle.averages_ticks.proofs.Even.{up_parts, tied, untied}
-use Rattle.averages_ticks.proofs.Share.{sum_near}
+use Rattle.averages_ticks.proofs.Even.{tied, untied}
 use Rattle.averages_ticks.proofs.half_even.Goals as goal
-
-pub overflow_mul-up : goal.overflow_mul-up
-overflow_mul-up c =
-    let pre = c.requires in
-    let size = sum_near pre in
-    let narrow = pre.window.narrow in
-    let a = c.args in
-    let back = (up_parts a.size a.n pre.window.some).0 in
-    record { fits = omega (arith, rw (← c.half_up-up.ensures) at back) }
 
 pub returns-then-up-n : goal.returns-then-up-n
 returns-then-up-n c =

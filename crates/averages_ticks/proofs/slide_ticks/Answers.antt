@@ -9,18 +9,9 @@ use mir.Syntax.{w64}
 use mir.Val.{to_z}
 use mir.ValLaws.{to_z-of_z}
 use Rattle.cells.specs.Line.{line}
-use Rattle.cells.proofs.Written.{one_more, ends}
+use Rattle.cells.proofs.Written.{one_more}
 use Rattle.averages_ticks.proofs.Whole.{held}
-use Rattle.averages_ticks.proofs.Ticks.{
-  HeldSum,
-  castable_at,
-  sum_small,
-  hold,
-  hold_in,
-  hold_out,
-  ticks_same,
-  tick_cell,
-}
+use Rattle.averages_ticks.proofs.Ticks.{HeldSum, castable_at, sum_small, hold_in, hold_out, tick_cell}
 use Rattle.averages_ticks.proofs.slide_ticks.Goals as goal
 use Rattle.averages_ticks.proofs.slide_ticks.Goals.{After-row_known-1, After-row_known-in-loop-i-1}
 
@@ -30,7 +21,7 @@ window : (c : After-row_known-1)
     HeldSum a.series.now (c.loop-i.i + 1 - a.n) a.n
     (to_z w64 c.loop-i.rest-bits +ℤ held (to_signed 63 (line a.series.now c.loop-i.i)))
 window c =
-    hold_in c.requires.ticks c.loop-i.i c.loop-i.invariant.3 (omega arith)
+    hold_in c.requires.ticks c.loop-i.i c.loop-i.invariant.1 (omega arith)
 
 -- and of those that stay in the next one
 rest : (c : After-row_known-in-loop-i-1)
@@ -44,13 +35,8 @@ rest c =
     let s = a.series.now in
     let window_held : HeldSum s (c.loop-i.i + 1 - a.n) a.n
     (to_z w64 c.loop-i.rest-bits +ℤ held (to_signed 63 (line s c.loop-i.i))) =
-    hold_in c.requires.ticks c.loop-i.i c.loop-i.invariant.3 (omega arith) in
+    hold_in c.requires.ticks c.loop-i.i c.loop-i.invariant.1 (omega arith) in
     hold_out c.requires.ticks window_held.sum (omega arith)
-
-pub loop-i-init : goal.loop-i-init
-loop-i-init c =
-    let pre = c.requires in
-    (omega arith, omega arith, pre.cells, ticks_same (hold pre.ticks pre.sum (omega arith)).sum (omega arith))
 
 pub float_to_int-sum : goal.float_to_int-sum
 float_to_int-sum c = castable_at _ c.requires.ticks (omega arith)
@@ -77,7 +63,4 @@ loop-i-preserved c =
     let cell = to_z-of_z w64 call.result (sfits_of call.type_inv) in
     let mean = tick_cell c.args.n c.loop-i.i (window (goal.at.loop-i-preserved c).After-row_known-1).sum
     (omega arith) in
-    (omega arith, omega arith, one_more c.loop-i.invariant.2 (rw (cell, call.ensures) mean) (omega arith), (rest c).sum)
-
-pub returns : goal.returns
-returns c = ends c.loop-i.invariant.2 (omega arith)
+    (one_more c.loop-i.invariant.0 (rw (cell, call.ensures) mean) (omega arith), (rest c).sum)

@@ -1,7 +1,6 @@
 -- `slide_ticks` meets its contract: each turn takes a tick in, writes the mean, and lets the oldest tick go. Assumes
 -- nothing.
-use Prim.Native.Nat.{◌+◌, ◌-◌, ◌≤◌}
-use lib.ListN.{length}
+use Prim.Native.Nat.{◌+◌, ◌-◌}
 use Rattle.cells.specs.Line.{line}
 use Rattle.cells.specs.Written.{Writing}
 use Rattle.averages_ticks.specs.TickMean.{tick_mean_line}
@@ -10,8 +9,5 @@ use Rattle.averages_ticks.proofs.slide_ticks.Given as goal
 
 abbrev pub invariant-loop-i : goal.invariant-loop-i
 invariant-loop-i l =
-    (l.n ≤ l.i + 1) × (l.i ≤ length l.series) × Writing l.i (tick_mean_line l.n (line l.series)) l.initial.out l.out
+    Writing l.i (tick_mean_line l.n (line l.series)) l.initial.out l.out
     × TickSum l.series (l.i + 1 - l.n) (l.n - 1) l.rest
-
-abbrev pub decreases-loop-i : goal.decreases-loop-i
-decreases-loop-i l = length l.series - l.i

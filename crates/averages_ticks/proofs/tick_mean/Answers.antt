@@ -2,7 +2,7 @@
 -- nothing.
 use Prim.Native.Nat.{◌<◌}
 use Rattle.calls.specs.Answer.{count_of}
-use Rattle.calls.proofs.Call.{some_cells, no_cells, all_called, none_called}
+use Rattle.calls.proofs.Call.{some_cells, all_called}
 use Rattle.calls.proofs.Room.{all_bars}
 use Rattle.averages_ticks.proofs.Ticks.{tick_room}
 use Rattle.averages_ticks.proofs.tick_mean.Goals as goal
@@ -20,8 +20,3 @@ returns-then-has_cells c =
     all_called (all_bars _ _ _ _ _) c.answer_tick_window-due.ensures
     (due (goal.at.returns-then-has_cells c).Then-has_cells)
     c.write_tick_means.ensures
-
-pub returns-else-has_cells : goal.returns-else-has_cells
-returns-else-has_cells c =
-    let answer = c.answer_tick_window-due in
-    none_called answer.ensures (no_cells answer.result c.has_cells.ensures c.if-has_cells.false)

@@ -8,15 +8,15 @@ use Rattle.averages_ticks.specs.inner.Share.{Shared}
 use Rattle.averages_ticks.proofs.Even.{closest_few}
 use Rattle.averages_ticks.proofs.Share.{sum_near}
 use Rattle.rounding_laws.proofs.Integers.{abs_neg}
-use Rattle.averages_ticks.proofs.Whole.{in_i64, kept, tick_below, tick_above}
+use Rattle.averages_ticks.proofs.Whole.{kept, tick_below, tick_above}
 use Rattle.averages_ticks.proofs.to_tick.Goals as goal
-use Rattle.averages_ticks.proofs.to_tick.Goals.{After-half_even-size, After-size_of}
+use Rattle.averages_ticks.proofs.to_tick.Goals.{After-half_even-size, After-unsigned_abs}
 
 near : {size n share : ℕ} → Shared size n share → size ≤ 2 ^ 40
 near h = let l = sum_near h in omega arith
 
-size_is : (c : After-size_of) → c.size_of.result ≡ nat_abs c.args.sum
-size_is c = c.size_of.ensures ∙ ap nat_abs (kept c.args.sum (near c.requires))
+size_is : (c : After-unsigned_abs) → c.unsigned_abs.result ≡ nat_abs c.args.sum
+size_is c = c.unsigned_abs.ensures.value ∙ ap nat_abs (kept c.args.sum (near c.requires))
 
 -- the rounded size, and that it is small
 rounded : (c : After-half_even-size)
@@ -31,21 +31,6 @@ small c =
     let few = closest_few (nat_abs a.sum) a.n in
     let size = sum_near c.requires in
     omega arith
-
-pub size_of-requires : goal.size_of-requires
-size_of-requires c = rw (kept c.args.sum (near c.requires)) (sum_near c.requires)
-
-pub half_even-size-requires : goal.half_even-size-requires
-half_even-size-requires c = rw (size_is c) c.requires
-
-pub overflow_cast-size : goal.overflow_cast-size
-overflow_cast-size c = in_i64 (pos c.half_even-size.result) (small c)
-
-pub overflow_sub-result : goal.overflow_sub-result
-overflow_sub-result c =
-    let size = c.half_even-size.result in
-    let h = small (goal.at.overflow_sub-result c).After-half_even-size in
-    rw (kept (pos size) h, +ℤ_idl (neg_ℤ (pos size))) (in_i64 (neg_ℤ (pos size)) (rw (abs_neg (pos size)) h))
 
 pub returns-then-sum-lt0 : goal.returns-then-sum-lt0
 returns-then-sum-lt0 c =

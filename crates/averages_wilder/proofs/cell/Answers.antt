@@ -7,6 +7,3 @@ returns-then-averages-2 c = unfold of_bits in rw (c.if-averages.true, c.if-avera
 
 pub returns-else-averages-2 : goal.returns-else-averages-2
 returns-else-averages-2 c = unfold of_bits in rw (c.if-averages.true, c.if-averages-2.false)
-
-pub returns-else-averages : goal.returns-else-averages
-returns-else-averages c = unfold of_bits in rw (c.if-averages.false, c.strength.ensures)

@@ -7,7 +7,7 @@ use Rattle.cells.proofs.Touched.{untouched}
 use Rattle.cells.proofs.Scratch.{all_cleared}
 use Rattle.calls.proofs.Room.{all_bars}
 use Rattle.checks.specs.inner.Due.{Priced}
-use Rattle.checks.proofs.Due.{clearable, priced, written_call, empty_call}
+use Rattle.checks.proofs.Due.{clearable, priced, written_call}
 use Rattle.averages_wilder.proofs.wilder_rsi.Goals as goal
 use Rattle.averages_wilder.proofs.wilder_rsi.Goals.{Then-cells_due}
 
@@ -32,7 +32,3 @@ returns-then-cells_due c =
     let clear = all_cleared done.cleared (omega (arith, o.work_long, done.cleared.rest.long)) in
     written_call c.answer_window_with_work-due.ensures (all_bars _ _ _ _ _)
     (rw c.if-cells_due.true at c.cells_due.ensures) (done.cells, untouched {k = 0}) (omega arith) clear
-
-pub returns-else-cells_due : goal.returns-else-cells_due
-returns-else-cells_due c =
-    empty_call c.answer_window_with_work-due.ensures (rw c.if-cells_due.false at c.cells_due.ensures)

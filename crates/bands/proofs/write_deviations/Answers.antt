@@ -1,5 +1,4 @@
 -- `write_deviations` meets its contract: the lead, and a few bars with each turn. Assumes nothing.
-use Prim.Native.Nat.{◌-◌}
 use native.Mathlib.Omega.{arith}
 use borrow.Author.Rules.{rules}
 use Rattle.cells.proofs.Leads.{lead_stands, lead_then}

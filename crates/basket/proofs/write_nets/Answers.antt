@@ -7,17 +7,17 @@ use Rattle.basket.proofs.write_nets.Goals as goal
 pub overflow_mul-bars : goal.overflow_mul-bars
 overflow_mul-bars c = let room = c.requires.0.sized.out_long in search rules
 
-pub fill_flat-requires : goal.fill_flat-requires
-fill_flat-requires c = c.requires.0.sized.out_long
+pub fill-requires : goal.fill-requires
+fill-requires c = c.requires.0.sized.out_long
 
 pub add_contracts-requires : goal.add_contracts-requires
 add_contracts-requires c =
-    let flat = c.fill_flat.ensures in
+    let flat = c.fill.ensures in
     (rw flat.long c.requires.0, stands flat, omega arith, c.requires.1)
 
 pub returns : goal.returns
 returns c = (
-  then_written c.fill_flat.ensures c.add_contracts.ensures.0
+  then_written c.fill.ensures c.add_contracts.ensures.0
       (omega arith),
   c.add_contracts.ensures.1,
 )

@@ -1,10 +1,8 @@
 -- The tests of a basket's slices, contract by contract. Assumes nothing.
-use Rattle.std.specs.Prelude.{◌≡◌, Bool, ◌&&◌, List, ℕ, ◌+◌, ◌*◌, ◌<◌, ◌≤◌, leb, eqb, ℤ, nat_abs, length, get_or, Float}
+use Rattle.std.specs.Prelude.{◌≡◌, Bool, ◌&&◌, List, ℕ, ◌+◌, ◌*◌, ◌<◌, ◌≤◌, leb, eqb, ℤ, nat_abs, length, get_or, Float, Ok}
 use Rattle.values.specs.Accepted.{all}
 use Rattle.calls.specs.declared.Refusal.TheVariants.{LengthsDiffer, OutputTooShort, WorkTooShort, WeightTooLarge}
-use Rattle.calls.specs.declared.Answer.{Answer}
-use Rattle.calls.specs.declared.Answer.TheVariants.{Cells}
-use Rattle.calls.specs.Answer.{unless, first}
+use Rattle.calls.specs.Answer.{Answer, unless, first}
 use Rattle.rules.specs.ByNumber.{is_rule}
 use Rattle.basket.specs.Basket.{
   most_contracts,
@@ -52,4 +50,4 @@ listed_answer series table weights output work =
     (unless (leb (rows * l) output) OutputTooShort
     (unless (leb (8 * l) work) WorkTooShort
     (unless (all (λ c. light c.weight) cs) WeightTooLarge
-    (each_answered cs (Cells (rows * l))))))
+    (each_answered cs (Ok (rows * l))))))

@@ -1,7 +1,6 @@
 -- What is known of a basket that is answered, and of each of its contracts. Assumes nothing.
-use Rattle.std.specs.Prelude.{◌≡◌, List, ℕ, ◌-◌, ◌*◌, ◌<◌, ◌≤◌, ℤ, nat_abs, ◌*ℤ◌, length, Float}
+use Rattle.std.specs.Prelude.{◌≡◌, List, ℕ, ◌-◌, ◌*◌, ◌<◌, ◌≤◌, ℤ, nat_abs, ◌*ℤ◌, length, Float, Ok}
 use Rattle.cells.specs.inner.Touched.{Touched}
-use Rattle.calls.specs.declared.Answer.TheVariants.{Cells}
 use Rattle.calls.specs.Answer.{count_of}
 use Rattle.basket.specs.Basket.{Contract, groups, rows, largest_weight, own_answer, position_of, contract_at}
 use Rattle.basket.specs.inner.Adding.{Light, RowsAdded}
@@ -18,7 +17,7 @@ pub record Ready (c : Contract) : Type 0 where
   pub some : 0 < c.group
   pub row : c.group ≤ groups
   pub light : nat_abs c.weight ≤ largest_weight
-  pub answered : own_answer c ≡ Cells (count_of (own_answer c))
+  pub answered : own_answer c ≡ Ok (count_of (own_answer c))
 
 -- slices in which it may be added
 pub record Lent (l : ℕ) (out : List ℤ) (block work : ℕ) : Type 0 where

@@ -1,10 +1,9 @@
 -- Positions that are made part by part. Assumes nothing.
-use Rattle.std.specs.Prelude.{◌≡◌, true, cond, List, ℕ, ◌*◌, ◌<◌, ◌≤◌, eqb, ℤ, nat_abs, ◌*ℤ◌, length, Float}
+use Rattle.std.specs.Prelude.{◌≡◌, true, cond, List, ℕ, ◌*◌, ◌<◌, ◌≤◌, eqb, ℤ, nat_abs, ◌*ℤ◌, length, Float, Ok}
 use Rattle.limits.specs.Limits.{longest_series, Window}
 use Rattle.values.specs.Accepted.{accepted, all}
 use Rattle.cells.specs.Line.{Line, line}
 use Rattle.cells.specs.inner.Touched.{Touched}
-use Rattle.calls.specs.declared.Answer.TheVariants.{Cells}
 use Rattle.calls.specs.Answer.{count_of}
 use Rattle.rules.specs.Position.{whole_position}
 use Rattle.rules_single.specs.Single.{single_line}
@@ -43,7 +42,7 @@ pub record PartAdded (prices : List Float) (rule n : ℕ) (weight : ℤ) (q at r
 
 -- an answered call of the double rule, a weight and a row, and slices that have room
 pub record DoubleRoom (prices : List Float) (n m : ℕ) (weight : ℤ) (q : ℕ) (out : List ℤ) (work : ℕ) : Type 0 where
-  pub answered : double_answer prices n m (length prices) ≡ Cells (count_of (double_answer prices n m (length prices)))
+  pub answered : double_answer prices n m (length prices) ≡ Ok (count_of (double_answer prices n m (length prices)))
   pub work_long : length prices ≤ work
   pub row : q < groups
   pub light : nat_abs weight ≤ largest_weight

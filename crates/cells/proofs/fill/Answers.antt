@@ -1,15 +1,12 @@
 -- `fill` meets its contract: the loop writes cell after cell. Assumes nothing.
 use mathlib.Core.Path.{refl}
 use native.Mathlib.Omega.{arith}
-use borrow.Author.Rules.{rules}
-use Rattle.cells.proofs.Written.{none_written, one_more, ends}
+use lib.ListN.{length-take}
+use Rattle.cells.proofs.Written.{one_more, lent_front}
 use Rattle.cells.proofs.fill.Goals as goal
 
-pub loop-i-init : goal.loop-i-init
-loop-i-init c = (search rules, none_written)
-
-pub loop-i-preserved : goal.loop-i-preserved
-loop-i-preserved c = (search rules, one_more c.loop-i.invariant.1 refl (omega arith))
+pub loop-cell-preserved : goal.loop-cell-preserved
+loop-cell-preserved g c = one_more c.loop-cell.invariant refl c.loop-cell-test.true
 
 pub returns : goal.returns
-returns c = ends c.loop-i.invariant.1 (omega arith)
+returns g c = lent_front c.loop-cell.invariant (omega (arith, length-take c.args.n c.args.cells.now))

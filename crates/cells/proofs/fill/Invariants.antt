@@ -1,10 +1,6 @@
 -- `fill` meets its contract: the loop writes cell after cell. Assumes nothing.
-use Prim.Native.Nat.{◌-◌, ◌≤◌}
 use Rattle.cells.specs.Written.{Writing}
 use Rattle.cells.proofs.fill.Given as goal
 
-abbrev pub invariant-loop-i : goal.invariant-loop-i
-invariant-loop-i l = (l.i ≤ l.n) × Writing l.i (λ j. l.x) l.initial.cells l.cells
-
-abbrev pub decreases-loop-i : goal.decreases-loop-i
-decreases-loop-i l = l.n - l.i
+abbrev pub invariant-loop-cell : goal.invariant-loop-cell
+invariant-loop-cell g l = Writing l.cell-index (λ j. l.x) l.initial.cell-items l.cell-items

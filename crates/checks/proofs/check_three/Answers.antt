@@ -1,13 +1,30 @@
 -- `check_three` meets its contract: the lengths, then the values of each series. Assumes nothing.
+use Rattle.std.proofs.Common.{rules}
 use Rattle.checks.proofs.Three.{checked_three}
+use Rattle.checks.proofs.Steps.{stopped, went_on, and_then_assoc}
 use Rattle.checks.proofs.check_three.Goals as goal
+
+pub returns-in_err-check_lengths : goal.returns-in_err-check_lengths
+returns-in_err-check_lengths c =
+    rw (checked_three, and_then_assoc, and_then_assoc)
+    (stopped _ c.check_lengths.ensures c.in_err-check_lengths.was (search rules))
+
+pub returns-in_err-check_values : goal.returns-in_err-check_values
+returns-in_err-check_values c =
+    rw (checked_three, and_then_assoc, and_then_assoc)
+    (went_on _ c.check_lengths.ensures c.in_ok-check_lengths.was
+    (stopped _ c.check_values.ensures c.in_err-check_values.was (search rules)))
+
+pub returns-in_err-check_values-2 : goal.returns-in_err-check_values-2
+returns-in_err-check_values-2 c =
+    rw (checked_three, and_then_assoc, and_then_assoc)
+    (went_on _ c.check_lengths.ensures c.in_ok-check_lengths.was
+    (went_on _ c.check_values.ensures c.in_ok-check_values.was
+    (stopped _ c.check_values-2.ensures c.in_err-check_values-2.was (search rules))))
 
 pub returns : goal.returns
 returns c =
-    rw (
-      c.check_values.ensures,
-      c.check_values-two.ensures,
-      c.check_values-one.ensures,
-      c.check_lengths_of_three-lengths.ensures,
-      checked_three,
-    )
+    rw (checked_three, and_then_assoc, and_then_assoc)
+    (went_on _ c.check_lengths.ensures c.in_ok-check_lengths.was
+    (went_on _ c.check_values.ensures c.in_ok-check_values.was
+    (went_on _ c.check_values-2.ensures c.in_ok-check_values-2.was c.check_values-3.ensures)))

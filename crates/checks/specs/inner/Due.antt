@@ -4,8 +4,7 @@ use Rattle.limits.specs.Limits.{longest_series, Window}
 use Rattle.values.specs.Accepted.{accepted, all}
 use Rattle.cells.specs.Line.{plus_zero}
 use Rattle.cells.specs.Written.{written}
-use Rattle.calls.specs.declared.Answer.{Answer}
-use Rattle.calls.specs.Answer.{count_of, cleared_of}
+use Rattle.calls.specs.Answer.{Answer, count_of, cleared_of}
 
 -- r says whether a call of l bars has cells; the work slice of an answer with none is cleared
 pub record CellsDue (due : Answer) (l : ℕ) (r : Bool) (work₀ work₁ : List Float) : Type 0 where

@@ -5,18 +5,11 @@ use Rattle.cells.specs.Written.{Writing}
 use Rattle.limits.specs.Limits.{Window, longest_window}
 use Rattle.windows.specs.Window.{mean}
 use Rattle.deviations.specs.Deviation.{squares_about, variance}
-use Rattle.windows.specs.declared.Eight.{Eight}
 
--- for each of the eight bars from i on, the squares of its last n cells about its own middle
-pub record About (n : ℕ) (f : Line) (i : ℕ) (m r : Eight) : Type 0 where
-  pub lane0 : r.lane0 ≡ squares_about minus_zero n m.lane0 f i
-  pub lane1 : r.lane1 ≡ squares_about minus_zero n m.lane1 f (i + 1)
-  pub lane2 : r.lane2 ≡ squares_about minus_zero n m.lane2 f (i + 2)
-  pub lane3 : r.lane3 ≡ squares_about minus_zero n m.lane3 f (i + 3)
-  pub lane4 : r.lane4 ≡ squares_about minus_zero n m.lane4 f (i + 4)
-  pub lane5 : r.lane5 ≡ squares_about minus_zero n m.lane5 f (i + 5)
-  pub lane6 : r.lane6 ≡ squares_about minus_zero n m.lane6 f (i + 6)
-  pub lane7 : r.lane7 ≡ squares_about minus_zero n m.lane7 f (i + 7)
+-- for each of the N bars from i on, the squares of its last n cells about its own middle
+pub record About (N n : ℕ) (f : Line) (i : ℕ) (middles squares : List Float) : Type 0 where
+  pub long : length squares ≡ N
+  pub lane : (j : ℕ) → j < N → line squares j ≡ squares_about minus_zero n (line middles j) f (i + j)
 
 -- a whole window ends at bar i, the divisor is a window's, and there is room for eight bars
 pub record SpreadRoom (n d i bars middles variances : ℕ) : Type 0 where

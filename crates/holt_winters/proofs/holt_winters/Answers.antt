@@ -3,7 +3,7 @@
 use native.Mathlib.Omega.{arith}
 use borrow.Author.Rules.{rules}
 use lib.ListN.{length}
-use Rattle.checks.proofs.Due.{some_due, written_call, empty_call}
+use Rattle.checks.proofs.Due.{some_due, written_call}
 use Rattle.holt_winters.specs.inner.Stages.{SeasonRoom}
 use Rattle.holt_winters.proofs.Stages.{holt_winters_clearable, holt_winters_bars, holt_winters_ready}
 use Rattle.holt_winters.proofs.holt_winters.Goals as goal
@@ -35,6 +35,3 @@ returns-then-cells_due c =
     written_call c.answer_holt_winters-due.ensures (holt_winters_bars _ _ _ _ _)
     (rw c.if-cells_due.true at c.cells_due.ensures) (done.cells, done.seasons.rest) (omega arith)
     c.clear_last.ensures
-
-pub returns-else-cells_due : goal.returns-else-cells_due
-returns-else-cells_due c = empty_call c.answer_holt_winters-due.ensures (rw c.if-cells_due.false at c.cells_due.ensures)

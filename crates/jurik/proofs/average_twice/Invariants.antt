@@ -2,7 +2,7 @@
 -- Assumes nothing.
 use mathlib.Core.Path.{◌≡◌}
 use mathlib.Core.Bool.{true}
-use Prim.Native.Nat.{◌-◌, ◌≤◌}
+use Prim.Native.Nat.{◌-◌}
 use lib.ListN.{length}
 use Rattle.cells.specs.Line.{line}
 use Rattle.cells.specs.Written.{Writing}
@@ -13,10 +13,7 @@ use Rattle.jurik.proofs.average_twice.Given as goal
 abbrev pub invariant-loop-i : goal.invariant-loop-i
 invariant-loop-i l =
     let f = price_change (line l.close) in
-    (2 ≤ l.i) × (l.i ≤ length l.close) × Writing l.i (jv l.power (blended_twice l.alpha f)) l.initial.out l.out
+    Writing l.i (jv l.power (blended_twice l.alpha f)) l.initial.out l.out
     × (l.smooth1 ≡ blended_once l.alpha f (l.i - 1))
     × (l.smooth2 ≡ blended_twice l.alpha f (l.i - 1))
     × (l.differ ≡ true → Other (length l.close) (blended_once l.alpha f))
-
-abbrev pub decreases-loop-i : goal.decreases-loop-i
-decreases-loop-i l = length l.close - l.i

@@ -4,4 +4,4 @@ use Rattle.jurik.proofs.differing.Goals as goal
 
 pub returns : goal.returns
 unfolding ne
-returns c = rw c.valid.ensures
+returns c = rw c.is_nan.ensures.value

@@ -1,4 +1,5 @@
 -- `write_jurik` meets its contract: the third pass after the first two, or all of them one by one. Assumes nothing.
+use mathlib.Core.Path.{◌≡◌}
 use Prim.Native.Nat.{◌/◌}
 use native.Mathlib.Omega.{arith}
 use lib.ListN.{length}
@@ -19,8 +20,9 @@ returns-then-write_averaged_jv c =
     let averages = c.write_averaged_jv.ensures in
     let yes = c.if-write_averaged_jv.true in
     let last = tested non_zero plus_zero (ema_alpha (a.n / 3)) l in
+    let long : length c.write_averaged_jv.new.out ≡ l = omega arith in
     writing_same
-    (next_stage last (local_tested _ _ _ l) (averages.cells yes) c.third_pass.ensures (omega arith))
+    (next_stage last (local_tested _ _ _ l) (averages.cells yes) (rw long at c.third_pass.ensures) (omega arith))
     (λ i h. averages_then l a.n a.power (line a.close.now) (averages.first yes) (averages.second yes) i)
 
 pub returns-else-write_averaged_jv : goal.returns-else-write_averaged_jv

@@ -1,7 +1,6 @@
 -- `write_jv` meets its contract: each turn writes a cell over its own value, and keeps that for the next one. Assumes
 -- nothing.
 use mathlib.Core.Path.{◌≡◌}
-use Prim.Native.Nat.{◌-◌, ◌≤◌}
 use Rattle.cells.specs.Line.{line, plus_zero}
 use Rattle.cells.specs.Written.{Writing}
 use Rattle.changes.specs.Changes.{earlier}
@@ -10,8 +9,5 @@ use Rattle.jurik.proofs.write_jv.Given as goal
 
 abbrev pub invariant-loop-i : goal.invariant-loop-i
 invariant-loop-i l =
-    (l.i ≤ l.bars) × Writing l.i (jv l.power (line l.initial.cells)) l.initial.cells l.cells
+    Writing l.i (jv l.power (line l.initial.cells)) l.initial.cells l.cells
     × (l.last ≡ earlier plus_zero (line l.initial.cells) l.i)
-
-abbrev pub decreases-loop-i : goal.decreases-loop-i
-decreases-loop-i l = l.bars - l.i

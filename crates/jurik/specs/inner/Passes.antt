@@ -9,17 +9,19 @@ use Rattle.cells.specs.Search.{non_zero, first_bar}
 use Rattle.cells.specs.Written.{Writing}
 use Rattle.cells.specs.inner.Touched.{Touched}
 use Rattle.averages.specs.Blend.{blend}
+use Rattle.jurik.specs.declared.bar.Taken.{Taken}
+use Rattle.jurik.specs.declared.bar.Taken.TheVariants.{Numbers, Nonzero}
 use Rattle.jurik.specs.Jurik.{is_number, all_same, passed, jv_of, jv, price_change, smooth1, smooth2}
 
 -- which values a pass takes: those other than 0, or numbers
-abbrev pub valid_by : Bool → Float → Bool
-valid_by true = non_zero
-valid_by false = is_number
+abbrev pub valid_by : Taken → Float → Bool
+valid_by Nonzero = non_zero
+valid_by Numbers = is_number
 
 -- what stands for the others
-abbrev pub none_by : Bool → Float
-none_by true = plus_zero
-none_by false = nan
+abbrev pub none_by : Taken → Float
+none_by Nonzero = plus_zero
+none_by Numbers = nan
 
 -- valid, and not equal to x
 abbrev pub differs : (Float → Bool) → Float → Float → Bool

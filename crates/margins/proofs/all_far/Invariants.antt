@@ -1,13 +1,10 @@
 -- `all_far` meets its contract: each turn looks at one more bar. Assumes nothing.
-use Prim.Native.Nat.{◌-◌, ◌≤◌, max}
+use Prim.Native.Nat.{◌≤◌, max}
 use lib.ListN.{length}
 use Rattle.cells.specs.Line.{line}
 use Rattle.margins.specs.inner.Margin.{far, AllFar}
 use Rattle.margins.proofs.all_far.Given as goal
 
 abbrev pub invariant-loop-i : goal.invariant-loop-i
-invariant-loop-i l = (l.first ≤ l.i) × (l.i ≤ max l.first (length l.series))
+invariant-loop-i l = (l.i ≤ max l.first (length l.series))
     × AllFar l.far l.first (λ j. far l.d (line l.series j) (line l.averages j)) l.i
-
-abbrev pub decreases-loop-i : goal.decreases-loop-i
-decreases-loop-i l = length l.series - l.i

@@ -8,17 +8,16 @@ use Rattle.extremes.specs.Extreme.{larger}
 use Rattle.margins.specs.inner.Margin.{largest_of}
 use Rattle.margins.proofs.largest.Goals as goal
 
-pub loop-i-init : goal.loop-i-init
+pub loop-price-init : goal.loop-price-init
 unfolding of_bits
-loop-i-init c = (omega arith, no_step refl)
+loop-price-init c = no_step refl
 
-pub loop-i-preserved : goal.loop-i-preserved
-loop-i-preserved c =
-    (omega arith, one_step c.loop-i.invariant.1 (c.larger_of-most.ensures ∙ ap (larger _) c.magnitude.ensures))
+pub loop-price-preserved : goal.loop-price-preserved
+loop-price-preserved c =
+    one_step c.loop-price.invariant (c.larger_of-most.ensures ∙ ap (larger _) c.magnitude.ensures)
 
 pub returns : goal.returns
 unfolding largest_of
 returns c =
-    let end : c.loop-i.i ≡ length c.args.series.now =
-    omega (arith, c.loop-i.invariant.0) in
-    rw (← end) c.loop-i.invariant.1.is
+    let end : c.loop-price.price-index ≡ length c.args.series.now = omega arith in
+    rw (← end) c.loop-price.invariant.is

@@ -16,9 +16,7 @@ pub write_shares-requires : goal.write_shares-requires
 write_shares-requires c =
     let pre = c.requires in (
       record {
-        short_window = pre.short_window;
-        medium_window = pre.medium_window;
-        long_window = pre.long_window;
+        each = pre.each;
         same = simp (length-take, length-drop) (omega arith);
       },
       simp length-take (omega arith),
@@ -29,6 +27,6 @@ returns c =
     let rows = c.args.rows.now in
     let bars = c.args.bars in
     let second = drop bars rows in
-    from_parts _ _ _ bars _ _ (take bars rows) (take (bars + bars - bars) second) c.write_shares.ensures
+    from_parts _ bars _ _ (take bars rows) (take (bars + bars - bars) second) c.write_shares.ensures
     (taken_long bars rows (omega arith)) (λ j h. get_or-take bars rows j nan h)
     (λ j h. get_or-take (bars + bars - bars) second j nan (omega arith) ∙ get_or-drop bars rows j nan)

@@ -6,8 +6,7 @@ use borrow.Author.Rules.{rules}
 use Rattle.cells.proofs.RowWrites.{lent_on}
 use Rattle.cells.proofs.Touched.{touched, touched_more}
 use Rattle.cells.proofs.Written.{ends}
-use Rattle.true_range.specs.declared.CloseBefore.{CloseBefore}
-use Rattle.true_range.specs.declared.CloseBefore.TheVariants.{Unknown, Known}
+use Rattle.std.specs.Prelude.{Float, Option, None, Some}
 use Rattle.oscillator.proofs.Zeros.{FitClose}
 use Rattle.oscillator.proofs.Calls.{oscillator_cells}
 use Rattle.oscillator.proofs.write_oscillator.Goals as goal
@@ -17,9 +16,9 @@ use Rattle.oscillator.proofs.write_oscillator.Goals.{Start}
 fit_first : (c : Start) → FitClose c.args.first
 fit_first c = go c.args.first refl
   where
-    go : (first : CloseBefore) → c.args.first ≡ first → FitClose first
-    go Unknown e = tt
-    go (Known close) e = let good = rw e at c.well_formed.1.1.1.1.1.1.0 in search rules
+    go : (first : Option Float) → c.args.first ≡ first → FitClose first
+    go None e = tt
+    go (Some close) e = let good = rw e at c.well_formed.1.1.1.1.1.1.0 in search rules
 
 pub write_ranges-requires : goal.write_ranges-requires
 write_ranges-requires c =

@@ -1,19 +1,17 @@
 -- `write_pressures` meets its contract: each turn writes the pressure of its bar. Assumes nothing.
-use Prim.Native.Nat.{◌-◌}
 use native.Mathlib.Omega.{arith}
-use borrow.Author.Rules.{rules}
 use Rattle.cells.proofs.Written.{none_written, one_more, ends}
 use Rattle.oscillator.proofs.Oscillator.{pressure_at}
 use Rattle.oscillator.proofs.write_pressures.Goals as goal
 
 pub loop-i-init : goal.loop-i-init
-loop-i-init c = (search rules, none_written)
+loop-i-init c = none_written
 
 pub loop-i-preserved : goal.loop-i-preserved
 loop-i-preserved c =
     let at = c.loop-i in
     let cell = pressure_at _ _ _ at.i c.pressure_of.ensures c.close_before.ensures in
-    (omega arith, one_more at.invariant.1 cell (omega arith))
+    one_more at.invariant cell (omega arith)
 
 pub returns : goal.returns
-returns c = ends c.loop-i.invariant.1 (omega arith)
+returns c = ends c.loop-i.invariant (omega arith)

@@ -1,5 +1,4 @@
 -- `write_outer_lines` meets its contract: each turn reads a width before it writes over it. Assumes nothing.
-use Prim.Native.Nat.{◌-◌, ◌≤◌}
 use Rattle.cells.specs.Line.{line}
 use Rattle.cells.specs.Written.{Writing}
 use Rattle.outer_lines.specs.OuterLines.{upper_line, lower_line}
@@ -7,8 +6,5 @@ use Rattle.outer_lines.proofs.write_outer_lines.Given as goal
 
 abbrev pub invariant-loop-i : goal.invariant-loop-i
 invariant-loop-i l =
-    (l.i ≤ l.bars) × Writing l.i (upper_line l.k (line l.middle) (line l.initial.upper)) l.initial.upper l.upper
+    Writing l.i (upper_line l.k (line l.middle) (line l.initial.upper)) l.initial.upper l.upper
     × Writing l.i (lower_line l.k (line l.middle) (line l.initial.upper)) l.initial.lower l.lower
-
-abbrev pub decreases-loop-i : goal.decreases-loop-i
-decreases-loop-i l = l.bars - l.i

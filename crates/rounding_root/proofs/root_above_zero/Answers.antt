@@ -4,7 +4,6 @@ use mathlib.Core.Path.{sym, ◌∙◌, subst}
 use native.Mathlib.Omega.{arith}
 use lib.Dec.{T}
 use lib.Ieee.{binary64, fits}
-use Rattle.rounding_root.proofs.Above.{above_is_number}
 use Rattle.rounding_root.proofs.Patterns.{infinite, subnormal, normal}
 use Rattle.rounding_root.proofs.root_above_zero.Goals as goal
 use Rattle.rounding_root.proofs.root_above_zero.Goals.{Start}
@@ -12,9 +11,6 @@ use Rattle.rounding_root.proofs.root_above_zero.Goals.{Start}
 -- what owning an f64 tells: the format holds it
 held : (c : Start) → T (fits binary64 c.args.x)
 held c = subst T (sym c.well_formed.0.1) tt
-
-pub float_to_bits-bits : goal.float_to_bits-bits
-float_to_bits-bits c = above_is_number c.args.x c.requires
 
 pub returns-then-field-eq2047 : goal.returns-then-field-eq2047
 returns-then-field-eq2047 c =

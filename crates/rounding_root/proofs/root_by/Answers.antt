@@ -3,9 +3,6 @@ use lib.Ieee.{of_bits, div}
 use Rattle.rounding_root.proofs.Patterns.{of_zero, of_none}
 use Rattle.rounding_root.proofs.root_by.Goals as goal
 
-pub root_above_zero-requires : goal.root_above_zero-requires
-root_above_zero-requires c = unfold of_bits in c.if-x.true
-
 pub returns-then-x-2 : goal.returns-then-x-2
 returns-then-x-2 c = unfold of_bits in of_zero _ c.if-x-2.true
 

@@ -11,23 +11,8 @@ use Rattle.rounding_root.proofs.root_of_subnormal.Goals.{Start}
 lifted : (c : Start) → Moved c.args.t (count_leading_zeros 64 c.args.t)
 lifted c = moved c.args.t c.requires.0 c.requires.1
 
-pub overflow_cast-zeros : goal.overflow_cast-zeros
-overflow_cast-zeros c = omega (arith, lifted c)
-
 pub overflow_sub-zeros : goal.overflow_sub-zeros
 overflow_sub-zeros c = omega (arith, lifted c)
-
-pub overflow_shl-p : goal.overflow_shl-p
-overflow_shl-p c = omega (arith, lifted c)
-
-pub overflow_sub-e : goal.overflow_sub-e
-overflow_sub-e c = omega (arith, lifted c)
-
-pub overflow_sub-e-2 : goal.overflow_sub-e-2
-overflow_sub-e-2 c = omega (arith, lifted c)
-
-pub overflow_mul-e : goal.overflow_mul-e
-overflow_mul-e c = omega (arith, lifted c)
 
 pub overflow_add-p : goal.overflow_add-p
 overflow_add-p c = omega (arith, (lifted c).digits)

@@ -1,16 +1,13 @@
 -- `write_roots` meets its contract: each turn takes a root by the guess that stands in its cell. Assumes nothing.
 use native.Mathlib.Omega.{arith}
-use Rattle.cells.proofs.Written.{none_written, one_more, ends}
+use Rattle.cells.proofs.Written.{one_more, ends}
 use Rattle.cells.proofs.Touched.{written_over_all}
 use Rattle.rounding_root.proofs.write_roots.Goals as goal
-
-pub loop-i-init : goal.loop-i-init
-loop-i-init c = (omega arith, none_written)
 
 pub loop-i-preserved : goal.loop-i-preserved
 loop-i-preserved c =
     let guessed = c.write_guesses.ensures in
-    (omega arith, one_more c.loop-i.invariant.1 c.root_by.ensures (omega (arith, guessed.long)))
+    one_more c.loop-i.invariant c.root_by.ensures (omega (arith, guessed.long))
 
 pub returns : goal.returns
-returns c = written_over_all c.write_guesses.ensures (ends c.loop-i.invariant.1 (omega arith))
+returns c = written_over_all c.write_guesses.ensures (ends c.loop-i.invariant (omega arith))

@@ -3,7 +3,7 @@
 use native.Mathlib.Omega.{arith}
 use borrow.Author.Rules.{rules}
 use lib.ListN.{length}
-use Rattle.checks.proofs.Due.{some_due, written_call, empty_call}
+use Rattle.checks.proofs.Due.{some_due, written_call}
 use Rattle.rsx.specs.inner.Averaged.{RsxRoom}
 use Rattle.rsx.proofs.Stages.{rsx_clearable, rsx_bars, rsx_ready}
 use Rattle.rsx.proofs.rsx_ss2.Goals as goal
@@ -23,9 +23,6 @@ cells_due-requires c = rsx_clearable _ _ _ _ _ c.answer_rsx-due.ensures
 pub write_rsx-requires : goal.write_rsx-requires
 write_rsx-requires c = let o = opened (goal.at.write_rsx-requires c).Then-cells_due in search rules
 
-pub overflow_mul-close : goal.overflow_mul-close
-overflow_mul-close c = let o = opened (goal.at.overflow_mul-close c).Then-cells_due in search rules
-
 pub clear-requires : goal.clear-requires
 clear-requires c = let o = opened (goal.at.clear-requires c).Then-cells_due in search rules
 
@@ -34,6 +31,3 @@ returns-then-cells_due c =
     written_call c.answer_rsx-due.ensures (rsx_bars _ _ _ _ _)
     (rw c.if-cells_due.true at c.cells_due.ensures) c.write_rsx.ensures (omega arith)
     c.clear.ensures
-
-pub returns-else-cells_due : goal.returns-else-cells_due
-returns-else-cells_due c = empty_call c.answer_rsx-due.ensures (rw c.if-cells_due.false at c.cells_due.ensures)

@@ -1,6 +1,5 @@
 -- `write_index` meets its contract: NaN at bar 0, and then a step of both averages and their index. Assumes nothing.
-use Prim.Native.Nat.{◌-◌, ◌<◌, ◌≤◌}
-use lib.ListN.{length}
+use Prim.Native.Nat.{◌-◌}
 use Rattle.rounding.specs.Leaves.{plus_one}
 use Rattle.cells.specs.Line.{line}
 use Rattle.cells.specs.Written.{Writing}
@@ -11,8 +10,5 @@ use Rattle.rsx.proofs.write_index.Given as goal
 
 abbrev pub invariant-loop-i : goal.invariant-loop-i
 invariant-loop-i l =
-    (0 < l.i) × (l.i ≤ length l.close) × Averaged (over l.n plus_one) (line l.close) (l.i - 1) l.averages
-    × Writing l.i (rsx_unsmoothed l.n (line l.close)) l.initial.index l.index
-
-abbrev pub decreases-loop-i : goal.decreases-loop-i
-decreases-loop-i l = length l.close - l.i
+    Averaged (over l.n plus_one) (line l.close) (l.i - 1) l.averages
+    × Writing l.i (rsx_unsmoothed l.n (line l.close)) l.fn.index l.index

@@ -1,20 +1,12 @@
 -- `write_rsx` meets its contract: the smoother reads the index from the first row. Assumes nothing.
-use mathlib.Core.Path.{sym}
 use native.Mathlib.Omega.{arith}
-use Rattle.cells.proofs.Parts.{part_long, through}
+use Rattle.cells.proofs.Parts.{through}
 use Rattle.cells.proofs.Touched.{touched}
 use Rattle.smoother_table.specs.Coefficients.{coefficients}
 use Rattle.smoother.specs.Smoother.{smooth}
 use Rattle.smoother.proofs.Smoother.{causal_smooth}
 use Rattle.rsx.specs.Rsx.{rsx_line}
 use Rattle.rsx.proofs.write_rsx.Goals as goal
-
-pub slice_bounds-write_smooth-end-2 : goal.slice_bounds-write_smooth-end-2
-slice_bounds-write_smooth-end-2 c = sym (part_long c.write_index.ensures (omega arith))
-
-pub write_smooth-requires : goal.write_smooth-requires
-write_smooth-requires c = let row = part_long c.write_index.ensures (omega arith) in
-    omega arith
 
 pub returns : goal.returns
 unfolding rsx_line

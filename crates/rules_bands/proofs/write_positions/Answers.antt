@@ -1,5 +1,4 @@
 -- `write_positions` meets its contract: the lead, and a few bars with each turn. Assumes nothing.
-use Prim.Native.Nat.{◌-◌}
 use native.Mathlib.Omega.{arith}
 use Rattle.cells.proofs.Leads.{lead_then}
 use Rattle.cells.proofs.Written.{stands, then_written}

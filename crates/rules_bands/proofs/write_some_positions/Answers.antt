@@ -2,35 +2,24 @@
 -- position of the one before it, and writes that. Assumes nothing.
 use mathlib.Core.Path.{◌∙◌}
 use native.Mathlib.Nat.{add-zero}
-use Prim.Native.Nat.{◌+◌, ◌-◌}
+use Prim.Native.Nat.{◌+◌}
 use native.Mathlib.Omega.{arith}
-use borrow.Author.Rules.{rules, sfits_of}
+use borrow.Author.Rules.{sfits_of}
 use lib.Ieee.{nan}
 use mir.Syntax.{w32}
 use mir.ValLaws.{to_z-of_z}
-use Rattle.cells.proofs.Written.{step, ends, read_back}
-use Rattle.rules_bands.proofs.Stages.{divisor_most, step_at, recurring_before, recurring_on}
+use Rattle.cells.proofs.Written.{step, read_back}
+use Rattle.rules_bands.proofs.Stages.{step_at, recurring_before, recurring_on}
 use Rattle.rules_bands.proofs.write_some_positions.Goals as goal
-
-pub write_spreads-count-requires : goal.write_spreads-count-requires
-write_spreads-count-requires c = let a = c.args in
-    let most = divisor_most a.reverse a.n in
-    search rules
 
 pub loop-j-init : goal.loop-j-init
 loop-j-init c =
     let call = c.position_before-position in
     let pre = c.requires in
     let is = to_z-of_z w32 call.result (sfits_of call.type_inv) ∙ call.ensures in (
-      omega arith,
       rw add-zero pre.cells,
       rw (add-zero, is) (recurring_before _ _ _ _ c.args.i pre.cells (omega arith)),
     )
-
-pub returns : goal.returns
-returns c =
-    let spread = c.write_spreads-count.ensures in
-    record { some = spread.some; inside = spread.inside; cells = ends c.loop-j.invariant.1 (omega arith) }
 
 pub loop-j-preserved : goal.loop-j-preserved
 loop-j-preserved c =
@@ -42,5 +31,5 @@ loop-j-preserved c =
     let call = c.position_after-position in
     let is = to_z-of_z w32 call.result (sfits_of call.type_inv) ∙ call.ensures
     ∙ step_at a.reverse a.n a.k _ (a.i + j) _ middle variance (omega arith) in
-    let next = recurring_on _ _ _ _ a.i j c.loop-j.invariant.2 is in
-    (omega arith, step (a.i + j) (a.i + (j + 1)) c.loop-j.invariant.1 next.1 (omega arith), next.0)
+    let next = recurring_on _ _ _ _ a.i j c.loop-j.invariant.1 is in
+    (step (a.i + j) (a.i + (j + 1)) c.loop-j.invariant.0 next.1 (omega arith), next.0)

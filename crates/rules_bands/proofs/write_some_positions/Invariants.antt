@@ -1,6 +1,6 @@
 -- `write_some_positions` meets its contract: each turn reads a bar's mean, middle and variance, makes the
 -- position of the one before it, and writes that. Assumes nothing.
-use Prim.Native.Nat.{◌+◌, ◌-◌, ◌≤◌}
+use Prim.Native.Nat.{◌+◌}
 use Rattle.cells.specs.Line.{line}
 use Rattle.cells.specs.Written.{Writing}
 use Rattle.cells.specs.inner.Recurring.{Recurring}
@@ -10,9 +10,5 @@ use Rattle.rules_bands.proofs.write_some_positions.Given as goal
 
 abbrev pub invariant-loop-j : goal.invariant-loop-j
 invariant-loop-j l =
-    (l.j ≤ l.count)
-    × Writing (l.i + l.j) (band_positions l.reverse l.n l.k (line l.means)) l.initial.out l.out
+    Writing (l.i + l.j) (band_positions l.reverse l.n l.k (line l.means)) l.initial.out l.out
     × Recurring flat (position_step l.reverse l.n l.k (line l.means)) (l.i + l.j) l.position
-
-abbrev pub decreases-loop-j : goal.decreases-loop-j
-decreases-loop-j l = l.count - l.j

@@ -4,8 +4,7 @@ use Rattle.std.specs.Prelude.{Bool, cond, List, [], ◌∷◌, ℕ, zero, suc, �
 use Rattle.cells.specs.Line.{Line, line}
 use Rattle.cells.specs.Written.{Writing}
 use Rattle.limits.specs.Limits.{Window}
-use Rattle.calls.specs.declared.Answer.{Answer}
-use Rattle.calls.specs.Answer.{answered_with}
+use Rattle.calls.specs.Answer.{Answer, answered_with}
 use Rattle.calls.specs.Call.{WorkCall}
 use Rattle.values.specs.Accepted.{accepted}
 use Rattle.rules_held.specs.Held.{flat, moved}

@@ -1,19 +1,10 @@
 -- `running_sum` meets its contract: it begins with a window summed afresh, and each turn slides it. Assumes nothing.
-use mathlib.Core.Path.{◌≡◌}
-use Prim.Native.Nat.{◌-◌}
 use native.Mathlib.Omega.{arith}
 use Rattle.windows.proofs.Window.{first_running, next_running}
 use Rattle.rules_double.proofs.running_sum.Goals as goal
 
 pub loop-j-init : goal.loop-j-init
-loop-j-init c = (omega arith, omega arith, first_running _ c.sum_at-sum.ensures (omega arith))
+loop-j-init c = first_running _ c.sum_at-sum.ensures (omega arith)
 
 pub loop-j-preserved : goal.loop-j-preserved
-loop-j-preserved c =
-    let next = next_running c.loop-j.invariant.2 (omega arith) in
-    (omega arith, omega arith, rw c.slide_sum-sum.ensures next)
-
-pub returns : goal.returns
-returns c =
-    let reached : c.loop-j.j
-    ≡ c.args.i = omega arith in rw (← reached) c.loop-j.invariant.2
+loop-j-preserved c = rw c.slide_sum-sum.ensures (next_running c.loop-j.invariant (omega arith))

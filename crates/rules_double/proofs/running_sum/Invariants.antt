@@ -1,12 +1,8 @@
 -- `running_sum` meets its contract: it begins with a window summed afresh, and each turn slides it. Assumes nothing.
-use Prim.Native.Nat.{◌-◌, ◌≤◌}
 use Rattle.cells.specs.Line.{line}
 use Rattle.windows.specs.inner.Sums.{Running}
 use Rattle.windows.specs.Window.{add_then_subtract}
 use Rattle.rules_double.proofs.running_sum.Given as goal
 
 abbrev pub invariant-loop-j : goal.invariant-loop-j
-invariant-loop-j l = (l.n ≤ l.j) × (l.j ≤ l.i) × Running add_then_subtract l.n (line l.series) l.j l.sum
-
-abbrev pub decreases-loop-j : goal.decreases-loop-j
-decreases-loop-j l = l.i - l.j
+invariant-loop-j l = Running add_then_subtract l.n (line l.series) l.j l.sum

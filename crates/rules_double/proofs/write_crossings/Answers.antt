@@ -2,8 +2,10 @@
 use mathlib.Core.Path.{◌≡◌, ◌∙◌}
 use Prim.Native.Nat.{◌+◌, ◌-◌}
 use native.Mathlib.Omega.{arith}
-use borrow.Author.Rules.{rules}
-use Rattle.cells.proofs.Written.{one_more, ends}
+use Rattle.cells.proofs.Written.{step, one_more}
+use Rattle.cells.specs.Line.{line}
+use Rattle.windows.specs.Window.{add_then_subtract}
+use Rattle.windows.specs.inner.Sums.{Running}
 use Rattle.windows.proofs.Window.{next_running}
 use Rattle.rules_double.proofs.Double.{double_at}
 use Rattle.rules_double.proofs.write_crossings.Goals as goal
@@ -11,27 +13,23 @@ use Rattle.rules_double.proofs.write_crossings.Goals as goal
 pub loop-i-init : goal.loop-i-init
 loop-i-init c =
     let m = c.args.m in
-    let bar : m - 1 + 1 ≡ m = omega arith in (
-      omega arith,
-      omega arith,
-      search rules,
-      rw bar c.running_sum-short.ensures,
-      rw bar
-          c.running_sum-long.ensures,
+    let bar : m - 1 + 1 ≡ m = omega arith in
+    let short : Running add_then_subtract c.args.n (line c.args.series.now) (m - 1 + 1) c.running_sum-short.result =
+    rw bar c.running_sum-short.ensures in
+    let long : Running add_then_subtract m (line c.args.series.now) (m - 1 + 1) c.running_sum-long.result =
+    rw bar c.running_sum-long.ensures in (
+      step (m - 1) m c.requires.before (c.cross.ensures ∙ double_at (m - 1) short long (omega arith)) (omega arith),
+      c.running_sum-short.ensures,
+      c.running_sum-long.ensures,
     )
 
 pub loop-i-preserved : goal.loop-i-preserved
 loop-i-preserved c =
-    let inv = c.loop-i.invariant in (
-      omega arith,
-      omega arith,
-      one_more inv.2 (c.cross.ensures ∙ double_at _ inv.3 inv.4 (omega arith)) (omega arith),
-      rw c.slide_sum-short.ensures (next_running inv.3 (omega arith)),
-      rw c.slide_sum-long.ensures (next_running inv.4 (omega arith)),
-    )
-
-pub returns : goal.returns
-returns c =
+    let f = line c.args.series.now in
+    let i = c.loop-i.i in
     let inv = c.loop-i.invariant in
-    ends (one_more inv.2 (c.cross-2.ensures ∙ double_at _ inv.3 inv.4 (omega arith)) (omega arith))
-    (omega arith)
+    let short : Running add_then_subtract c.args.n f (i + 1) c.slide_sum-short.result =
+    rw c.slide_sum-short.ensures (next_running inv.1 (omega arith)) in
+    let long : Running add_then_subtract c.args.m f (i + 1) c.slide_sum-long.result =
+    rw c.slide_sum-long.ensures (next_running inv.2 (omega arith)) in
+    (one_more inv.0 (c.cross-in-loop-i.ensures ∙ double_at _ short long (omega arith)) (omega arith), short, long)

@@ -1,5 +1,4 @@
 -- `write_double_of_ticks` meets its contract: the lead, the first position, and those after it. Assumes nothing.
-use mathlib.Core.Path.{◌∙◌}
 use native.Mathlib.Omega.{arith}
 use lib.ListN.{length-set}
 use lib.Ieee.{of_bits}
@@ -46,9 +45,6 @@ slide_spreads-requires c =
             c.sign_of_number.ensures);
       };
     })
-
-pub shape_of-out : goal.shape_of-out
-shape_of-out c = c.slide_spreads.ensures.long ∙ simp length-set c.fill_lead.ensures.lead.long
 
 pub returns : goal.returns
 unfolding of_bits

@@ -1,42 +1,15 @@
 -- `slide_ranges` meets its contract: the first cell, and then each turn moves the sums on and writes one. Assumes
 -- nothing.
-use mathlib.Core.Path.{◌≡◌, ◌∙◌}
+use mathlib.Core.Path.{◌≡◌}
 use Prim.Native.Nat.{◌+◌, ◌-◌}
 use native.Mathlib.Omega.{arith}
 use borrow.Author.Rules.{sfits_of}
-use lib.ListN.{set, length-set}
 use mir.Syntax.{w32}
-use mir.Val.{of_z, to_z}
 use mir.ValLaws.{to_z-of_z}
-use Rattle.cells.specs.Line.{line}
-use Rattle.cells.specs.Written.{Writing}
-use Rattle.cells.proofs.Written.{step, one_more, ends, stands, then_written}
-use Rattle.rules_double_ranges.specs.Ranges.{ranges_line}
+use Rattle.cells.proofs.Written.{step, one_more}
 use Rattle.rules_double_ranges.proofs.Bars.{cell_asks, cell_is}
 use Rattle.rules_double_ranges.proofs.slide_ranges.Goals as goal
 use Rattle.rules_double_ranges.proofs.slide_ranges.Goals.{After-cell_at}
-
-first_cell : (c : After-cell_at)
-    → let a = c.args in
-    Writing a.m (ranges_line a.n a.m (line a.low.now) (line a.high.now)) a.out.now
-    (set a.out.now (a.m - 1) (to_z w32 (of_z w32 c.cell_at.result)))
-first_cell c =
-    let r = c.requires in
-    let m = c.args.m in
-    let some = r.lows.long.some in
-    let full = r.lows.full in
-    let room = r.room in
-    let cell =
-    cell_is r.lows r.highs r.same r.ranged (m - 1) (omega arith) (omega arith)
-    c.first_sums-lows.ensures
-    c.first_sums-highs.ensures in
-    step (m - 1) m r.before
-    (rw (to_z-of_z w32 c.cell_at.result (sfits_of c.cell_at.type_inv), c.cell_at.ensures) cell)
-    (omega arith)
-
--- ---- bar m - 1
-
--- ---- bar i
 
 pub cell_at-requires : goal.cell_at-requires
 cell_at-requires c =
@@ -50,25 +23,21 @@ cell_at-requires c =
 
 pub loop-i-init : goal.loop-i-init
 loop-i-init c =
-    let r = c.requires in (
-      omega arith,
-      r.lows.full,
-      simp length-set r.room,
-      stands (first_cell c),
+    let r = c.requires in
+    let m = c.args.m in
+    let some = r.lows.long.some in
+    let full = r.lows.full in
+    let room = r.room in
+    let cell =
+    cell_is r.lows r.highs r.same r.ranged (m - 1) (omega arith) (omega arith)
+    c.first_sums-lows.ensures
+    c.first_sums-highs.ensures in (
+      step (m - 1) m r.before
+          (rw (to_z-of_z w32 c.cell_at.result (sfits_of c.cell_at.type_inv), c.cell_at.ensures) cell)
+          (omega arith),
       c.first_sums-lows.ensures,
       c.first_sums-highs.ensures,
     )
-
-pub next_sums-lows-requires : goal.next_sums-lows-requires
-next_sums-lows-requires c =
-    let r = c.requires in
-    (record { over_ticks = (r.lows, c.loop-i.invariant.0, omega arith); sums_at = c.loop-i.invariant.4 })
-
-pub next_sums-highs-requires : goal.next_sums-highs-requires
-next_sums-highs-requires c =
-    let r = c.requires in
-    let same = r.same in
-    (record { over_ticks = (r.highs, c.loop-i.invariant.0, omega arith); sums_at = c.loop-i.invariant.5 })
 
 pub cell_at-requires-in-loop-i : goal.cell_at-requires-in-loop-i
 cell_at-requires-in-loop-i c =
@@ -83,16 +52,13 @@ loop-i-preserved c =
     let r = c.requires in
     let i = c.loop-i.i in
     let bar : i + 1 - 1 ≡ i = omega arith in
-    let room = c.loop-i.invariant.2 in
-    let long = c.loop-i.invariant.3.long in
+    let room = r.room in
+    let long = c.loop-i.invariant.0.long in
     let cell =
     cell_is r.lows r.highs r.same r.ranged i (omega arith) (omega arith)
     c.next_sums-lows.ensures
     c.next_sums-highs.ensures in (
-      omega arith,
-      omega arith,
-      simp length-set room,
-      one_more c.loop-i.invariant.3
+      one_more c.loop-i.invariant.0
           (rw (
             to_z-of_z w32 c.cell_at-in-loop-i.result (sfits_of c.cell_at-in-loop-i.type_inv),
             c.cell_at-in-loop-i.ensures,
@@ -101,14 +67,3 @@ loop-i-preserved c =
       rw bar c.next_sums-lows.ensures,
       rw bar c.next_sums-highs.ensures,
     )
-
-pub shape_of-out : goal.shape_of-out
-shape_of-out c =
-    let a = c.args in
-    c.loop-i.invariant.3.long
-    ∙ length-set a.out.now (a.m - 1) (to_z w32 (of_z w32 c.cell_at.result))
-
-pub returns : goal.returns
-returns c =
-    let full = c.requires.lows.full in
-    then_written (first_cell (goal.at.returns c).After-cell_at) (ends c.loop-i.invariant.3 (omega arith)) full

@@ -1,7 +1,7 @@
 -- `write_from` meets its contract: each turn writes a position and blends the next bar's mean, which still stands,
 -- into the average. Assumes nothing.
 use mathlib.Core.Path.{◌≡◌}
-use Prim.Native.Nat.{◌-◌, ◌≤◌, ◌<◌}
+use Prim.Native.Nat.{◌-◌}
 use lib.ListN.{length}
 use Rattle.cells.specs.Line.{line}
 use Rattle.cells.specs.inner.Finished.{Finished}
@@ -10,10 +10,5 @@ use Rattle.rules_ema.proofs.write_from.Given as goal
 
 abbrev pub invariant-loop-i : goal.invariant-loop-i
 invariant-loop-i l =
-    (l.start ≤ l.i) × (l.i < length l.series)
-    × Finished (single_ema_from l.start l.n (line l.series)) (length l.series) l.i l.initial.out l.out l.initial.work
-    l.work
-    × (l.average ≡ ema_of_means l.start l.n (line l.series) l.i)
-
-abbrev pub decreases-loop-i : goal.decreases-loop-i
-decreases-loop-i l = length l.series - l.i
+    Finished (single_ema_from l.start l.n (line l.series)) (length l.series) l.i l.fn.out l.out l.fn.work l.work
+    × (l.average ≡ ema_of_means l.start l.n (line l.series) (l.i - 1))

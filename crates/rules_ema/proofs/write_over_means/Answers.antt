@@ -1,30 +1,12 @@
 -- `write_over_means` meets its contract: the means, the search among them, and the positions from the start that was
 -- found. Assumes nothing.
-use mathlib.Core.Path.{sym}
 use native.Mathlib.Omega.{arith}
 use borrow.Author.Rules.{rules}
 use Rattle.cells.specs.Line.{line}
-use Rattle.cells.proofs.Parts.{part_long}
 use Rattle.cells.proofs.Written.{stands}
 use Rattle.windows.specs.Window.{mean}
-use Rattle.rules_ema.proofs.SingleEma.{seed_of, found_finished, none_finished}
+use Rattle.rules_ema.proofs.SingleEma.{seed_of, found_finished, lead_finished}
 use Rattle.rules_ema.proofs.write_over_means.Goals as goal
-
-pub write_means_by-requires : goal.write_means_by-requires
-write_means_by-requires c =
-    let pre = c.requires in
-    (record { window_room = record { window = pre.priced.window; room = search rules }; ticks_value = pre.ticks_value })
-
-pub slice_bounds-first_bar-end-2 : goal.slice_bounds-first_bar-end-2
-slice_bounds-first_bar-end-2 c = sym (part_long c.write_means_by.ensures (omega arith))
-
-pub slice_bounds-mean_at-end-then-start-bars : goal.slice_bounds-mean_at-end-then-start-bars
-slice_bounds-mean_at-end-then-start-bars c = sym (part_long c.write_means_by.ensures (omega arith))
-
-pub mean_at-seed-requires : goal.mean_at-seed-requires
-mean_at-seed-requires c =
-    let long = part_long c.write_means_by.ensures (omega arith) in
-    record { window = c.requires.priced.window; full = omega arith; inside = omega arith }
 
 pub write_from-requires : goal.write_from-requires
 write_from-requires c =
@@ -50,4 +32,4 @@ returns-else-start-bars c =
     let a = c.args in
     let f = line a.series.now in
     found_finished a.n f c.write_means_by.ensures (omega arith) c.first_bar-start.ensures
-    (none_finished _ a.n f c.clear_lead.ensures (omega arith))
+    (lead_finished _ a.n f c.clear_lead.ensures (omega arith))

@@ -1,12 +1,13 @@
 -- `against_middle` meets its contract: its tests are those of `against_middle`. Assumes nothing.
 use lib.Ieee.{of_bits}
 use Rattle.rules_middle.proofs.against_middle.Goals as goal
-
-pub returns-then-high : goal.returns-then-high
-returns-then-high c = unfold of_bits in rw c.if-high.true
-
-pub returns-then-low : goal.returns-then-low
-returns-then-low c = unfold of_bits in rw (c.if-high.false, c.if-low.true)
+use Rattle.rules_middle.proofs.against_middle.Goals.{then-high, else-high}
 
 pub returns-else-low : goal.returns-else-low
-returns-else-low c = unfold of_bits in rw (c.if-high.false, c.if-low.false, c.sign-side.ensures)
+unfolding of_bits
+returns-else-low c =
+    elim c.if-high.branch [
+      | then-high w ↦ cc
+      | else-high w ↦
+          rw (w.if-high.false, ← w.value-is, c.if-low.false, c.sign-side.ensures)
+    ]

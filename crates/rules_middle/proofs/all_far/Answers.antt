@@ -1,15 +1,13 @@
 -- `all_far` meets its contract: each turn looks at one more bar. Assumes nothing.
-use Prim.Native.Nat.{◌-◌}
 use native.Mathlib.Omega.{arith}
 use Rattle.margins.proofs.Far.{none_looked_at, one_more_far, all_looked_at}
 use Rattle.rules_middle.proofs.all_far.Goals as goal
 
 pub loop-i-init : goal.loop-i-init
-loop-i-init c = (omega arith, omega arith, none_looked_at (omega arith))
+loop-i-init c = (omega arith, none_looked_at (omega arith))
 
 pub loop-i-preserved : goal.loop-i-preserved
-loop-i-preserved c =
-    (omega arith, omega arith, one_more_far c.loop-i.invariant.2 c.loop-i.invariant.0 c.is_far-far.ensures)
+loop-i-preserved c = (omega arith, one_more_far c.loop-i.invariant.1 (omega arith) c.is_far-far.ensures)
 
 pub returns : goal.returns
-returns c = all_looked_at c.loop-i.invariant.2 (omega arith) (omega arith)
+returns c = all_looked_at c.loop-i.invariant.1 (omega arith) (omega arith)

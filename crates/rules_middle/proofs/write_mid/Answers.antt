@@ -1,31 +1,19 @@
 -- `write_mid` meets its contract: by means where the prices are whole ticks and the window is long, else by running
 -- sums where they decide every bar, and else by means. Assumes nothing.
-use native.Mathlib.Omega.{arith}
 use Rattle.cells.proofs.Touched.{touched_then, written_over_all}
 use Rattle.rules_middle.proofs.write_mid.Goals as goal
+use Rattle.rules_middle.proofs.write_mid.Goals.{
+  then-ticks-via-then-ticks,
+  then-ticks-via-else-ticks+then-not-write_mid_by_margins,
+}
 
-pub returns-then-write_mid_by_margins : goal.returns-then-write_mid_by_margins
-returns-then-write_mid_by_margins c =
-    let decided = c.write_mid_by_margins.ensures in
-    (decided.cells c.if-write_mid_by_margins.true, decided.work)
-
-pub write_mid_of_means-requires-2 : goal.write_mid_of_means-requires-2
-write_mid_of_means-requires-2 c =
-    let pre = c.requires in
-    let out = c.write_mid_by_margins.ensures.used.long in
-    let work = c.write_mid_by_margins.ensures.work.long in (record {
-      priced = record {
-        window = pre.window;
-        short = pre.short;
-        out_long = omega (arith, pre.out_long);
-        work_long = omega (arith, pre.work_long);
-        values = pre.values;
-      };
-      ticks_value = c.are_long_ticks-ticks.ensures;
-    })
-
-pub returns : goal.returns
-returns c =
-    let decided = c.write_mid_by_margins.ensures in
-    let cells = c.write_mid_of_means-2.ensures in
-    (written_over_all decided.used cells.0, touched_then decided.work cells.1)
+pub returns-then-ticks : goal.returns-then-ticks
+returns-then-ticks c =
+    elim c.then-ticks.branch [
+      | then-ticks-via-then-ticks w ↦
+          rw (w.out-is, w.work-is) at c.write_mid_of_means.ensures
+      | then-ticks-via-else-ticks+then-not-write_mid_by_margins w ↦
+          let decided = w.write_mid_by_margins.ensures in
+          let cells = rw (w.out-is, w.work-is) at c.write_mid_of_means.ensures in
+          (written_over_all decided.used cells.0, touched_then decided.work cells.1)
+    ]

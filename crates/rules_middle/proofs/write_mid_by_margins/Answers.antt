@@ -4,7 +4,7 @@ use mathlib.Core.Path.{sym, ◌∙◌}
 use mathlib.Core.Bool.{true≢false}
 use native.Mathlib.Omega.{arith}
 use Rattle.cells.proofs.Parts.{part_long}
-use Rattle.cells.proofs.Touched.{untouched, touched, touched_more}
+use Rattle.cells.proofs.Touched.{touched, touched_more}
 use Rattle.cells.proofs.Written.{then_written, writing_same}
 use Rattle.extremes.specs.Extreme.{larger, smaller, extreme}
 use Rattle.extremes.proofs.Extreme.{causal_extreme}
@@ -12,13 +12,6 @@ use Rattle.window_means.proofs.Through.{both_through}
 use Rattle.rules_middle.proofs.Middle.{standing}
 use Rattle.rules_middle.proofs.ByMargins.{running_means_room, by_margins}
 use Rattle.rules_middle.proofs.write_mid_by_margins.Goals as goal
-
-pub returns-then-n-lt-SHORTEST_BY_MARGINS : goal.returns-then-n-lt-SHORTEST_BY_MARGINS
-returns-then-n-lt-SHORTEST_BY_MARGINS c =
-    record { used = untouched; work = untouched; cells = λ e. absurd (true≢false (sym e)) }
-
-pub slice_bounds-write_ranges-end-2 : goal.slice_bounds-write_ranges-end-2
-slice_bounds-write_ranges-end-2 c = sym (part_long c.write_running_means.ensures (omega arith))
 
 pub write_ranges-requires : goal.write_ranges-requires
 write_ranges-requires c =

@@ -1,7 +1,6 @@
 -- `write_scaled` meets its contract: each turn reads a mean that still stands and its range, and writes the bar's cell.
 -- Assumes nothing.
 use mathlib.Core.Path.{◌∙◌}
-use Prim.Native.Nat.{◌-◌}
 use native.Mathlib.Omega.{arith}
 use borrow.Author.Rules.{rules}
 use lib.Ieee.{nan, of_bits}
@@ -19,11 +18,11 @@ pub loop-i-preserved : goal.loop-i-preserved
 loop-i-preserved c =
     let pre = c.requires in
     let i = c.loop-i.i in
-    let mean_is = still i pre.averaged.0.means c.fill_lead-i.ensures.lead c.loop-i.invariant.2 (omega arith) in
+    let mean_is = still i pre.averaged.0.means c.fill_lead-first.ensures.lead c.loop-i.invariant (omega arith) in
     let high_is = read_back i nan pre.series_in_bounds.1 (omega arith) ∙ beside_first _ _ _ i (omega arith) in
     let low_is = read_back _ nan pre.series_in_bounds.1 (omega arith) ∙ beside_second _ _ _ i in
     let cell = c.scaled_between.ensures ∙ mms_at _ _ _ _ mean_is high_is low_is (omega arith) in
-    (omega arith, omega arith, one_more c.loop-i.invariant.2 cell (omega arith))
+    one_more c.loop-i.invariant cell (omega arith)
 
 pub returns : goal.returns
-returns c = lead_then c.fill_lead-i.ensures c.loop-i.invariant.2 (omega arith)
+returns c = lead_then c.fill_lead-first.ensures c.loop-i.invariant (omega arith)

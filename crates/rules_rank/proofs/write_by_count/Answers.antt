@@ -1,6 +1,5 @@
 -- `write_by_count` meets its contract: each turn counts the means below and writes the position that the count picks.
 -- Assumes nothing.
-use Prim.Native.Nat.{◌-◌}
 use native.Mathlib.Omega.{arith}
 use borrow.Author.Rules.{rules}
 use lib.Ieee.{of_bits}
@@ -17,7 +16,7 @@ pub loop-i-preserved : goal.loop-i-preserved
 loop-i-preserved c =
     let pre = c.requires in
     let position = picked pre.rank_rows c.loop-i.i c.count_below-below.ensures (omega arith) in
-    (omega arith, omega arith, one_more c.loop-i.invariant.2 position (omega arith))
+    one_more c.loop-i.invariant position (omega arith)
 
 pub returns : goal.returns
-returns c = lead_then c.fill_lead-i.ensures c.loop-i.invariant.2 (omega arith)
+returns c = lead_then c.fill_lead-first.ensures c.loop-i.invariant (omega arith)

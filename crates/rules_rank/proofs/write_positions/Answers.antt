@@ -1,5 +1,4 @@
 -- `write_positions` meets its contract: each turn writes one position. Assumes nothing.
-use Prim.Native.Nat.{◌-◌}
 use native.Mathlib.Omega.{arith}
 use borrow.Author.Rules.{rules}
 use lib.Ieee.{of_bits}
@@ -11,7 +10,7 @@ loop-below-init c = search (rules, none_written)
 
 pub loop-below-preserved : goal.loop-below-preserved
 unfolding of_bits
-loop-below-preserved c = (omega arith, one_more c.loop-below.invariant.1 (rw c.whole_rank.ensures) (omega arith))
+loop-below-preserved c = one_more c.loop-below.invariant (rw c.whole_rank.ensures) (omega arith)
 
 pub returns : goal.returns
-returns c = ends c.loop-below.invariant.1 (omega arith)
+returns c = ends c.loop-below.invariant (omega arith)

@@ -1,7 +1,6 @@
 -- `write_by_count` meets its contract: each turn counts the means below and writes the position that the count picks.
 -- Assumes nothing.
 use mathlib.Core.Path.{◌∙◌}
-use Prim.Native.Nat.{◌-◌}
 use native.Mathlib.Omega.{arith}
 use borrow.Author.Rules.{rules}
 use mir.Syntax.{w32}
@@ -26,7 +25,7 @@ loop-i-preserved c =
     let pre = c.requires in
     let position = picked pre.table_rows c.loop-i.i c.count_below-below.ensures (omega arith) in
     let cell = to_z-of_z w32 _ (record { sfits = to_signed_in 31 _ }) ∙ position in
-    (omega arith, omega arith, one_more c.loop-i.invariant.2 cell (omega arith))
+    one_more c.loop-i.invariant cell (omega arith)
 
 pub returns : goal.returns
-returns c = lead_then c.fill_flat-i.ensures c.loop-i.invariant.2 (omega arith)
+returns c = lead_then c.fill_flat-first.ensures c.loop-i.invariant (omega arith)

@@ -1,7 +1,5 @@
 -- `write_by_count` meets its contract: each turn counts the means below and writes the position that the count picks.
 -- Assumes nothing.
-use Prim.Native.Nat.{◌-◌, ◌*◌, ◌≤◌, min}
-use lib.ListN.{length}
 use Rattle.cells.specs.Line.{line}
 use Rattle.cells.specs.Written.{Writing}
 use Rattle.rules_rank_table.specs.Table.{rows_read}
@@ -9,9 +7,4 @@ use Rattle.rules_rank_table.specs.RankTable.{rank_table_line}
 use Rattle.rules_rank_table.proofs.write_by_count.Given as goal
 
 abbrev pub invariant-loop-i : goal.invariant-loop-i
-invariant-loop-i l =
-    (min (2 * l.n - 2) (length l.series) ≤ l.i) × (l.i ≤ length l.series)
-    × Writing l.i (rank_table_line (rows_read l.rows) l.n (line l.series)) l.initial.out l.out
-
-abbrev pub decreases-loop-i : goal.decreases-loop-i
-decreases-loop-i l = length l.series - l.i
+invariant-loop-i l = Writing l.i (rank_table_line (rows_read l.rows) l.n (line l.series)) l.initial.out l.out

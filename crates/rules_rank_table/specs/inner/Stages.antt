@@ -17,6 +17,10 @@ use Rattle.rules_rank_table.specs.Taken.{from_at, to_at, position_at}
 abbrev pub row_at : List ℤ → ℕ → Row
 row_at table r = record { from = from_at table r; to = to_at table r; position = position_at table r }
 
+-- a row that stands alone
+abbrev pub row_of : List ℤ → Row
+row_of numbers = row_at numbers 0
+
 -- of the first j numbers from -100 on, `once` says whether each is covered at most once, and `some` whether each is
 -- covered
 pub record Counted (rows : List Row) (j : ℕ) (once some : Bool) : Type 0 where

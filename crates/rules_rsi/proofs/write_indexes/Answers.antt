@@ -1,12 +1,8 @@
 -- `write_indexes` meets its contract: a few bars with each turn. Assumes nothing.
-use Prim.Native.Nat.{◌-◌}
 use native.Mathlib.Omega.{arith}
-use Rattle.cells.proofs.Written.{none_written, stands, then_written, ends}
+use Rattle.cells.proofs.Written.{stands, then_written}
 use Rattle.rules_rsi.proofs.Rows.{still_changed}
 use Rattle.rules_rsi.proofs.write_indexes.Goals as goal
-
-pub loop-i-init : goal.loop-i-init
-loop-i-init c = (omega arith, none_written)
 
 pub write_some-i-requires : goal.write_some-i-requires
 write_some-i-requires c =
@@ -23,6 +19,3 @@ pub loop-i-preserved : goal.loop-i-preserved
 loop-i-preserved c =
     let more = c.write_some-i.ensures in
     (omega arith, then_written c.loop-i.invariant.1 more.cells (omega arith))
-
-pub returns : goal.returns
-returns c = ends c.loop-i.invariant.1 (omega arith)

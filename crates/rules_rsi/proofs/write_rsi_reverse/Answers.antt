@@ -1,18 +1,10 @@
 -- `write_rsi_reverse` meets its contract: the positions are read from the indexes in the first row. Assumes nothing.
-use mathlib.Core.Path.{sym}
 use native.Mathlib.Omega.{arith}
-use Rattle.cells.proofs.Parts.{part_long, through}
+use Rattle.cells.proofs.Parts.{through}
 use Rattle.cells.proofs.Touched.{touched, touched_then, touched_more}
 use Rattle.rules_rsi.specs.RsiReverse.{turned, rsi_reverse_line}
 use Rattle.rules_rsi.proofs.Index.{causal_turned}
 use Rattle.rules_rsi.proofs.write_rsi_reverse.Goals as goal
-
-pub slice_bounds-write_turned-end-2 : goal.slice_bounds-write_turned-end-2
-slice_bounds-write_turned-end-2 c = sym (part_long c.write_indexes.ensures (omega arith))
-
-pub write_turned-requires : goal.write_turned-requires
-write_turned-requires c = let row = part_long c.write_indexes.ensures (omega arith) in
-    omega arith
 
 pub returns : goal.returns
 unfolding rsi_reverse_line

@@ -1,19 +1,9 @@
 -- `tick_position` meets its contract: whole numbers decide, and at a tie the rounded average. Assumes nothing.
 use mathlib.Core.Path.{sym, ◌∙◌}
-use native.Mathlib.Nat.{mul-le-mul}
 use native.Mathlib.Omega.{arith}
 use lib.Ieee.{of_bits, neg}
-use Rattle.windows.proofs.Window.{count_is_float}
 use Rattle.rules_single.proofs.Ticks.{by_average, by_total}
 use Rattle.rules_single.proofs.tick_position.Goals as goal
-
-pub overflow_mul-scaled : goal.overflow_mul-scaled
-overflow_mul-scaled c = let l = c.requires.tick_rows.window.narrow in record { fits = omega (arith, mul-le-mul l l) }
-
-pub int_to_float-scaled : goal.int_to_float-scaled
-int_to_float-scaled c =
-    let l = c.requires.tick_rows.window.narrow in
-    count_is_float _ (omega (arith, mul-le-mul l l))
 
 pub returns-then-is_tie : goal.returns-then-is_tie
 returns-then-is_tie c =

@@ -3,25 +3,13 @@
 use mathlib.Core.Path.{sym, ◌∙◌}
 use mathlib.Core.Bool.{true≢false}
 use native.Mathlib.Omega.{arith}
-use borrow.Author.Rules.{rules}
-use Rattle.cells.proofs.Parts.{part_long, through}
-use Rattle.cells.proofs.Touched.{untouched, touched, touched_more}
+use Rattle.cells.proofs.Parts.{through}
+use Rattle.cells.proofs.Touched.{touched, touched_more}
 use Rattle.cells.proofs.Written.{then_written, writing_same}
 use Rattle.windows.specs.inner.Means.{running_means}
 use Rattle.windows.proofs.Means.{causal_running_means}
 use Rattle.rules_single.proofs.ByMargins.{by_margins}
 use Rattle.rules_single.proofs.write_single_by_margins.Goals as goal
-
-pub returns-then-n-lt-SHORTEST_BY_MARGINS : goal.returns-then-n-lt-SHORTEST_BY_MARGINS
-returns-then-n-lt-SHORTEST_BY_MARGINS c =
-    record { used = untouched; work = untouched; cells = λ e. absurd (true≢false (sym e)) }
-
-pub slice_bounds-write_running_means-end-2 : goal.slice_bounds-write_running_means-end-2
-slice_bounds-write_running_means-end-2 c = sym (part_long c.write_running_means.ensures (omega arith))
-
-pub write_running_means-requires-2 : goal.write_running_means-requires-2
-write_running_means-requires-2 c = let long = part_long c.write_running_means.ensures (omega arith) in
-    search rules
 
 pub returns-then-far : goal.returns-then-far
 returns-then-far c =

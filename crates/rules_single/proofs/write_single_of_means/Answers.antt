@@ -1,24 +1,16 @@
 -- `write_single_of_means` meets its contract: the means, their means, and the positions over these. Assumes nothing.
-use mathlib.Core.Path.{sym, ap}
+use mathlib.Core.Path.{ap}
 use native.Mathlib.Omega.{arith}
-use borrow.Author.Rules.{rules}
 use lib.Ieee.{nan}
 use Rattle.cells.specs.Line.{plus_zero}
 use Rattle.cells.proofs.Carried.{from_same}
-use Rattle.cells.proofs.Parts.{part_long, through}
+use Rattle.cells.proofs.Parts.{through}
 use Rattle.cells.proofs.Touched.{touched, touched_more}
 use Rattle.cells.proofs.Written.{then_written, writing_same, read_back}
 use Rattle.windows.specs.Window.{mean}
 use Rattle.windows.proofs.Window.{causal_mean}
 use Rattle.rules_single.specs.Single.{against_mean, single_line}
 use Rattle.rules_single.proofs.write_single_of_means.Goals as goal
-
-pub slice_bounds-write_means-end-2 : goal.slice_bounds-write_means-end-2
-slice_bounds-write_means-end-2 c = sym (part_long c.write_means.ensures (omega arith))
-
-pub write_means-requires-2 : goal.write_means-requires-2
-write_means-requires-2 c = let long = part_long c.write_means.ensures (omega arith) in
-    search rules
 
 pub returns : goal.returns
 unfolding single_line

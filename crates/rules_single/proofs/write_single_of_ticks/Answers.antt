@@ -1,24 +1,13 @@
 -- `write_single_of_ticks` meets its contract: the window sums in `out`, the means and the sums of those sums in two
 -- rows, and the positions. Assumes nothing.
-use mathlib.Core.Path.{sym}
 use native.Mathlib.Omega.{arith}
-use lib.ListN.{length-take, length-drop}
 use Rattle.cells.proofs.RowWrites.{lent_on}
 use Rattle.cells.proofs.Touched.{touched, touched_more}
 use Rattle.cells.proofs.Written.{stands, then_written}
-use Rattle.cells.proofs.Parts.{part_long, through}
+use Rattle.cells.proofs.Parts.{through}
 use Rattle.windows.specs.inner.RunningSums.{running_sums}
 use Rattle.windows.proofs.RunningSums.{causal_running_sums}
 use Rattle.rules_single.proofs.write_single_of_ticks.Goals as goal
-
-pub slice_bounds-write_sums-end-2 : goal.slice_bounds-write_sums-end-2
-slice_bounds-write_sums-end-2 c = sym (part_long c.write_sums.ensures (omega arith))
-
-pub write_sums-requires-2 : goal.write_sums-requires-2
-write_sums-requires-2 c =
-    let pre = c.requires in
-    let long = part_long c.write_sums.ensures (omega arith) in
-    record { window = pre.priced.window; room = simp (length-take, length-drop) (omega arith) }
 
 pub write_tick_positions-requires : goal.write_tick_positions-requires
 write_tick_positions-requires c =

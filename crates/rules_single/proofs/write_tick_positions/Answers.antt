@@ -1,5 +1,4 @@
 -- `write_tick_positions` meets its contract: each turn writes the bar's cell. Assumes nothing.
-use Prim.Native.Nat.{◌-◌}
 use native.Mathlib.Omega.{arith}
 use borrow.Author.Rules.{rules}
 use lib.Ieee.{of_bits}
@@ -12,12 +11,7 @@ pub loop-i-init : goal.loop-i-init
 loop-i-init c = unfold single_line of_bits in search (rules, lead_stands)
 
 pub loop-i-preserved : goal.loop-i-preserved
-loop-i-preserved c = (
-  omega arith,
-  omega arith,
-  one_more c.loop-i.invariant.2 c.tick_position.ensures
-      (omega arith),
-)
+loop-i-preserved c = one_more c.loop-i.invariant c.tick_position.ensures (omega arith)
 
 pub returns : goal.returns
-returns c = lead_then c.fill_lead-i.ensures c.loop-i.invariant.2 (omega arith)
+returns c = lead_then c.fill_lead-first.ensures c.loop-i.invariant (omega arith)

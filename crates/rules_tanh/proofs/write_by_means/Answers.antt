@@ -1,6 +1,5 @@
 -- `write_by_means` meets its contract: the lead, and a few bars with each turn. Assumes nothing.
 use mathlib.Core.Path.{refl}
-use Prim.Native.Nat.{◌-◌}
 use native.Mathlib.Omega.{arith}
 use lib.Ieee.{of_bits}
 use Rattle.cells.proofs.Leads.{lead_stands, lead_then}

@@ -1,18 +1,13 @@
 -- `write_some` meets its contract: each turn reads a bar's mean, middle and variance, and writes its cell. Assumes
 -- nothing.
 use mathlib.Core.Path.{ap, ◌∙◌}
-use native.Mathlib.Nat.{add-zero}
-use Prim.Native.Nat.{◌+◌, ◌-◌}
+use Prim.Native.Nat.{◌+◌}
 use native.Mathlib.Omega.{arith}
 use lib.Ieee.{nan}
-use Rattle.cells.proofs.Written.{step, ends, read_back}
+use Rattle.cells.proofs.Written.{step, read_back}
 use Rattle.rules_tanh.specs.Tanh.{tanh_cell}
 use Rattle.rules_tanh.proofs.Cells.{cell_at}
 use Rattle.rules_tanh.proofs.write_some.Goals as goal
-
-pub loop-j-init : goal.loop-j-init
-loop-j-init c = let pre = c.requires in
-    (omega arith, rw add-zero pre.cells)
 
 pub loop-j-preserved : goal.loop-j-preserved
 loop-j-preserved c =
@@ -23,9 +18,4 @@ loop-j-preserved c =
     let variance = read_back j nan few.variances (omega arith) in
     let due = cell_at a.n (a.i + j) _ middle variance (omega arith) in
     let is = c.cell_of.ensures ∙ ap tanh_cell c.score_of-score.ensures ∙ due in
-    (omega arith, step (a.i + j) (a.i + (j + 1)) c.loop-j.invariant.1 is (omega arith))
-
-pub returns : goal.returns
-returns c =
-    let spread = c.write_spreads-count.ensures in
-    record { some = spread.some; inside = spread.inside; cells = ends c.loop-j.invariant.1 (omega arith) }
+    step (a.i + j) (a.i + (j + 1)) c.loop-j.invariant is (omega arith)

@@ -1,6 +1,5 @@
 -- `write_trends` meets its contract: each turn reads a bar's four averages and writes its position. Assumes nothing.
 use mathlib.Core.Path.{◌∙◌}
-use Prim.Native.Nat.{◌-◌}
 use native.Mathlib.Nat.{zero-add}
 use native.Mathlib.Omega.{arith}
 use borrow.Author.Rules.{rules, sfits_of}
@@ -26,7 +25,7 @@ loop-i-preserved c =
     let call = c.trend in
     let same = to_z-of_z w32 call.result (sfits_of call.type_inv) in
     let cell = call.ensures ∙ triple_at _ _ _ _ i mean_is ma1-is ma2-is ma3-is (omega arith) in
-    (omega arith, omega arith, one_more c.loop-i.invariant.2 (same ∙ cell) (omega arith))
+    one_more c.loop-i.invariant (same ∙ cell) (omega arith)
 
 pub returns : goal.returns
-returns c = lead_then c.fill_before_trends-i.ensures c.loop-i.invariant.2 (omega arith)
+returns c = lead_then c.fill_before_trends-first.ensures c.loop-i.invariant (omega arith)

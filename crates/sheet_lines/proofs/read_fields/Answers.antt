@@ -1,23 +1,18 @@
 -- `read_fields` meets its contract: each field is read from its own columns. Assumes nothing.
-use native.Mathlib.Nat.{add-zero}
-use native.Mathlib.Omega.{arith}
-use Rattle.sheet_lines.proofs.Places.{columns_at}
+use Rattle.cells.proofs.Kept.{take_drop}
 use Rattle.sheet_lines.proofs.read_fields.Goals as goal
 
 pub returns : goal.returns
 returns c =
-    let a = c.args in
-    let columns = columns_at a.block.now a.at 27 in
+    let line = c.args.line.now in
     rw (
-      columns 0 4 (omega arith),
-      add-zero,
-      columns 4 8 (omega arith),
-      columns 8 14 (omega arith),
-      columns 14 20 (omega arith),
-      columns 20 26 (omega arith),
-      ← c.read_field-desk.ensures,
-      ← c.read_field-rule.ensures,
-      ← c.read_field-n.ensures,
-      ← c.read_field-m.ensures,
-      ← c.read_field-bars.ensures,
+      c.read_field.ensures,
+      c.read_field-2.ensures,
+      c.read_field-3.ensures,
+      c.read_field-4.ensures,
+      c.read_field-5.ensures,
+      take_drop 4 4 line,
+      take_drop 8 6 line,
+      take_drop 14 6 line,
+      take_drop 20 6 line,
     )

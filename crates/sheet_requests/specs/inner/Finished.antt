@@ -1,5 +1,5 @@
 -- What ending the sheet promises. Assumes nothing.
-use Rattle.std.specs.Prelude.{true, ◌≡◌, List, ℕ, ◌+◌, ◌≤◌, length, take, Float}
+use Rattle.std.specs.Prelude.{true, ◌≡◌, List, ℕ, ◌+◌, ◌≤◌, length, take, Float, Option}
 use Rattle.sheet_requests.specs.declared.blocks.Sheet.{Sheet}
 use Rattle.sheet_requests.specs.declared.status.Status.{Status}
 use Rattle.sheet_requests.specs.declared.status.Fault.{Fault}
@@ -22,6 +22,6 @@ pub record Finished (status : Status) (sheet : Sheet) (kept r : ℕ) (text : Lis
       → no_feed rest ≡ true → take r text ≡ last status (state_of sheet.stage sheet.counts series) rest
 
 -- The input breaks so, if it ends after `kept` bytes that are too few for a line.
-pub record FaultAtEnd (sheet : Sheet) (kept : ℕ) (fault : Fault) : Type 0 where
+pub record FaultAtEnd (sheet : Sheet) (kept : ℕ) (fault : Option Fault) : Type 0 where
   pub is : (series : List Float) (rest : List ℕ) → length rest ≡ kept → no_feed rest ≡ true
       → fault ≡ (outcome (state_of sheet.stage sheet.counts series) (lines rest)).fault

@@ -1,12 +1,28 @@
 -- Where a request stands in a block of bytes, in the program's numbers
 -- and buffers, and what reading its prices promises. Assumes nothing.
-use Rattle.std.specs.Prelude.{◌≡◌, true, false, cond, List, ◌++◌, ℕ, ◌+◌, ◌-◌, ◌*◌, ◌<◌, ◌≤◌, length, take, drop, Float}
-use Rattle.std.proofs.Math.Seq.{slice}
+use Rattle.std.specs.Prelude.{
+  ◌≡◌,
+  List,
+  ◌++◌,
+  ℕ,
+  ◌+◌,
+  ◌-◌,
+  ◌*◌,
+  ◌<◌,
+  ◌≤◌,
+  length,
+  take,
+  drop,
+  Float,
+  Option,
+  Some,
+  None,
+}
 use Rattle.sheet_lines.specs.inner.Adds.{Adds}
 use Rattle.sheet_lines.specs.declared.Request.{Request}
 use Rattle.sheet_lines.specs.Header.{most_bars, header_bytes, price_bytes}
-use Rattle.sheet_lines.specs.Reason.{price_reason}
 use Rattle.sheet_lines.specs.Printed.{head_bytes, position_bytes}
+use Rattle.sheet_lines.specs.declared.reasons.Reason.{Reason}
 use Rattle.sheet_requests.specs.declared.Counts.{Counts}
 use Rattle.sheet_requests.specs.Counts.{none_yet, after_lines}
 use Rattle.sheet_requests.specs.declared.blocks.Stage.{Stage}
@@ -86,19 +102,22 @@ pub record SteppedInRoom (t : Step) (series : List Float) (at filled : ℕ) (r :
   pub incomplete : Incomplete r.sheet.stage
   pub few : r.filled + text_owed r.sheet.stage ≤ room
 
+-- the step that prices come to: the request with all that were read, or the refusal of a line
+abbrev pub run_step : Counts → Request → List Float → Option Reason → Step
+run_step counts r prices None = with_prices counts r prices
+run_step counts r prices (Some reason) = broken counts reason
+
 -- The lines from `at` on are read as prices of the request, of which
 -- there were `got`, up to where the run ends; or one of them is broken.
 pub record PricesRead (block : List ℕ) (at : ℕ) (r : Request) (got : ℕ) (old : List Float) (run : Run)
     (now : List Float) : Type 0 where
   pub same : (counts : Counts) (more : List ℕ)
       → outcome (collecting counts r (take got old)) (lines (drop at block ++ more))
-      ≡ finally (cond run.whole (with_prices (after_lines (run.got - got) counts) r (take run.got now))
-      (broken (after_lines (run.got - got) counts) (price_reason (slice run.at (run.at + price_bytes) block))))
+      ≡ finally (run_step (after_lines (run.got - got) counts) r (take run.got now) run.broken)
       (lines (drop run.at block ++ more))
   pub pace : run.at ≡ at + price_bytes * (run.got - got)
   pub some : got ≤ run.got
-  pub forth : run.whole ≡ true → got < run.got
-  pub there : run.whole ≡ false → run.at + price_bytes ≤ length block
+  pub forth : run.broken ≡ None → got < run.got
   pub most : run.got ≤ r.bars
   pub within : run.at ≤ length block
   pub long : length now ≡ length old

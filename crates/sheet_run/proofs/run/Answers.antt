@@ -1,29 +1,25 @@
--- `run` meets its contract: the turns are counted down, and each of them reads on. Assumes nothing.
+-- `run` meets its contract: each turn reads on. Assumes nothing.
 use mathlib.Core.Path.{◌∙◌}
 use native.Mathlib.Omega.{arith}
-use borrow.Author.Count.{falls_down}
 use borrow.Author.Rules.{rules}
 use Rattle.sheet_run.specs.Run.{write_status, status_of}
 use Rattle.sheet_run.proofs.Turns.{start_carrying}
 use Rattle.sheet_run.proofs.run.Goals as goal
 
-pub loop-turns-init : goal.loop-turns-init
-loop-turns-init c = rw c.first-carried.ensures (start_carrying, c.requires)
+pub loop-init : goal.loop-init
+loop-init c = rw c.first-carried.ensures (start_carrying, c.requires)
 
 pub turn-carried-requires : goal.turn-carried-requires
 turn-carried-requires c = (
-  c.loop-turns.invariant.0,
-  c.loop-turns.invariant.1,
+  c.loop.invariant.0,
+  c.loop.invariant.1,
 )
 
-pub loop-turns-smaller : goal.loop-turns-smaller
-loop-turns-smaller c = falls_down _ c.loop-turns-test.true
-
-pub loop-turns-preserved : goal.loop-turns-preserved
-loop-turns-preserved c =
+pub loop-preserved : goal.loop-preserved
+loop-preserved c =
     let kept = c.turn-carried.auto in
     let (turned, clear) = c.turn-carried.ensures in
-    let inv = c.loop-turns.invariant in
+    let inv = c.loop.invariant in
     let buffers = inv.1 in
     let lent = buffers.lent in (
       turned.carrying,
@@ -35,11 +31,11 @@ loop-turns-preserved c =
     )
 
 pub close-requires : goal.close-requires
-close-requires c = (c.loop-turns.invariant.0, omega (arith, c.loop-turns.invariant.1.text_long))
+close-requires c = (c.loop.invariant.0, omega (arith, c.loop.invariant.1.text_long))
 
 pub returns : goal.returns
 returns c =
-    let carried = c.loop-turns.carried in
+    let carried = c.loop.carried in
     let closed = c.close.result in
     record {
       status = write_status closed.output.taken (status_of carried);

@@ -61,9 +61,6 @@ loop-place-preserved c =
       long = search rules;
     }
 
-pub has_feed-requires : goal.has_feed-requires
-has_feed-requires c = (c.loop-place.invariant.placed.within, omega arith)
-
 pub take_short-requires : goal.take_short-requires
 take_short-requires c =
     let block = c.args.block.now in

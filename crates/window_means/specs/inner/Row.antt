@@ -22,10 +22,11 @@ pub record RowRoom (from to bars n first cells : ℕ) : Type 0 where
   pub apart : from + bars ≤ to
   pub room : to + bars ≤ cells
 
--- the means were written up to bar r
-pub record RowUpTo (from to bars n first r : ℕ) (old now : List Float) : Type 0 where
+-- the means were written up to bar r, where fewer than N bars are left
+pub record RowUpTo (N from to bars n first r : ℕ) (old now : List Float) : Type 0 where
   pub on : first ≤ r
   pub inside : r ≤ bars
+  pub few : bars < r + N
   pub means : Writing (to + r) (means_of_row from to n first old) old now
 
 -- the row that begins at cell `at` holds the line f from bar `first` on

@@ -1,6 +1,4 @@
--- `slide_sums` meets its contract: each turn writes the sum and slides it. Assumes nothing.
-use Prim.Native.Nat.{◌+◌, ◌-◌, ◌≤◌, ◌<◌}
-use lib.ListN.{length}
+-- `slide_sums` meets its contract: each turn slides the sum and writes it. Assumes nothing.
 use Rattle.cells.specs.Line.{line}
 use Rattle.cells.specs.Written.{Writing}
 use Rattle.windows.specs.Window.{add_difference}
@@ -10,8 +8,5 @@ use Rattle.windows.proofs.slide_sums.Given as goal
 
 abbrev pub invariant-loop-i : goal.invariant-loop-i
 invariant-loop-i l =
-    (l.n ≤ l.i + 1) × (l.i < length l.series) × Writing l.i (running_sums l.n (line l.series)) l.initial.sums l.sums
-    × Running add_difference l.n (line l.series) (l.i + 1) l.sum
-
-abbrev pub decreases-loop-i : goal.decreases-loop-i
-decreases-loop-i l = length l.series - l.i
+    Writing l.i (running_sums l.n (line l.series)) l.fn.sums l.sums
+    × Running add_difference l.n (line l.series) l.i l.sum

@@ -1,13 +1,10 @@
 -- `blend_more` meets its contract: each turn blends one price. Assumes nothing.
-use Prim.Native.Nat.{◌+◌, ◌-◌, ◌≤◌}
+use Prim.Native.Nat.{◌+◌}
 use Rattle.cells.specs.Line.{line}
 use Rattle.cells.specs.inner.Recurring.{Recurring}
 use Rattle.averages.specs.Blend.{blend}
 use Rattle.averages.proofs.blend.blend_more.Given as goal
 
-abbrev pub invariant-loop-k : goal.invariant-loop-k
-invariant-loop-k l = (l.k ≤ l.count)
-    × Recurring l.last (λ k cell. blend l.alpha cell (line l.series (l.at + k))) l.k l.cell
-
-abbrev pub decreases-loop-k : goal.decreases-loop-k
-decreases-loop-k l = l.count - l.k
+abbrev pub invariant-loop-price : goal.invariant-loop-price
+invariant-loop-price l =
+    Recurring l.last (λ k cell. blend l.alpha cell (line l.series (l.at + k))) l.price-index l.cell

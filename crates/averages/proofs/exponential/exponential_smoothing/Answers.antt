@@ -5,7 +5,8 @@ use Prim.Native.Nat.{◌<◌}
 use native.Mathlib.Omega.{arith}
 use lib.ListN.{length}
 use Rattle.calls.specs.declared.Refusal.TheVariants.{ParameterNotFinite}
-use Rattle.calls.specs.declared.Answer.TheVariants.{Cells}
+use Rattle.std.specs.Prelude.{Err}
+use Rattle.std.proofs.Common.{rules}
 use Rattle.values.specs.Accepted.{accepted, finite}
 use Rattle.values.proofs.All.{and_parts}
 use Rattle.calls.specs.Answer.{unless}
@@ -13,22 +14,15 @@ use Rattle.calls.specs.inner.Fits.{window_fits}
 use Rattle.calls.proofs.Call.{refused, counted}
 use Rattle.calls.proofs.Room.{fits_parts, fits_checked, none_fits, counted_twice, checked_room}
 use Rattle.cells.proofs.Written.{none_written}
+use Rattle.checks.proofs.Steps.{stopped, went_on, refused_there, let_pass}
 use Rattle.averages.specs.ExponentialSmoothing.{exponential_answer}
 use Rattle.averages.proofs.exponential.exponential_smoothing.Goals as goal
-use Rattle.averages.proofs.exponential.exponential_smoothing.Goals.{In_default, Then-window_fits-is_finite}
+use Rattle.averages.proofs.exponential.exponential_smoothing.Goals.{Then-window_fits-is_finite}
 
 -- the series has a bar, and the lengths are in order
 told : (c : Then-window_fits-is_finite) → let a = c.args in window_fits
     (length a.series.now) 1 (length a.out.now) ≡ true
 told c = sym c.window_fits.ensures ∙ (and_parts _ _ c.if-window_fits-is_finite.true).0
-
--- where the check has passed, the answer is that of the rest of the table
-rest : (c : In_default)
-    → let a = c.args in
-    exponential_answer a.series.now a.alpha (length a.out.now)
-    ≡ unless (finite a.alpha) ParameterNotFinite (Cells (length a.series.now))
-unfolding exponential_answer
-rest c = rw (← c.check-due.ensures, c.in_default.is)
 
 first-false : (t u : Bool) → t && u ≡ false → u ≡ true → t ≡ false
 first-false true u p q = absurd (true≢false (sym q ∙ p))
@@ -54,27 +48,31 @@ returns-then-window_fits-is_finite c =
     )
     c.answer_from_first.ensures
 
-pub returns-in-Refused : goal.returns-in-Refused
+pub returns-in_err-check : goal.returns-in_err-check
 unfolding exponential_answer
-returns-in-Refused c = refused (rw (← c.check-due.ensures, c.in-Refused.is)) c.in-Refused.is
+returns-in_err-check c =
+    let stop : c.from_residual.result ≡ Err c.in_err-check.field-0.0 = search rules in
+    refused (stopped _ c.check.ensures c.in_err-check.was stop) stop
 
 pub returns-then-is_finite : goal.returns-then-is_finite
+unfolding exponential_answer
 returns-then-is_finite c =
     let a = c.args in
     let yes = c.is_finite.ensures ∙ sym c.is_finite-2.ensures ∙ c.if-is_finite.true in
     let no = sym c.window_fits.ensures ∙ first-false _ _ c.if-window_fits-is_finite.false yes in
-    let room = checked_room _ _ _ _ _ (sym c.check-due.ensures ∙ c.in_default.is) in
+    let room = checked_room _ _ _ _ _ (sym c.check.ensures ∙ c.in_ok-check.was) in
     let few : length a.series.now < 1 = none_fits (length a.series.now) 1 _ no
     (record { some = omega arith; narrow = omega arith }) room.short room.out_long in
     let none : length a.series.now ≡ 0 = omega arith in
-    counted (rw (
-      rest (goal.at.returns-then-is_finite c).In_default,
-      ← c.is_finite-2.ensures,
-      c.if-is_finite.true,
-      none,
-    )) none_written
+    counted
+    (went_on _ c.check.ensures c.in_ok-check.was
+    (let_pass _ _ (sym c.is_finite-2.ensures ∙ c.if-is_finite.true) (rw none)))
+    none_written
 
 pub returns-else-is_finite : goal.returns-else-is_finite
+unfolding exponential_answer
 returns-else-is_finite c =
-    refused (rw (rest (goal.at.returns-else-is_finite c).In_default, ← c.is_finite-2.ensures, c.if-is_finite.false))
+    refused
+    (went_on _ c.check.ensures c.in_ok-check.was
+    (refused_there _ _ (sym c.is_finite-2.ensures ∙ c.if-is_finite.false)))
     refl

@@ -1,8 +1,6 @@
 -- `blend_both` meets its contract: each turn writes a cell of either part, from the one before it there. Assumes
 -- nothing.
-use mathlib.Core.Path.{◌≡◌}
-use Prim.Native.Nat.{◌+◌, ◌-◌, ◌≤◌}
-use lib.ListN.{length}
+use Prim.Native.Nat.{◌+◌}
 use Rattle.cells.specs.Line.{line}
 use Rattle.cells.specs.inner.Recurring.{Recurring}
 use Rattle.averages.specs.Blend.{blend}
@@ -11,10 +9,7 @@ use Rattle.averages.proofs.halves.blend_both.Given as goal
 
 abbrev pub invariant-loop-k : goal.invariant-loop-k
 invariant-loop-k l =
-    (l.k ≤ l.count) × Recurring l.initial.lower (λ k cell. blend l.alpha cell (line l.series (l.low + k))) l.k l.lower
+    Recurring l.initial.lower (λ k cell. blend l.alpha cell (line l.series (l.low + k))) l.k l.lower
     × Recurring l.initial.upper (λ k cell. blend l.alpha cell (line l.series (l.high + k))) l.k l.upper
     × Recurring l.initial.out (both_stored l.alpha (line l.series) l.initial.lower l.initial.upper l.low l.high) l.k
-    l.out × (length l.out ≡ length l.initial.out)
-
-abbrev pub decreases-loop-k : goal.decreases-loop-k
-decreases-loop-k l = l.count - l.k
+    l.out

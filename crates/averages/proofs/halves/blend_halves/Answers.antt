@@ -1,6 +1,5 @@
 -- `blend_halves` meets its contract: each turn writes eight cells of either half, from the one before them there; the
 -- last bars follow. Assumes nothing.
-use Prim.Native.Nat.{◌-◌}
 use native.Mathlib.Omega.{arith}
 use Rattle.averages.proofs.Blending.{seeded, at_bar}
 use Rattle.averages.proofs.WrittenParts.{one_part}
@@ -9,22 +8,16 @@ use Rattle.averages.proofs.halves.blend_halves.Goals as goal
 
 pub loop-k-init : goal.loop-k-init
 loop-k-init c =
-    let pre = c.requires in (
-      omega arith,
-      record {
-        parts = one_part _ _ _ pre.0.cells (omega arith);
-        lower = at_bar seeded (omega arith);
-        upper = at_bar pre.1 (omega arith);
-      },
-    )
+    let pre = c.requires in
+    record {
+      parts = one_part _ _ _ pre.0.cells (omega arith);
+      lower = at_bar seeded (omega arith);
+      upper = at_bar pre.1 (omega arith);
+    }
 
 pub loop-k-preserved : goal.loop-k-preserved
 loop-k-preserved c =
-    let at = c.loop-k in
-    (omega arith, sides_on 8 _ _ at.invariant.1 c.blend_both-last.ensures (omega arith))
+    sides_on 8 _ _ c.loop-k.invariant c.blend_both-last.ensures (omega arith)
 
 pub returns : goal.returns
-returns c = sides_end _ c.loop-k.invariant.1 c.blend_rest.ensures (omega arith)
-
-pub shape_of-out : goal.shape_of-out
-shape_of-out c = (returns c).long
+returns c = sides_end _ c.loop-k.invariant c.blend_rest.ensures (omega arith)

@@ -1,15 +1,11 @@
 -- `blend_halves` meets its contract: each turn writes eight cells of either half, from the one before them there; the
 -- last bars follow. Assumes nothing.
-use Prim.Native.Nat.{◌+◌, ◌-◌, ◌*◌, ◌≤◌}
+use Prim.Native.Nat.{◌+◌, ◌*◌}
 use Rattle.cells.specs.Line.{line}
 use Rattle.averages.proofs.Sides.{Sides}
 use Rattle.averages.proofs.halves.blend_halves.Given as goal
 
 abbrev pub invariant-loop-k : goal.invariant-loop-k
 invariant-loop-k l =
-    (l.k ≤ l.eights)
-    × Sides l.alpha l.first l.seed (line l.series) (l.low + 8 * l.k) l.high (l.high + 8 * l.k) l.initial.out l.out
+    Sides l.alpha l.first l.seed (line l.series) (l.low + 8 * l.k) l.high (l.high + 8 * l.k) l.initial.out l.out
     l.last.lower l.last.upper
-
-abbrev pub decreases-loop-k : goal.decreases-loop-k
-decreases-loop-k l = l.eights - l.k

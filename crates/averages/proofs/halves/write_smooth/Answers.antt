@@ -1,5 +1,4 @@
 -- `write_smooth` meets its contract: the lead, the seed, and then the blended cells. Assumes nothing.
-use mathlib.Core.Path.{◌∙◌}
 use native.Mathlib.Omega.{arith}
 use lib.ListN.{length-set}
 use Rattle.cells.proofs.Written.{stands, then_written}
@@ -15,9 +14,6 @@ blend_halves-requires c = (
   },
   c.requires.1,
 )
-
-pub shape_of-out : goal.shape_of-out
-shape_of-out c = c.blend_halves.ensures.long ∙ simp length-set (omega arith)
 
 pub returns : goal.returns
 returns c =

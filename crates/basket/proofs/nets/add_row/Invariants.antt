@@ -1,5 +1,5 @@
 -- `add_row` meets its contract: each turn adds one position to its cell. Assumes nothing.
-use Prim.Native.Nat.{◌+◌, ◌-◌, ◌≤◌}
+use Prim.Native.Nat.{◌+◌}
 use lib.IntN.{◌*ℤ◌}
 use Rattle.cells.specs.Line.{line}
 use Rattle.rules.specs.Position.{whole_position}
@@ -8,8 +8,4 @@ use Rattle.basket.proofs.nets.add_row.Given as goal
 
 abbrev pub invariant-loop-j : goal.invariant-loop-j
 invariant-loop-j l =
-    (l.j ≤ l.count) × Added l.first l.j (λ i. l.weight *ℤ whole_position (line l.positions (l.from + i))) l.initial.out
-    l.out
-
-abbrev pub decreases-loop-j : goal.decreases-loop-j
-decreases-loop-j l = l.count - l.j
+    Added l.first l.j (λ i. l.weight *ℤ whole_position (line l.positions (l.from + i))) l.initial.out l.out

@@ -1,6 +1,6 @@
 -- `add_contracts` meets its contract: each turn adds one contract to the nets. Assumes nothing.
 use mathlib.Core.Path.{◌≡◌}
-use Prim.Native.Nat.{◌-◌, ◌*◌, ◌≤◌}
+use Prim.Native.Nat.{◌*◌}
 use lib.ListN.{length}
 use Rattle.cells.specs.Shown.{first_cells}
 use Rattle.cells.specs.inner.Touched.{Touched}
@@ -10,9 +10,6 @@ use Rattle.basket.proofs.parts.add_contracts.Given as goal
 
 abbrev pub invariant-loop-k : goal.invariant-loop-k
 invariant-loop-k l =
-    (l.k ≤ length l.weights) × Netted l.bars (first_cells l.k (contract_at l.bars l.series l.contracts l.weights))
-    l.initial.out l.out
-    × Touched (8 * l.bars) l.initial.work l.work × (length l.block ≡ length l.initial.block)
-
-abbrev pub decreases-loop-k : goal.decreases-loop-k
-decreases-loop-k l = length l.weights - l.k
+    Netted l.bars (first_cells l.k (contract_at l.bars l.series l.contracts l.weights)) l.initial.out l.out
+    × Touched (8 * l.bars) l.initial.work l.work
+    × (length l.block ≡ length l.initial.block)

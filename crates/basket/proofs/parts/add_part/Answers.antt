@@ -1,7 +1,7 @@
 -- `add_part` meets its contract: the part's positions stand in the block, and those of its new bars are added. Assumes
 -- nothing.
 use mathlib.Core.Path.{refl, sym}
-use Prim.Native.Nat.{◌-◌, ◌+◌, ◌<◌, ◌≤◌}
+use Prim.Native.Nat.{◌+◌, ◌<◌, ◌≤◌}
 use borrow.Author.Rules.{rules}
 use lib.ListN.{length}
 use Rattle.basket.proofs.Afresh.{part_ends, part_priced, part_room, part_added}
@@ -13,7 +13,7 @@ use Rattle.basket.proofs.parts.add_part.Goals.{After-smaller-end}
 ends : (c : After-smaller-end) →
     let a = c.args in
     let begin = c.part_begin-begin.result in
-    (begin ≤ a.at) × (a.at < c.smaller-end.result) × (c.smaller-end.result ≤ length a.prices.now)
+    (begin ≤ a.at) × (a.at < c.smaller-end.result) × (c.smaller-end.result ≤ length a.contract.now.prices.now)
     × (c.smaller-end.result ≤ begin + 4096)
 ends c =
     part_ends c.requires.0 c.requires.1 c.part_begin-begin.ensures c.smaller-end.ensures
@@ -38,7 +38,7 @@ write_part-requires c = part_priced c.requires.0 c.requires.1 c.part_begin-begin
 
 pub add_bars-requires : goal.add_bars-requires
 add_bars-requires c =
-    rw (weight_held c.args.weight c.requires.0.light)
+    rw (weight_held c.args.contract.now.weight c.requires.0.light)
     (part_room c.requires.0 c.requires.1 c.part_begin-begin.ensures c.smaller-end.ensures
     (sym c.write_part.ensures.0.long))
 
@@ -47,7 +47,7 @@ returns c =
     let (begins, some, inside, few) = ends (goal.at.returns c).After-smaller-end in (
       part_added c.requires.0 c.requires.1 c.part_begin-begin.ensures c.smaller-end.ensures _ refl
           c.write_part.ensures.0 c.write_part.ensures.1
-          (rw (weight_held c.args.weight c.requires.0.light) at c.add_bars.ensures),
+          (rw (weight_held c.args.contract.now.weight c.requires.0.light) at c.add_bars.ensures),
       some,
       inside,
     )

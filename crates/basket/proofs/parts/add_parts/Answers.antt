@@ -1,9 +1,7 @@
 -- `add_parts` meets its contract: each turn adds a part's new bars. Assumes nothing.
-use Prim.Native.Nat.{◌-◌}
 use native.Mathlib.Omega.{arith}
 use borrow.Author.Rules.{rules}
 use Rattle.basket.proofs.Afresh.{no_part, then_part, more_room, all_parts}
-use Rattle.basket.proofs.Weights.{weight_held}
 use Rattle.basket.proofs.parts.add_parts.Goals as goal
 
 pub loop-at-init : goal.loop-at-init
@@ -11,8 +9,7 @@ loop-at-init c = (omega arith, no_part)
 
 pub add_part-at-requires : goal.add_part-at-requires
 add_part-at-requires c =
-    let same = weight_held c.args.weight c.requires.light in
-    (rw same (more_room (rw same at c.loop-at.invariant.1) c.requires), c.loop-at-test.true)
+    (more_room c.loop-at.invariant.1 c.requires, c.loop-at-test.true)
 
 pub loop-at-smaller : goal.loop-at-smaller
 loop-at-smaller c = let r = c.add_part-at.ensures.1 in
@@ -26,4 +23,4 @@ loop-at-preserved c =
 
 pub returns : goal.returns
 returns c =
-    all_parts (rw (weight_held c.args.weight c.requires.light) at c.loop-at.invariant.1) (omega arith)
+    all_parts c.loop-at.invariant.1 (omega arith)

@@ -1,29 +1,17 @@
--- `all_light` meets its contract: each turn tests one weight. Assumes nothing.
-use mathlib.Core.Path.{refl}
-use Prim.Native.Nat.{◌-◌}
-use native.Mathlib.Omega.{arith}
-use borrow.Author.Rules.{sfits_of}
-use Rattle.cells.specs.Search.{every_bar}
-use mir.Syntax.{w64}
-use mir.ValLaws.{to_z-of_z}
-use Rattle.basket.proofs.Checks.{every_more, every_ends}
+-- `all_light` meets its contract: each weight is tested. Assumes nothing.
+use mathlib.Core.Path.{◌∙◌}
+use borrow.Author.Rules.{rules}
+use lib.IntN.{pos}
+use Rattle.std.proofs.Common.{tests}
+use Rattle.std.proofs.lemmas.Iterator.{YieldsList-from_slice}
+use Rattle.std.proofs.lemmas.Iterator.Search.{all_from_yields_List}
+use Rattle.basket.specs.inner.Listed.{light}
+use Rattle.basket.proofs.Checks.{each_place}
 use Rattle.basket.proofs.table.all_light.Goals as goal
 
-pub loop-k-init : goal.loop-k-init
-loop-k-init c = unfold every_bar in (omega arith, refl)
-
-pub loop-k-preserved : goal.loop-k-preserved
-loop-k-preserved c =
-    let at = c.loop-k in (
-      omega arith,
-      rw (
-        every_more,
-        at.invariant.1,
-        c.is_light-all.ensures,
-        to_z-of_z w64 _ (sfits_of
-            c.is_light-arg-1.given),
-      ),
-    )
-
 pub returns : goal.returns
-returns c = every_ends _ c.loop-k.invariant.1 (omega arith)
+returns c =
+    let weights = c.args.weights.now in
+    all_from_yields_List (λ w. light w) _ _ _ c.all.ensures.ran (YieldsList-from_slice weights cc)
+    (λ x b q k. search (rules, tests))
+    ∙ each_place (λ w. light w) (pos 0) weights

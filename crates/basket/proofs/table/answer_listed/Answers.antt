@@ -1,5 +1,4 @@
 -- `answer_listed` meets its contract: each refusal stands where its test fails. Assumes nothing.
-use mathlib.Core.Bool.{true}
 use native.Mathlib.Omega.{arith}
 use borrow.Author.Rules.{rules}
 use Rattle.basket.proofs.Answers.{not_whole, no_output, no_work, weights_next, is_sized}

@@ -10,8 +10,5 @@ use Rattle.extremes.proofs.blocks.join_from.Given as goal
 
 abbrev pub invariant-loop-i : goal.invariant-loop-i
 invariant-loop-i l =
-    (l.e ≤ l.i) × (l.i ≤ l.last) × RangeOf (line l.cells) l.e l.i l.best
-    × Replacing (length l.cells) l.e (l.i + 1) (Whole l.cells l.n) l.initial.rows l.rows
-
-abbrev pub decreases-loop-i : goal.decreases-loop-i
-decreases-loop-i l = l.last - l.i
+    (l.i ≤ l.last + 1) × RangeOf (line l.cells) l.e (l.i - 1) l.best
+    × Replacing (length l.cells) l.e l.i (Whole l.cells l.n) l.initial.rows l.rows

@@ -1,5 +1,5 @@
 -- `write_blocks` meets its contract: each turn writes a block's windows after those before. Assumes nothing.
-use Prim.Native.Nat.{◌+◌, ◌-◌, ◌≤◌, min}
+use Prim.Native.Nat.{◌+◌, ◌≤◌, min}
 use lib.ListN.{length}
 use Rattle.extremes.specs.inner.Windows.{Whole}
 use Rattle.extremes.specs.inner.Part.{Replacing}
@@ -9,6 +9,3 @@ abbrev pub invariant-loop-e : goal.invariant-loop-e
 invariant-loop-e l =
     (l.n ≤ l.e + 1) × (length l.cells + length l.cells ≤ length l.initial.rows)
     × Replacing (length l.cells) 0 (min l.e (length l.cells)) (Whole l.cells l.n) l.initial.rows l.rows
-
-abbrev pub decreases-loop-e : goal.decreases-loop-e
-decreases-loop-e l = length l.cells - l.e

@@ -1,12 +1,8 @@
 -- `write_pairs` meets its contract: each turn writes the range of one window. Assumes nothing.
 use native.Mathlib.Omega.{arith}
-use lib.ListN.{length-set}
 use Rattle.extremes.proofs.Range.{one_bar_lem, pairs, whole}
-use Rattle.extremes.proofs.Part.{one_above, part_ends}
+use Rattle.extremes.proofs.Part.{one_above}
 use Rattle.extremes.proofs.ranges.write_pairs.Goals as goal
-
-pub bounds-rows-bars : goal.bounds-rows-bars
-bounds-rows-bars c = simp length-set (omega arith)
 
 pub loop-i-preserved : goal.loop-i-preserved
 loop-i-preserved c =
@@ -15,6 +11,3 @@ loop-i-preserved c =
     let window = pairs given.numbers (one_bar_lem _ c.of_one.ensures) (one_bar_lem i c.of_one-in-loop-i.ensures)
     c.join-whole.ensures (omega arith) in
     (omega arith, one_above i _ c.loop-i.invariant.1 (whole _ window (omega arith)) (omega arith))
-
-pub returns : goal.returns
-returns c = part_ends c.loop-i.invariant.1 (omega arith)

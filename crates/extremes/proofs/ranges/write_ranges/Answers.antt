@@ -1,14 +1,7 @@
 -- `write_ranges` meets its contract: the lead, and either way the windows after it. Assumes nothing.
 use native.Mathlib.Omega.{arith}
-use Rattle.extremes.proofs.InBlocks.{begun}
 use Rattle.extremes.proofs.Part.{replaced_again, rows_written}
 use Rattle.extremes.proofs.ranges.write_ranges.Goals as goal
-
-pub write_blocks-requires : goal.write_blocks-requires
-write_blocks-requires c = begun c.requires c.write_lead.ensures c.first_whole.ensures
-
-pub write_pairs-requires : goal.write_pairs-requires
-write_pairs-requires c = (omega arith, begun c.requires c.write_lead.ensures c.first_whole.ensures)
 
 pub returns-then-n-gt2 : goal.returns-then-n-gt2
 returns-then-n-gt2 c =

@@ -1,19 +1,23 @@
 -- `copy_nonzero` meets its contract: each turn writes a cell over its own value. Assumes nothing.
-use Prim.Native.Nat.{◌-◌}
+use mathlib.Core.Path.{◌≡◌}
 use native.Mathlib.Omega.{arith}
-use Rattle.cells.proofs.Written.{none_written, one_more, ends}
+use lib.Ieee.{ne, of_bits}
+use Rattle.cells.specs.Line.{line, plus_zero}
+use Rattle.cells.specs.Search.{non_zero}
+use Rattle.cells.proofs.Written.{one_more}
 use Rattle.cells.proofs.Leads.{not_yet}
 use Rattle.jurik.specs.Jurik.{copied}
 use Rattle.jurik.proofs.passes.copy_nonzero.Goals as goal
-
-pub loop-i-init : goal.loop-i-init
-loop-i-init c = (omega arith, none_written)
+use Rattle.jurik.proofs.passes.copy_nonzero.Goals.{then-cells-i, else-cells-i}
 
 pub loop-i-preserved : goal.loop-i-preserved
-unfolding copied
+unfolding copied ne of_bits
 loop-i-preserved c =
-    let stood = not_yet c.loop-i.i c.loop-i.invariant.1 (omega arith) in
-    (omega arith, one_more c.loop-i.invariant.1 (rw (← stood) c.copied_nonzero.ensures) (omega arith))
-
-pub returns : goal.returns
-returns c = ends c.loop-i.invariant.1 (omega arith)
+    let i = c.loop-i.i in
+    let stood = not_yet i c.loop-i.invariant (omega arith) in
+    let value : c.if-cells-i.cells ≡ copied non_zero plus_zero (line c.args.cells.now) i =
+    elim c.if-cells-i.branch [
+      | then-cells-i w ↦ rw (← stood, w.if-cells-i.true) w.cells-is
+      | else-cells-i w ↦ rw (← stood, w.if-cells-i.false) w.cells-is
+    ] in
+    one_more c.loop-i.invariant value (omega arith)

@@ -1,6 +1,5 @@
--- `cells_of_ticks` meets its contract: each turn writes a cell and slides three windows. Assumes nothing.
-use Prim.Native.Nat.{◌-◌, ◌<◌, ◌≤◌}
-use lib.ListN.{length}
+-- `cells_of_ticks` meets its contract: each turn slides three windows and writes a cell. Assumes nothing.
+use Prim.Native.Nat.{◌-◌}
 use Rattle.cells.specs.Line.{line}
 use Rattle.cells.specs.Written.{Writing}
 use Rattle.oscillator.specs.inner.Begun.{afresh}
@@ -11,10 +10,7 @@ abbrev pub invariant-loop-i : goal.invariant-loop-i
 invariant-loop-i l =
     let f = line l.pressures in
     let g = line l.ranges in
-    (l.from ≤ l.i) × (l.i < length l.pressures)
-    × Writing l.i (afresh l.short l.medium l.long l.pressures l.ranges) l.initial.out l.out
-    × SumsOf l.short f g l.i l.short_sums × SumsOf l.medium f g l.i l.medium_sums × SumsOf l.long f g l.i l.long_sums
-
-abbrev pub decreases-loop-i : goal.decreases-loop-i
-decreases-loop-i l =
-    length l.pressures - l.i
+    Writing l.i (afresh l.periods l.pressures l.ranges) l.fn.out l.out
+    × SumsOf l.periods.short f g (l.i - 1) l.short_sums
+    × SumsOf l.periods.medium f g (l.i - 1) l.medium_sums
+    × SumsOf l.periods.long f g (l.i - 1) l.long_sums

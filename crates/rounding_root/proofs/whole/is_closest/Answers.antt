@@ -1,5 +1,4 @@
 -- `is_closest` meets its contract: the two tests are the two sides of `Closest`. Assumes nothing.
-use mathlib.Core.Bool.{false≢true}
 use native.Mathlib.Omega.{arith}
 use borrow.Author.Tests.{leb-true}
 use Rattle.rounding_root.proofs.Search.{passed}
@@ -9,6 +8,3 @@ pub returns-then-high-m : goal.returns-then-high-m
 returns-then-high-m c =
     let a = c.args in
     λ e. passed a.m a.q (omega arith) (omega arith) (omega (arith, leb-true a.m c.high-then-high-m.result e))
-
-pub returns : goal.returns
-returns c e = absurd (false≢true e)

@@ -62,8 +62,3 @@ returns-then-cell-ne0 c =
     (by_high a.margin a.average a.middle a.k a.variance a.high guess
     (from_zero a.variance c.if-variance.true) above
     (λ e. c.if-cell-ne0.true (ap (of_z w32) (is ∙ e))))
-
-pub returns : goal.returns
-returns c =
-    let call = c.beyond_at-2 in
-    to_z-of_z w32 call.result (sfits_of call.type_inv) ∙ call.ensures ∙ rw c.square_root.ensures

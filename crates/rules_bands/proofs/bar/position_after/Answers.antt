@@ -10,12 +10,6 @@ use Rattle.rules_bands.proofs.bar.position_after.Goals as goal
 pub beyond_by-requires : goal.beyond_by-requires
 beyond_by-requires c = unfold of_bits lt in refl
 
-pub returns-then-reverse : goal.returns-then-reverse
-returns-then-reverse c =
-    let call = c.turned_by in
-    let same = to_z-of_z w32 c.args.position c.ranges.position in
-    rw c.if-reverse.true (to_z-of_z w32 call.result (sfits_of call.type_inv) ∙ call.ensures ∙ rw same)
-
 pub returns-else-reverse : goal.returns-else-reverse
 unfolding of_bits ten_to_minus round
 returns-else-reverse c =

@@ -1,10 +1,10 @@
 -- `turned_by` meets its contract: a flat position opens to the other side of the bands, and to a held one that does not
 -- matter. Assumes nothing.
-use mathlib.Core.Path.{◌≡◌, refl, sym, ap, ◌∙◌, subst}
+use mathlib.Core.Path.{◌≡◌, refl, sym, ap, ◌∙◌}
 use borrow.Author.Rules.{sfits_of}
 use native.Mathlib.Omega.{arith}
 use lib.IntN.{ℤ, pos, neg_ℤ, ◌-ℤ◌}
-use lib.Ieee.{binary64, lt, of_bits}
+use lib.Ieee.{binary64, of_bits}
 use mir.Syntax.{w32}
 use mir.Val.{SFits, to_z, of_z}
 use mir.ValLaws.{to_z-of_z}
@@ -26,18 +26,6 @@ turned-is : {z : ℤ} → Position z → pos 0 -ℤ z ≡ neg_ℤ z
 turned-is at_flat = refl
 turned-is at_long = refl
 turned-is at_short = refl
-
-pub beyond_by-requires : goal.beyond_by-requires
-beyond_by-requires c = unfold of_bits lt in refl
-
-pub overflow_sub-result : goal.overflow_sub-result
-unfolding of_bits
-overflow_sub-result c =
-    let call = c.beyond_by in
-    let a = c.args in
-    let side = beyond_position plus_zero a.average a.middle a.k (sqrt_of binary64 a.variance) in
-    let is = to_z-of_z w32 call.result (sfits_of call.type_inv) ∙ call.ensures in
-    turned-fits (subst Position (sym is) side)
 
 pub returns-then-position-eq0 : goal.returns-then-position-eq0
 unfolding moved of_bits

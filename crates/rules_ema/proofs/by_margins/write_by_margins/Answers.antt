@@ -11,9 +11,6 @@ use Rattle.rules_ema.proofs.Head.{early_line}
 use Rattle.rules_ema.proofs.FinishedIf.{then_finished_if, finished_if_not}
 use Rattle.rules_ema.proofs.by_margins.write_by_margins.Goals as goal
 
-pub returns-then-n-ticks : goal.returns-then-n-ticks
-returns-then-n-ticks c = finished_if_not _ untouched untouched
-
 pub write_from_by_margins-requires : goal.write_from_by_margins-requires
 write_from_by_margins-requires c =
     let a = c.args in
@@ -42,6 +39,3 @@ pub returns-else-out-n : goal.returns-else-out-n
 returns-else-out-n c =
     let written = c.write_head-seed.ensures in
     finished_if_not _ (touched_more (touched written.cells) (omega arith)) untouched
-
-pub returns-else-start-series : goal.returns-else-start-series
-returns-else-start-series c = finished_if_not _ untouched untouched

@@ -5,6 +5,3 @@ use Rattle.rules_ema.proofs.far.distance.Goals as goal
 pub returns-then-ticks : goal.returns-then-ticks
 unfolding of_bits neg
 returns-then-ticks c = rw c.if-ticks.true
-
-pub returns-else-ticks : goal.returns-else-ticks
-returns-else-ticks c = rw c.if-ticks.false c.margin.ensures

@@ -1,15 +1,8 @@
 -- `write_places` meets its contract: each turn writes one bar's place. Assumes nothing.
-use Prim.Native.Nat.{◌-◌, ◌≤◌, min}
-use lib.ListN.{length}
 use Rattle.cells.specs.Line.{line}
 use Rattle.cells.specs.Written.{Writing}
 use Rattle.rules_rank.specs.RollingRank.{rolling_rank_line}
 use Rattle.rules_rank.proofs.rolling.write_places.Given as goal
 
 abbrev pub invariant-loop-i : goal.invariant-loop-i
-invariant-loop-i l =
-    (min (l.window - 1) (length l.series) ≤ l.i) × (l.i ≤ length l.series)
-    × Writing l.i (rolling_rank_line l.window (line l.series)) l.initial.out l.out
-
-abbrev pub decreases-loop-i : goal.decreases-loop-i
-decreases-loop-i l = length l.series - l.i
+invariant-loop-i l = Writing l.i (rolling_rank_line l.window (line l.series)) l.initial.out l.out

@@ -4,4 +4,4 @@ use Rattle.rules_rank.proofs.RollingCells.{no_window_lem}
 use Rattle.rules_rank.proofs.rolling.write_rolling_rank.Goals as goal
 
 pub returns-else-window-gt0 : goal.returns-else-window-gt0
-returns-else-window-gt0 c = no_window_lem _ _ c.fill_none.ensures (omega arith)
+returns-else-window-gt0 c = no_window_lem _ _ c.fill.ensures (omega arith)

@@ -5,7 +5,8 @@ use mir.ValLaws.{to_z-of_z}
 use lib.Ieee.{binary64, add, of_bits, to_signed}
 use lib.Ieee.Casts.{to_signed_in}
 use Rattle.cells.specs.Line.{plus_zero}
-use Rattle.rules_rank_table.specs.Table.{rows_read}
+use mathlib.Core.List.{map}
+use Rattle.rules_rank_table.specs.inner.Stages.{row_of}
 use Rattle.rules_rank_table.proofs.Ranks.{castable, same_number, looked_up}
 use Rattle.rules_rank_table.proofs.lookup.table_position.Goals as goal
 
@@ -24,5 +25,5 @@ returns c =
       to_z-of_z w32 number (record { sfits = to_signed_in 31 _ }),
       rank.ensures,
       same_number c.requires,
-      looked_up c.requires (rows_read c.args.rows.now),
+      looked_up c.requires (map row_of c.args.rows.now),
     )

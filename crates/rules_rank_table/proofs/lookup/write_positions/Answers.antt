@@ -1,5 +1,4 @@
 -- `write_positions` meets its contract: each turn writes one position. Assumes nothing.
-use Prim.Native.Nat.{◌-◌}
 use native.Mathlib.Omega.{arith}
 use borrow.Author.Rules.{rules, sfits_of}
 use mir.Syntax.{w32}
@@ -14,7 +13,7 @@ pub loop-below-preserved : goal.loop-below-preserved
 loop-below-preserved c =
     let call = c.table_position in
     let same = to_z-of_z w32 call.result (sfits_of call.type_inv) in
-    (omega arith, one_more c.loop-below.invariant.1 (rw (same, call.ensures)) (omega arith))
+    one_more c.loop-below.invariant (rw (same, call.ensures, c.rows_read-rows.ensures)) (omega arith)
 
 pub returns : goal.returns
-returns c = ends c.loop-below.invariant.1 (omega arith)
+returns c = ends c.loop-below.invariant (omega arith)

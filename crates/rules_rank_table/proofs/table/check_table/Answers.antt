@@ -13,4 +13,5 @@ returns c =
       c.positions_known-known.ensures,
       counted.no_two,
       counted.no_gap,
+      c.rows_read-rows.ensures,
     )

@@ -1,31 +1,29 @@
--- `cover_count` meets its contract: each turn counts one row more. Assumes nothing.
-use mathlib.Core.Path.{sym, ◌∙◌}
-use native.Mathlib.Numerals.{add-one}
+-- `cover_count` meets its contract: the rows that pass are counted. Assumes nothing.
+use mathlib.Core.Path.{◌≡◌, ◌∙◌}
+use mathlib.Core.Bool.{Bool, true, false, cond}
+use mathlib.Core.List.{List, [], ◌∷◌, map}
+use Prim.Native.Nat.{ℕ, suc, ◌+◌}
 use native.Mathlib.Omega.{arith}
-use Rattle.rules_rank_table.specs.Table.{cover_count}
-use Rattle.rules_rank_table.proofs.RowsRead.{rows_end, row_before}
+use borrow.Author.Rules.{rules}
+use lib.IntN.{ℤ}
+use Rattle.std.specs.List.{count_by, fold}
+use Rattle.rules_rank_table.specs.Table.{covers, cover_count}
+use Rattle.rules_rank_table.specs.inner.Stages.{row_of}
 use Rattle.rules_rank_table.proofs.table.cover_count.Goals as goal
 
-pub loop-r-init : goal.loop-r-init
-unfolding cover_count
-loop-r-init c = (omega arith, omega arith, rw (rows_end _ c.rows_read-r.ensures))
+one_more : (covered : Bool) (n m : ℕ) → n + cond covered 1 0 + m ≡ n + cond covered (suc m) m
+one_more true n m = omega arith
+one_more false n m = omega arith
 
-pub loop-r-preserved-then-row_covers : goal.loop-r-preserved-then-row_covers
+counted_on : (k : ℤ) (n : ℕ) (rows : List (List ℤ)) → fold (λ a row. a + cond (covers k (row_of row)) 1 0) n rows
+    ≡ n + cover_count k (map row_of rows)
 unfolding cover_count
-loop-r-preserved-then-row_covers c =
-    let rows = c.args.rows.now in
-    let covered = sym c.row_covers.ensures ∙ c.if-row_covers.true in (
-      omega arith,
-      omega arith,
-      rw (add-one, row_before rows c.loop-r.r (omega arith) (omega arith), covered, ← c.loop-r.invariant.2),
-    )
+counted_on k n [] = omega arith
+counted_on k n (row ∷ rows) =
+    let t = covers k (row_of row) in counted_on k (n + cond t 1 0) rows ∙ one_more t n (cover_count k (map row_of rows))
 
-pub loop-r-preserved : goal.loop-r-preserved
-unfolding cover_count
-loop-r-preserved c =
+pub returns : goal.returns
+returns c =
     let rows = c.args.rows.now in
-    let missed = sym c.row_covers.ensures ∙ c.if-row_covers.false in (
-      omega arith,
-      omega arith,
-      rw (row_before rows c.loop-r.r (omega arith) (omega arith), missed, ← c.loop-r.invariant.2),
-    )
+    let found : c.count.result ≡ count_by (λ row. covers c.args.k (row_of row)) rows = search rules in
+    found ∙ counted_on c.args.k 0 rows ∙ omega arith

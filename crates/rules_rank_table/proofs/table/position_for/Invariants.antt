@@ -1,13 +1,10 @@
--- `position_for` meets its contract: each turn asks one row more. Assumes nothing.
+-- `position_for` meets its contract: no row that was asked covers k. Assumes nothing.
 use mathlib.Core.Path.{◌≡◌}
-use Prim.Native.Nat.{◌-◌, ◌/◌, ◌≤◌, min}
-use lib.ListN.{length, drop}
-use Rattle.rules_rank_table.specs.Table.{rows_read, position_for}
+use mathlib.Core.List.{map}
+use lib.ListN.{drop}
+use Rattle.rules_rank_table.specs.Table.{position_for}
+use Rattle.rules_rank_table.specs.inner.Stages.{row_of}
 use Rattle.rules_rank_table.proofs.table.position_for.Given as goal
 
-abbrev pub invariant-loop-r : goal.invariant-loop-r
-invariant-loop-r l =
-    (l.r ≤ min 16 (length l.rows / 3)) × (l.position ≡ position_for l.k (drop l.r (rows_read l.rows)))
-
-abbrev pub decreases-loop-r : goal.decreases-loop-r
-decreases-loop-r l = l.r
+abbrev pub invariant-loop-row : goal.invariant-loop-row
+invariant-loop-row l = position_for l.k (map row_of l.rows) ≡ position_for l.k (map row_of (drop l.row-index l.rows))

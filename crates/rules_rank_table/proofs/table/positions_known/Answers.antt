@@ -1,17 +1,24 @@
--- `positions_known` meets its contract: each turn tests one row more. Assumes nothing.
-use Prim.Native.Nat.{◌-◌}
-use native.Mathlib.Omega.{arith}
-use mir.Syntax.{w32}
-use mir.ValLaws.{to_z-of_z}
-use Rattle.rules_rank_table.specs.Taken.{position_at}
-use Rattle.rules_rank_table.proofs.RowsRead.{rows_end, row_before}
+-- `positions_known` meets its contract: each row's position is tested. Assumes nothing.
+use mathlib.Core.Path.{◌≡◌, refl, ◌∙◌}
+use mathlib.Core.List.{List, [], ◌∷◌, map}
+use borrow.Author.Rules.{rules}
+use lib.IntN.{ℤ}
+use Rattle.std.proofs.Common.{tests}
+use Rattle.std.specs.List.{list_all}
+use Rattle.std.proofs.lemmas.Iterator.{YieldsList-from_slice}
+use Rattle.std.proofs.lemmas.Iterator.Search.{all_from_yields_List}
+use Rattle.values.specs.Accepted.{all}
+use Rattle.rules_rank_table.specs.Table.{is_position}
+use Rattle.rules_rank_table.specs.inner.Stages.{row_of}
 use Rattle.rules_rank_table.proofs.table.positions_known.Goals as goal
 
-pub loop-r-init : goal.loop-r-init
-loop-r-init c = (omega arith, rw (rows_end _ c.rows_read-r.ensures))
+each : (rows : List (List ℤ)) → list_all (λ row. is_position (row_of row).position) rows
+    ≡ all (λ row. is_position row.position) (map row_of rows)
+each [] = refl
+each (row ∷ rows) = rw (each rows)
 
-pub loop-r-preserved : goal.loop-r-preserved
-loop-r-preserved c =
-    let rows = c.args.rows.now in
-    let position = to_z-of_z w32 (position_at rows (c.loop-r.r - 1)) (record { sfits = c.position-1.given }) in
-    (omega arith, rw (position, row_before rows c.loop-r.r (omega arith) (omega arith), c.loop-r.invariant.1))
+pub returns : goal.returns
+returns c =
+    all_from_yields_List (λ row. is_position (row_of row).position) _ _ _ c.all.ensures.ran
+    (YieldsList-from_slice c.args.rows.now cc) (λ x b q k. search (rules, tests))
+    ∙ each c.args.rows.now

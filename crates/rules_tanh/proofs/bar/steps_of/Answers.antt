@@ -1,19 +1,15 @@
--- `steps_of` meets its contract: each turn leaves the half that the largest k is in. Assumes nothing.
-use Prim.Native.Nat.{◌-◌}
+-- `steps_of` meets its contract: the thresholds part where the largest k is. Assumes nothing.
 use native.Mathlib.Omega.{arith}
-use Rattle.rules_tanh.proofs.Thresholds.{not_searched, upper_half, lower_half, found}
+use borrow.Author.Rules.{rules}
+use lib.Ieee.{le}
+use Rattle.std.proofs.lemmas.List.Sorted.{IsPartitionPoint-from_clause}
+use Rattle.rules_tanh.proofs.Thresholds.{in_two_parts, found}
 use Rattle.rules_tanh.proofs.bar.steps_of.Goals as goal
 
-pub loop-low-init : goal.loop-low-init
-loop-low-init c = not_searched
-
-pub loop-low-preserved-then-table-middle : goal.loop-low-preserved-then-table-middle
-loop-low-preserved-then-table-middle c =
-    upper_half c.loop-low.invariant _ (omega arith) (rw c.requires at c.if-table-middle.true)
-
-pub loop-low-preserved : goal.loop-low-preserved
-loop-low-preserved c =
-    lower_half c.loop-low.invariant _ (omega arith) (rw c.requires at c.if-table-middle.false)
-
 pub returns : goal.returns
-returns c = found c.loop-low.invariant (omega arith)
+returns c =
+    let a = c.args in
+    let point = c.partition_point in
+    let parts = IsPartitionPoint-from_clause (λ t. le t a.size) a.table.now point.result point.ensures.partitioned
+    (rw c.requires (in_two_parts a.size)) (λ x r f k. search rules) in
+    found a.size point.result (omega (arith, point.ensures.bound)) (rw c.requires at parts)

@@ -1,11 +1,7 @@
 -- `print_positions` meets its contract: each turn prints one position more. Assumes nothing.
-use Prim.Native.Nat.{◌-◌, ◌≤◌}
 use Rattle.cells.specs.Line.{line}
 use Rattle.sheet_lines.proofs.Positions.{Printed}
 use Rattle.sheet_lines.proofs.text.print_positions.Given as goal
 
 abbrev pub invariant-loop-i : goal.invariant-loop-i
-invariant-loop-i l = (l.i ≤ l.count) × Printed l.at l.i (line l.cells) l.initial.text l.text
-
-abbrev pub decreases-loop-i : goal.decreases-loop-i
-decreases-loop-i l = l.count - l.i
+invariant-loop-i l = Printed l.at l.i (line l.cells) l.initial.text l.text

@@ -2,22 +2,18 @@
 use mathlib.Core.Path.{◌≡◌}
 use Prim.Native.Nat.{◌+◌, ◌-◌}
 use native.Mathlib.Omega.{arith}
-use borrow.Author.Rules.{rules}
 use Rattle.sheet_requests.specs.Counts.{desks}
 use Rattle.sheet_requests.proofs.Desks.{none_printed, one_printed}
 use Rattle.sheet_requests.proofs.Counts.print.Goals as goal
 
 pub loop-i-init : goal.loop-i-init
-loop-i-init c = (search rules, none_printed)
+loop-i-init c = none_printed
 
 pub loop-i-preserved : goal.loop-i-preserved
 loop-i-preserved c =
     let next : c.loop-i.i + 1 - 1 ≡ c.loop-i.i = omega arith in
-    (omega arith, one_printed c.loop-i.invariant.1 (rw next) c.print_count.ensures)
-
-pub shape_of-text : goal.shape_of-text
-shape_of-text c = c.loop-i.invariant.1.text.long
+    one_printed c.loop-i.invariant (rw next) c.print_count.ensures
 
 pub returns : goal.returns
 returns c = let all : c.loop-i.i ≡ desks = omega arith in
-    rw all at c.loop-i.invariant.1.text
+    rw all at c.loop-i.invariant.text

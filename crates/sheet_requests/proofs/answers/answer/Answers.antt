@@ -1,4 +1,4 @@
--- `answer` meets its contract: the rule's number picks the rule,
+-- `answer` meets its contract: the rule picks the call,
 -- whose answer, cells and work these are. Assumes nothing.
 use mathlib.Core.Path.{refl, sym}
 use native.Mathlib.Omega.{arith}
@@ -9,16 +9,14 @@ use Rattle.sheet_requests.proofs.answers.answer.Goals as goal
 pub slice_bounds-prices-end : goal.slice_bounds-prices-end
 slice_bounds-prices-end c = sym (length-take-le _ _ (omega arith))
 
-pub returns-then-request-eq1 : goal.returns-then-request-eq1
-returns-then-request-eq1 c =
-    by_single c.if-request-eq1.true (rw (c.requires.1, c.requires.2) at c.single_sma_positions.ensures)
+pub returns-in-Single : goal.returns-in-Single
+returns-in-Single c =
+    by_single c.in-Single.is (rw (c.requires.1, c.requires.2) at c.single_sma_positions.ensures)
 
-pub returns-then-request-eq2 : goal.returns-then-request-eq2
-returns-then-request-eq2 c =
-    by_double c.if-request-eq1.false c.if-request-eq2.true
-    (rw c.requires.1 at c.double_sma_positions.ensures) refl
+pub returns-in-Double : goal.returns-in-Double
+returns-in-Double c =
+    by_double c.in-Double.is (rw c.requires.1 at c.double_sma_positions.ensures) refl
 
-pub returns-else-request-eq2 : goal.returns-else-request-eq2
-returns-else-request-eq2 c =
-    by_middle c.if-request-eq1.false c.if-request-eq2.false
-    (rw (c.requires.1, c.requires.2) at c.mid_positions.ensures)
+pub returns-in-Middle : goal.returns-in-Middle
+returns-in-Middle c =
+    by_middle c.in-Middle.is (rw (c.requires.1, c.requires.2) at c.mid_positions.ensures)

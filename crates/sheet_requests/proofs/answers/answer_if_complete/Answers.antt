@@ -20,12 +20,6 @@ stays : {t : Step} {series : List Float} {p : Place} {text : List ℕ}
 stays e h =
     record { made = rw e (record { state = refl; text = add_none; place = refl }); incomplete = h; few = omega arith }
 
-pub returns-in-Waiting : goal.returns-in-Waiting
-returns-in-Waiting c = (stays (rw c.in-Waiting.is) (rw c.in-Waiting.is tt), refl)
-
-pub returns-in-Stopped : goal.returns-in-Stopped
-returns-in-Stopped c = (stays (rw c.in-Stopped.is) (rw c.in-Stopped.is tt), refl)
-
 pub answer_complete-requires : goal.answer_complete-requires
 answer_complete-requires c =
     let whole = c.if-got-request.true in
@@ -33,8 +27,8 @@ answer_complete-requires c =
     let room = rw c.in-Collecting.is at c.requires.2 in
     (fits.1, c.requires.1, omega arith)
 
-pub returns-else-got-request : goal.returns-else-got-request
-returns-else-got-request c =
+pub returns-in-Waiting : goal.returns-in-Waiting
+returns-in-Waiting c =
     let series = c.args.series.now in
     let request = c.in-Collecting.request in
     let got = c.in-Collecting.got in
@@ -45,8 +39,8 @@ returns-else-got-request c =
     (omega (arith, c.requires.1.series_long)) more in
     (stays (rw is some) (rw is (omega arith, omega arith)), refl)
 
-pub returns-then-got-request : goal.returns-then-got-request
-returns-then-got-request c =
+pub returns-in-Collecting : goal.returns-in-Collecting
+returns-in-Collecting c =
     let series = c.args.series.now in
     let request = c.in-Collecting.request in
     let got = c.in-Collecting.got in

@@ -4,7 +4,9 @@ use Rattle.sheet_requests.proofs.answers.refuse_desk.Goals as goal
 
 pub returns : goal.returns
 returns c = (
-  λ series prices. rw c.requires.0 (record { state = refl; text = c.print_head.ensures; place = refl }),
+  λ series prices.
+      rw c.requires.0
+      (record { state = refl; text = rw (← c.number.ensures) c.print_head.ensures; place = refl }),
   refl,
   refl,
 )

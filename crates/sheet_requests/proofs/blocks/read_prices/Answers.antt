@@ -1,60 +1,36 @@
 -- `read_prices` meets its contract: each turn gathers one price more, or meets a broken line. Assumes nothing.
-use mathlib.Core.Bool.{true≢false, false≢true}
-use Prim.Native.Nat.{◌-◌}
+use mathlib.Core.Path.{◌≡◌}
+use Prim.Native.Nat.{ℕ}
 use native.Mathlib.Omega.{arith}
-use borrow.Author.Count.{falls}
+use Rattle.sheet_lines.specs.Header.{price_bytes}
+use Rattle.sheet_requests.proofs.Lines.{bytes_at}
 use Rattle.sheet_requests.proofs.Prices.{none_read, one_read, one_broken}
 use Rattle.sheet_requests.proofs.blocks.read_prices.Goals as goal
 
 pub loop-i-init : goal.loop-i-init
-loop-i-init c = (omega arith, omega arith, omega arith, omega arith, none_read (omega arith))
+loop-i-init c = (omega arith, omega arith, omega arith, none_read (omega arith))
 
-pub shape_of-series-in_default : goal.shape_of-series-in_default
-shape_of-series-in_default c = c.loop-i.invariant.4.long
-
-pub returns-in_default : goal.returns-in_default
-returns-in_default c =
+pub returns-in-Err : goal.returns-in-Err
+returns-in-Err c =
     let inv = c.loop-i.invariant in
     let a = c.args in
+    let read = rw (bytes_at c.loop-i.place price_bytes a.block.now) at c.read_price_line.ensures in
     record {
-      same = one_broken inv.4 c.read_price_line.ensures (omega (arith, inv.4.pace)) c.in_default.is
-          a.request (omega arith);
-      pace = inv.4.pace;
+      same = one_broken inv.3 read (omega (arith, inv.3.pace)) c.in-Err.is a.request (omega arith);
+      pace = inv.3.pace;
       some = omega arith;
-      forth = λ e. absurd (false≢true e);
-      there = λ e. omega (arith, inv.4.pace);
+      forth = λ e. let z : ◌≡◌ {A = ℕ} 0 1 = cc in absurd (omega arith);
       most = omega arith;
-      within = omega (arith, inv.4.pace);
-      long = inv.4.long;
-    }
-
-pub loop-i-smaller : goal.loop-i-smaller
-loop-i-smaller c = falls _ _ c.loop-i-test.true
-
-pub shape_of-series : goal.shape_of-series
-shape_of-series c = c.loop-i.invariant.4.long
-
-pub returns : goal.returns
-returns c =
-    let inv = c.loop-i.invariant in
-    let a = c.args in
-    record {
-      same = inv.4.same a.request (omega arith);
-      pace = inv.4.pace;
-      some = omega arith;
-      forth = λ e. omega arith;
-      there = λ e. absurd (true≢false e);
-      most = omega arith;
-      within = omega (arith, inv.4.pace);
-      long = inv.4.long;
+      within = omega (arith, inv.3.pace);
+      long = inv.3.long;
     }
 
 pub loop-i-preserved : goal.loop-i-preserved
 loop-i-preserved c =
-    let inv = c.loop-i.invariant in (
+    let inv = c.loop-i.invariant in
+    let read = rw (bytes_at c.loop-i.place price_bytes c.args.block.now) at c.read_price_line.ensures in (
       omega arith,
       omega arith,
       omega arith,
-      omega arith,
-      one_read inv.4 c.read_price_line.ensures (omega (arith, inv.4.pace)) c.in-Ticks.is,
+      one_read inv.3 read (omega (arith, inv.3.pace)) c.in-Ok.is,
     )

@@ -7,9 +7,5 @@ use Rattle.sheet_requests.proofs.blocks.read_prices.Given as goal
 
 abbrev pub invariant-loop-i : goal.invariant-loop-i
 invariant-loop-i l =
-    (l.got ≤ l.i) × (l.i ≤ l.end) × (l.end ≤ length l.initial.series)
-    × (l.at + price_bytes * (l.end - l.got) ≤ length l.block)
+    (l.got ≤ l.end) × (l.end ≤ length l.initial.series) × (l.at + price_bytes * (l.end - l.got) ≤ length l.block)
     × PricesSoFar l.block l.at l.end l.got l.initial.series l.place l.i l.series
-
-abbrev pub decreases-loop-i : goal.decreases-loop-i
-decreases-loop-i l = l.end - l.i

@@ -3,17 +3,17 @@ use mathlib.Core.Path.{◌∙◌}
 use Rattle.sheet_requests.proofs.Ends.{ends_waiting, ends_stopped, cut_waiting, cut_collecting}
 use Rattle.sheet_requests.proofs.closing.fault_at_end.Goals as goal
 
-pub returns-then-kept-eq0 : goal.returns-then-kept-eq0
-returns-then-kept-eq0 c =
+pub returns-in-Waiting : goal.returns-in-Waiting
+returns-in-Waiting c =
     record { is = λ series rest e n. rw (c.in-Waiting.is, ends_waiting _ rest (e ∙ c.if-kept-eq0.true)) }
 
-pub returns-else-kept-eq0 : goal.returns-else-kept-eq0
-returns-else-kept-eq0 c =
+pub returns-in-Waiting-2 : goal.returns-in-Waiting-2
+returns-in-Waiting-2 c =
     let told = c.in-Waiting.is in
     let few = rw told at c.requires in
     record {
-      is = λ series rest e n. c.missing_line.ensures
-          ∙ rw (told, cut_waiting _ rest (λ z. c.if-kept-eq0.false (rw e at z)) (rw e few) n);
+      is = λ series rest e n.
+          rw (c.missing_line.ensures, told, cut_waiting _ rest (λ z. c.if-kept-eq0.false (rw e at z)) (rw e few) n);
     }
 
 pub returns-in-Collecting : goal.returns-in-Collecting
@@ -21,7 +21,7 @@ returns-in-Collecting c =
     let told = c.in-Collecting.is in
     let few = rw told at c.requires in
     record {
-      is = λ series rest e n. c.missing_line-in-Collecting.ensures ∙ rw (told, cut_collecting _ _ _ rest (rw e few) n);
+      is = λ series rest e n. rw (c.missing_line-in-Collecting.ensures, told, cut_collecting _ _ _ rest (rw e few) n);
     }
 
 pub returns-in-Stopped : goal.returns-in-Stopped

@@ -5,8 +5,4 @@ use Rattle.cells.specs.Line.{line}
 use Rattle.values.proofs.series.or_of_bits.Given as goal
 
 abbrev pub invariant-loop-i : goal.invariant-loop-i
-invariant-loop-i l = (l.first ≤ l.i) × (l.i - l.first ≤ l.end - l.first)
-    × BitsOf (line l.s) l.first (l.i - l.first) l.together
-
-abbrev pub decreases-loop-i : goal.decreases-loop-i
-decreases-loop-i l = l.end - l.i
+invariant-loop-i l = (l.i - l.first ≤ l.end - l.first) × BitsOf (line l.s) l.first (l.i - l.first) l.together

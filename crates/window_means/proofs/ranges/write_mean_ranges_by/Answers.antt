@@ -1,15 +1,10 @@
 -- `write_mean_ranges_by` meets its contract: the ranges of the means that stand in the slice. Assumes nothing.
-use mathlib.Core.Path.{sym}
 use native.Mathlib.Omega.{arith}
 use Rattle.extremes.specs.Extreme.{larger, smaller, extreme}
 use Rattle.extremes.proofs.Extreme.{causal_extreme}
 use Rattle.exact_ticks.proofs.Bounds.{means_room}
-use Rattle.cells.proofs.Parts.{part_long}
 use Rattle.window_means.proofs.Through.{both_through}
 use Rattle.window_means.proofs.ranges.write_mean_ranges_by.Goals as goal
-
-pub slice_bounds-write_ranges-end-2 : goal.slice_bounds-write_ranges-end-2
-slice_bounds-write_ranges-end-2 c = sym (part_long c.write_means_by.ensures (omega arith))
 
 pub write_ranges-requires : goal.write_ranges-requires
 write_ranges-requires c =

@@ -2,20 +2,13 @@
 -- bar is left. Assumes nothing.
 use Prim.Native.Nat.{◌+◌}
 use native.Mathlib.Omega.{arith}
-use lib.ListN.{length-set}
 use Rattle.cells.proofs.Written.{one_more, step, ends}
-use Rattle.windows.proofs.Window.{first_running, next_running, same_bar, count_is_float}
+use Rattle.windows.proofs.Window.{first_running, next_running, same_bar}
 use Rattle.windows.proofs.Means.{none_on, mean_on}
 use Rattle.windows.proofs.sliding.slide_means.Goals as goal
 
-pub int_to_float-count : goal.int_to_float-count
-int_to_float-count c = count_is_float _ (omega arith)
-
 pub loop-i-init : goal.loop-i-init
 loop-i-init c = (omega arith, omega arith, none_on _ _ _, first_running _ c.requires.is (omega arith))
-
-pub bounds-means-i-in-loop-i : goal.bounds-means-i-in-loop-i
-bounds-means-i-in-loop-i c = simp length-set (omega arith)
 
 pub loop-i-preserved : goal.loop-i-preserved
 loop-i-preserved c =
@@ -34,6 +27,3 @@ returns-then-i-series c =
     let at = c.loop-i in
     let next = next_running at.invariant.3 (omega arith) in
     ends (one_more at.invariant.2 (mean_on _ _ next (omega arith)) (omega arith)) (omega arith)
-
-pub returns-else-i-series : goal.returns-else-i-series
-returns-else-i-series c = ends c.loop-i.invariant.2 (omega arith)
