@@ -1,5 +1,5 @@
 // The exponential averages: each cell blends its price with the cell before it.
-ghost use Rattle.std.specs.Prelude.{◌-◌, ◌<◌, ◌≤◌, length};
+ghost use Rattle.std.specs.Prelude.{true, ◌-◌, ◌<◌, ◌≤◌, length};
 ghost use Rattle.calls.specs.inner.Fits.{Fits};
 ghost use Rattle.cells.specs.Line.{line};
 ghost use Rattle.windows.specs.Window.{mean};
@@ -14,10 +14,10 @@ use calls::{Answer, Refusal};
 // The answer of a smoothed line whose lengths are in order. It writes nothing before all prices are tested.
 // Series, weight, first bar and seed are no struct: each function would take it apart at once.
 fn answer_smooth(series: &[f64], alpha: f64, first: usize, seed: f64, out: &mut [f64]) -> Answer
-    requires { TestedSeed series.now first × (length series.now ≤ length out.old) }
+    requires { TestedSeed series.now first true × (length series.now ≤ length out.old) }
     ensures { SmoothCall series.now alpha first seed out.old result out.new }
 {
-    let Some(half) = crate::blend::blend_tested(series, alpha, first, seed) else {
+    let Ok(half) = crate::blend::blend_tested(series, alpha, first, Ok(seed)) else {
         return Err(Refusal::ValueNotAccepted);
     };
     crate::halves::write_smooth(series, alpha, first, seed, half, out);
@@ -31,7 +31,7 @@ fn answer_from_mean(series: &[f64], n: usize, out: &mut [f64]) -> Answer
         out.old result out.new }
 {
     let alpha = 2.0 / ((n + 1) as f64);
-    let Some(sum) = crate::sum_tested(series, n) else {
+    let Ok(sum) = crate::sum_tested(series, n) else {
         return Err(Refusal::ValueNotAccepted);
     };
     answer_smooth(series, alpha, n - 1, sum / (n as f64), out)

@@ -6,7 +6,7 @@ pub mod blend;
 pub mod exponential;
 mod halves;
 
-ghost use Rattle.std.specs.Prelude.{◌≡◌, false, [], ◌∷◌, ◌-◌, ◌<◌, ◌≤◌, length};
+ghost use Rattle.std.specs.Prelude.{◌≡◌, false, [], ◌∷◌, ◌-◌, ◌<◌, ◌≤◌, length, is_ok};
 ghost use Rattle.std.specs.Float.{nan};
 ghost use Rattle.values.specs.Accepted.{accepted};
 ghost use Rattle.calls.specs.Answer.{answered};
@@ -17,12 +17,20 @@ ghost use Rattle.cells.specs.Written.{Writing};
 ghost use Rattle.windows.specs.inner.Means.{Summed};
 ghost use Rattle.averages.specs.Sma.{sma_line, SmaCall};
 ghost use Rattle.averages.specs.inner.Stages.{TestedSum};
+ghost use Rattle.averages.specs.inner.Tested.{value_of};
 
 use calls::{Answer, Refusal};
 
-// The sum of the first n prices, if a series may hold them. An addition waits for the one before it, and the prices are
-// tested meanwhile, eight at a time.
-pub fn sum_tested(series: &[f64], n: usize) -> Option<f64>
+// A sum or a cell: in `Ok` if a series may hold all prices up to it, and in `Err` if not.
+fn tested(accept: bool, x: f64) -> Result<f64, f64>
+    ensures { (value_of result ≡ x) × (is_ok result ≡ accept) }
+{
+    if accept { Ok(x) } else { Err(x) }
+}
+
+// The sum of the first n prices: in `Ok` if a series may hold them, and in `Err` if not. An addition waits for the one
+// before it, and the prices are tested meanwhile, eight at a time.
+pub fn sum_tested(series: &[f64], n: usize) -> Result<f64, f64>
     requires { (0 < n) × (n ≤ length series.now) }
     ensures { TestedSum series.now n result }
 {
@@ -34,11 +42,8 @@ pub fn sum_tested(series: &[f64], n: usize) -> Option<f64>
         sum = windows::sum_more(sum, series, 8 * k, 8);
     }
     let end = 8 * eights;
-    if accept & values::series::range_accepted(series, end, n - end) {
-        Some(windows::sum_more(sum, series, end, n - end))
-    } else {
-        None
-    }
+    accept &= values::series::range_accepted(series, end, n - end);
+    tested(accept, windows::sum_more(sum, series, end, n - end))
 }
 
 // Writes the cells of `sma` from the sum of the first n prices.
@@ -74,7 +79,7 @@ pub fn sma(series: &[f64], n: usize, out: &mut [f64]) -> Answer
     if !checks::window_fits(series.len(), n, out.len()) {
         return answer_lead(series, n, out);
     }
-    let Some(sum) = sum_tested(series, n) else {
+    let Ok(sum) = sum_tested(series, n) else {
         return Err(Refusal::ValueNotAccepted);
     };
     if !values::series::accepted_from(series, n) {

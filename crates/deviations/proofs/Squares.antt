@@ -1,19 +1,21 @@
 -- Squares about a middle, of one bar and of bars side by side. Assumes nothing.
 use mathlib.Core.Path.{◌≡◌, ◌∙◌}
-use Rattle.std.proofs.Common.{List, map}
+use Rattle.std.proofs.Common.{List, length, map}
 use Prim.Native.Nat.{ℕ, ◌+◌, ◌-◌, ◌≤◌}
 use native.Mathlib.Nat.{zero-add}
 use native.Mathlib.Omega.{arith}
-use lib.Ieee.{Float, nan, binary64, sub}
+use lib.Ieee.{Float, nan, binary64, add, sub}
 use Rattle.std.proofs.lemmas.List.{get_or-map, length-map}
 use Rattle.cells.specs.Line.{Line, line, plus_zero, minus_zero}
+use Rattle.cells.specs.Written.{Writing}
+use Rattle.cells.proofs.Written.{length_written, ends}
 use Rattle.cells.proofs.Line.{from_bar_lem}
 use Rattle.windows.specs.Window.{mean, over, window_sum}
 use Rattle.windows.specs.inner.Sums.{Summing}
 use Rattle.windows.specs.inner.Lanes.{LanesOf}
-use Rattle.windows.proofs.Lanes.{SummingLanes}
+use Rattle.windows.proofs.Lanes.{SummingLanes, more_in_lanes}
 use Rattle.deviations.specs.Deviation.{square, squares_about, variance}
-use Rattle.deviations.specs.inner.Spread.{About}
+use Rattle.deviations.specs.inner.Spread.{each_plus_square, About}
 
 -- the squares of the distances of a line's cells from m
 abbrev pub from_middle : Float → Line → Line
@@ -34,6 +36,15 @@ unfolding mean window_sum
 variance_about d n i f p q h = rw (q, p, from_bar_lem (n - 1) plus_zero _ i (omega arith))
 
 -- ---- bars side by side
+
+-- one more square in each
+pub plus_squares_in_lanes : {N : ℕ} {old now : List Float} {a k : ℕ} (m : List Float) (f : Line)
+    → SummingLanes N (λ j. from_middle (line m j) f) a k old → now ≡ each_plus_square f (a + k) m old
+    → SummingLanes N (λ j. from_middle (line m j) f) a (k + 1) now
+plus_squares_in_lanes {old = old} {now} {a} {k} m f s e =
+    let w : Writing (length old) (λ j. add binary64 (line old j) (from_middle (line m j) f (a + k + j))) old now =
+    record { is = e; long = rw e (length_written (length old) _ old) } in
+    more_in_lanes s (ends w s.long)
 
 -- the squares of the windows that end at the bars from i on, the first of which starts at bar a
 pub squares_of_lanes : {N : ℕ} {f : Line} {m r : List Float} {a k : ℕ} (n i : ℕ)

@@ -1,10 +1,27 @@
 // Squares about the mean of a window, each window summed afresh from left to right, of some bars side by side.
 #![tactic(auto)]
 
-ghost use Rattle.std.specs.Prelude.{◌+◌, ◌<◌, ◌≤◌, length};
+ghost use Rattle.std.specs.Prelude.{◌≡◌, ◌+◌, ◌<◌, ◌≤◌, length};
 ghost use Rattle.cells.specs.Line.{line};
 ghost use Rattle.windows.specs.inner.Windows.{Windows};
-ghost use Rattle.deviations.specs.inner.Spread.{About, SpreadRoom, Spread};
+ghost use Rattle.deviations.specs.inner.Spread.{each_plus_square, About, SpreadRoom, Spread};
+
+// Each lane with the square of a distance added: of its cell, of the N from `at` on, from its own middle.
+fn plus_squares<const N: usize>(
+    mut sums: [f64; N],
+    cells: &[f64],
+    at: usize,
+    middles: [f64; N],
+) -> [f64; N]
+    requires { at + N ≤ length cells.now }
+    ensures { result ≡ each_plus_square (line cells.now) at middles.entry sums.entry }
+{
+    for lane in 0..N {
+        let apart = cells[at + lane] - middles[lane];
+        sums[lane] += apart * apart;
+    }
+    sums
+}
 
 // The squares of the n cells up to each of the N bars from i on, about the bar's own middle.
 fn squares_side_by_side<const N: usize>(
@@ -19,10 +36,7 @@ fn squares_side_by_side<const N: usize>(
     let at = i + 1 - n;
     let mut sums = [-0.0; N];
     for k in 0..n {
-        for lane in 0..N {
-            let apart = cells[at + k + lane] - middles[lane];
-            sums[lane] += apart * apart;
-        }
+        sums = plus_squares(sums, cells, at + k, middles);
     }
     sums
 }

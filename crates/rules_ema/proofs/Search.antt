@@ -3,15 +3,9 @@ use mathlib.Core.Path.{◌≡◌, refl}
 use mathlib.Core.Bool.{Bool, true, false, cond}
 use Prim.Native.Nat.{ℕ, ◌<◌, ◌≤◌}
 use native.Mathlib.Omega.{arith}
-use mathlib.Core.List.{List}
 use borrow.Author.Tests.{ltb-true, lt-ltb, le-ltb}
-use lib.ListN.{length}
-use lib.Ieee.{nan, Float}
-use Rattle.std.specs.Prelude.{Option, None, Some, MatchOption, HoldsAt}
-use Rattle.std.specs.List.{AllWithin}
-use Rattle.std.specs.Option.{unwrap_or}
 use lib.Dec.{ltb}
-use Rattle.cells.specs.Line.{Line, line}
+use Rattle.cells.specs.Line.{Line}
 use Rattle.cells.specs.Search.{first_bar, non_zero}
 use Rattle.cells.proofs.Search.{first_bar_same, first_bar_found, first_bar_none, NoneBefore}
 use Rattle.rules_ema.specs.SingleEma.{first_usable}
@@ -39,13 +33,3 @@ inside j l false e = omega arith
 pub usable_inside : (l : ℕ) (f : Line) → first_usable l f ≤ l
 unfolding first_usable
 usable_inside l f = inside (first_bar (λ j. non_zero (f j)) l) l _ refl
-
--- a place that the library's search finds
-pub usable_place : (means : List Float) (r : Option ℕ)
-    → MatchOption r (AllWithin (λ x. non_zero x ≡ false) means 0 (length means))
-    (λ i. (i < length means) × HoldsAt (λ x. non_zero x ≡ true) means i
-    × AllWithin (λ x. non_zero x ≡ false) means 0 i)
-    → first_usable (length means) (line means) ≡ unwrap_or r 0
-usable_place means None none = usable_none _ _ (λ j l. none j nan (omega arith) l)
-usable_place means (Some i) (under, met, before) =
-    usable_found i _ _ (λ j l. before j nan (omega arith) l) (met nan) under

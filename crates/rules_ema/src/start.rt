@@ -8,7 +8,16 @@ ghost use Rattle.rules_ema.specs.SingleEma.{first_usable};
 fn first_usable(means: &[f64]) -> usize
     ensures { result ≡ first_usable (length means.now) (line means.now) }
 {
-    means.iter().position(|mean| *mean != 0.0).unwrap_or(0)
+    let mut i = 0;
+    loop {
+        if i == means.len() {
+            break 0;
+        }
+        if means[i] != 0.0 {
+            break i;
+        }
+        i += 1;
+    }
 }
 
 // The bar at which the average starts, from the means over n of all bars.

@@ -54,8 +54,8 @@ request_small : (f : Fields) → Small (request_of f)
 unfolding request_of
 request_small f =
     given_small f.desk DeskField (λ d. given_small f.rule RuleField (λ r. given_small f.n NField (λ a.
-    given_small f.m MField (λ b. given_small f.bars BarsField (λ l. given_small (rule_of r) OtherRule (λ rule.
-    accepted_small (record { desk = d; rule = rule; n = a; m = b; bars = l })))))))
+    given_small f.m MField (λ b. given_small f.bars BarsField (λ l. given_small (rule_of r) OtherRule (λ _.
+    accepted_small (record { desk = d; rule = r; n = a; m = b; bars = l })))))))
 
 pub header_small : (line : List ℕ) (r : Request) → read_header line ≡ Ok r → r.bars ≤ most_bars
 unfolding read_header

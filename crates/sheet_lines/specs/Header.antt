@@ -39,12 +39,13 @@ given None reason next = Err reason
 abbrev pub accepted : Request → Result Request Reason
 accepted r = cond (leb r.bars most_bars) (Ok r) (Err TooManyBars)
 
--- the request that its five numbers make: the fields from the left, and then what their numbers say
+-- the request that its five numbers make: the fields from the left, and then what their numbers say; the rule stays
+-- a number
 unfoldable pub request_of : Fields → Result Request Reason
 request_of f =
     given f.desk DeskField (λ d. given f.rule RuleField (λ r. given f.n NField (λ a. given f.m MField (λ b.
-    given f.bars BarsField (λ l. given (rule_of r) OtherRule (λ rule.
-    accepted (record { desk = d; rule = rule; n = a; m = b; bars = l })))))))
+    given f.bars BarsField (λ l. given (rule_of r) OtherRule (λ _.
+    accepted (record { desk = d; rule = r; n = a; m = b; bars = l })))))))
 
 -- A request's first line: desk in 4 columns, rule in 4, n in 6, m in 6, bars in 6.
 abbrev pub read_fields : List ℕ → Fields

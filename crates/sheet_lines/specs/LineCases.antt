@@ -2,7 +2,6 @@
 use Rattle.std.specs.Prelude.{◌≡◌, refl, true, [], ◌∷◌, map, replicate, Ok, Err, is_err}
 use Rattle.sheet_lines.specs.inner.Text.{bytes}
 use Rattle.sheet_lines.specs.Read.{number, read_field, signed, read_price}
-use Rattle.sheet_lines.specs.declared.rule.Rule.TheVariants.{Double}
 use Rattle.sheet_lines.specs.Header.{request_of, read_header, read_price_line}
 use Rattle.sheet_lines.specs.declared.reasons.Reason.TheVariants.{
   LineLength,
@@ -19,7 +18,7 @@ use Rattle.sheet_lines.specs.declared.reasons.Reason.TheVariants.{
 
 header :
     read_header (bytes "   7   2     1     2     4\n")
-    ≡ Ok (record { desk = 7; rule = Double; n = 1; m = 2; bars = 4 })
+    ≡ Ok (record { desk = 7; rule = 2; n = 1; m = 2; bars = 4 })
 unfolding read_header request_of read_field number
 header = refl
 

@@ -5,7 +5,6 @@ use Rattle.calls.specs.Answer.{Answer, number, refusal_of, count_of}
 use Rattle.cells.specs.Line.{Line}
 use Rattle.rules.specs.Position.{by_side}
 use Rattle.sheet_lines.specs.Print.{print_field}
-use Rattle.sheet_lines.specs.Rule.{rule_number}
 use Rattle.sheet_lines.specs.declared.Request.{Request}
 
 -- the bytes of an answer's first line, of a position's line and of a desk's
@@ -45,7 +44,7 @@ position_lines (suc k) f = position_lines k f ++ position_line (f k)
 -- all that a request prints
 unfoldable pub answer_text : Request → Answer → Line → List ℕ
 answer_text r answer f =
-    head_line r.desk (rule_number r.rule) (refusal_of answer) (count_of answer) ++ position_lines (count_of answer) f
+    head_line r.desk r.rule (refusal_of answer) (count_of answer) ++ position_lines (count_of answer) f
 
 -- desk in 4 columns, the number of its refused requests in 12
 unfoldable pub count_line : ℕ → ℕ → List ℕ

@@ -27,11 +27,11 @@ pub const HEADER_BYTES: usize = 27;
 
 pub const PRICE_BYTES: usize = 13;
 
-// What a request's first line asks.
+// What a request's first line asks. The rule is a number, as the definitions of specs/ have it.
 #[derive(Clone, Copy)]
 pub struct Request {
     pub desk: u64,
-    pub rule: Rule,
+    pub rule: u64,
     pub n: usize,
     pub m: usize,
     pub bars: usize,
@@ -71,7 +71,7 @@ fn request_of(fields: Fields) -> Result<Request, Reason>
     let n = fields.n.ok_or(Reason::NField)?;
     let m = fields.m.ok_or(Reason::MField)?;
     let bars = fields.bars.ok_or(Reason::BarsField)?;
-    let rule = Rule::of_number(rule).ok_or(Reason::OtherRule)?;
+    Rule::of_number(rule).ok_or(Reason::OtherRule)?;
     if bars > MOST_BARS as u64 {
         return Err(Reason::TooManyBars);
     }

@@ -96,7 +96,7 @@ pub fn print_answer(
         text,
         at,
         request.desk,
-        request.rule.number(),
+        request.rule,
         calls::refusal_of(given),
         count as u64,
     );

@@ -4,13 +4,14 @@ use mathlib.Core.Bool.{Bool, true, false, cond}
 use mathlib.Core.List.{List, [], ◌∷◌}
 use Prim.Native.Nat.{ℕ, zero, suc, ◌≤◌}
 use native.Mathlib.Omega.{arith}
+use borrow.Author.Tests.{eqb-true, ne_eqb}
 use lib.Dec.{leb, ltb, eqb}
 use lib.ListN.{length, replicate, length-replicate}
 use lib.Ieee.{Float}
 use Rattle.calls.specs.declared.Refusal.{Refusal}
 use Rattle.calls.specs.declared.Refusal.TheVariants.{WindowTooLong, WindowsOutOfOrder}
 use Rattle.calls.specs.Answer.{Answer, any_zero, count_of, unless, and_then, empty_if, checked, windowed, answered}
-use Rattle.std.specs.Prelude.{Ok, Err}
+use Rattle.std.specs.Prelude.{Option, Some, None, Ok, Err}
 use Rattle.limits.specs.Limits.{longest_window}
 use Rattle.values.specs.Accepted.{accepted, all}
 use Rattle.calls.specs.Call.{Call, WorkCall}
@@ -21,8 +22,9 @@ use Rattle.rules_double.specs.Double.{double_line, double_answer}
 use Rattle.rules_middle.specs.Middle.{mid_line}
 use Rattle.rules.specs.ByNumber.{by_rule}
 use Rattle.sheet_lines.specs.declared.Request.{Request}
+use Rattle.sheet_lines.specs.declared.rule.Rule.{Rule}
 use Rattle.sheet_lines.specs.declared.rule.Rule.TheVariants.{Single, Double, Middle}
-use Rattle.sheet_lines.specs.Rule.{rule_number}
+use Rattle.sheet_lines.specs.Rule.{rule_number, rule_of}
 use Rattle.sheet_lines.specs.Header.{most_bars}
 use Rattle.sheet_requests.specs.Answer.{
   work_cells,
@@ -33,30 +35,63 @@ use Rattle.sheet_requests.specs.Answer.{
   RequestCall,
 }
 
+-- a number that gives a rule is the rule's own
+numbered : (n : ℕ) (rule : Rule) → Some rule ≡ rule_of n → n ≡ rule_number rule
+numbered n rule e = go (eqb n 1) (eqb n 2) (eqb n 3) (eqb-true n 1) (eqb-true n 2) (eqb-true n 3) e
+  where
+    go : (s t u : Bool) → (s ≡ true → n ≡ 1) → (t ≡ true → n ≡ 2) → (u ≡ true → n ≡ 3)
+        → Some rule ≡ cond s (Some Single) (cond t (Some Double) (cond u (Some Middle) None))
+        → n ≡ rule_number rule
+    go true t u f g h e = let same : rule ≡ Single = cc in rw same (f refl)
+    go false true u f g h e = let same : rule ≡ Double = cc in rw same (g refl)
+    go false false true f g h e = let same : rule ≡ Middle = cc in rw same (h refl)
+    go false false false f g h e = let z : ◌≡◌ {A = ℕ} 0 1 = cc in absurd (omega arith)
+
+-- a number that is neither that of one average nor that of double
+pub record Other (n : ℕ) : Type 0 where
+  pub not_single : n ≡ 1 → ⊥
+  pub not_double : n ≡ 2 → ⊥
+
+-- the middle rule's number, and one that is no rule's
+pub middle_other : (n : ℕ) → Some Middle ≡ rule_of n → Other n
+middle_other n e =
+    let is = numbered n Middle e in
+    record { not_single = λ d. omega (arith, is); not_double = λ d. omega (arith, is) }
+
+none_same : {rule : Rule} → ◌≡◌ {A = Option Rule} None (Some rule) → ⊥
+none_same e = let z : ◌≡◌ {A = ℕ} 0 1 = cc in absurd (omega arith)
+
+pub none_other : (n : ℕ) → None ≡ rule_of n → Other n
+none_other n e = record { not_single = λ d. none_same (rw d at e); not_double = λ d. none_same (rw d at e) }
+
 -- the three rules' contracts, as the contract of a request's call
 module _ {r : Request} {prices out₀ work₀ : List Float} {a : Answer} {out₁ work₁ : List Float} where
-  pub by_single : r.rule ≡ Single
+  pub by_single : Some Single ≡ rule_of r.rule
       → WorkCall (answered accepted prices (r.n ∷ []) most_bars (work_cells ∷ [])) (single_line r.n (line prices)) out₀
       (length prices) work₀ a out₁ work₁
       → RequestCall r prices out₀ work₀ a out₁ work₁
   unfolding rule_answer rule_line rule_cleared
   by_single e w =
-      record { call = rw e w.call; work = rw e w.work }
+      let is = numbered r.rule Single e in
+      record { call = rw is w.call; work = rw is w.work }
 
-  pub by_double : r.rule ≡ Double
+  pub by_double : Some Double ≡ rule_of r.rule
       → Call (double_answer prices r.n r.m most_bars) (double_line r.n r.m (line prices)) out₀ a out₁
       → work₁ ≡ work₀ → RequestCall r prices out₀ work₀ a out₁ work₁
   unfolding rule_answer rule_line rule_cleared
   by_double e w k =
-      record { call = rw e w; work = rw e k }
+      let is = numbered r.rule Double e in
+      record { call = rw is w; work = rw is k }
 
-  pub by_middle : r.rule ≡ Middle
+  pub by_middle : Other r.rule
       → WorkCall (answered accepted prices (r.n ∷ []) most_bars (work_cells ∷ [])) (mid_line r.n (line prices)) out₀
       (length prices) work₀ a out₁ work₁
       → RequestCall r prices out₀ work₀ a out₁ work₁
   unfolding rule_answer rule_line rule_cleared
-  by_middle e w =
-      record { call = rw e w.call; work = rw e w.work }
+  by_middle other w =
+      let one = ne_eqb r.rule 1 other.not_single in
+      let two = ne_eqb r.rule 2 other.not_double in
+      record { call = rw (one, two) w.call; work = rw (one, two) w.work }
 
 -- a slice that is clear stays so
 clear_again : (k n : ℕ) → written k (λ i. plus_zero) (replicate n plus_zero) ≡ replicate n plus_zero
@@ -125,5 +160,5 @@ by_rule_most {n} rule one two three a b c = go (eqb rule 1) (eqb rule 2)
 pub rule_most : (r : Request) (prices : List Float) → count_of (rule_answer r prices) ≤ length prices
 unfolding rule_answer
 rule_most r prices =
-    (by_rule_most (rule_number r.rule) _ _ _ (answered_most _ prices _ most_bars _)
+    (by_rule_most r.rule _ _ _ (answered_most _ prices _ most_bars _)
     (double_most prices r.n r.m most_bars) (answered_most _ prices _ most_bars _)).few

@@ -5,7 +5,6 @@ use Rattle.sheet_lines.specs.declared.Request.{Request}
 use Rattle.sheet_lines.specs.declared.reasons.Reason.{Reason}
 use Rattle.sheet_lines.specs.declared.reasons.Reason.TheVariants.{InputEnds}
 use Rattle.sheet_lines.specs.Header.{read_header, read_price_line}
-use Rattle.sheet_lines.specs.Rule.{rule_number}
 use Rattle.sheet_lines.specs.Printed.{broken_line, no_such_desk, head_line, answer_text}
 use Rattle.sheet_requests.specs.declared.Counts.{Counts}
 use Rattle.sheet_requests.specs.declared.status.Fault.{Fault}
@@ -57,7 +56,7 @@ broken c reason =
 abbrev pub answer_of : Request → List Float → List ℕ
 answer_of r prices =
     cond (is_desk r.desk) (answer_text r (rule_answer r prices) (rule_line r prices))
-    (head_line r.desk (rule_number r.rule) no_such_desk 0)
+    (head_line r.desk r.rule no_such_desk 0)
 
 -- the counts after it: refusal 15 is in none
 abbrev pub counted_after : Counts → Request → List Float → Counts

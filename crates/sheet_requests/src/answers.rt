@@ -23,10 +23,11 @@ pub fn answer(request: Request, series: &[f64], out: &mut [f64], work: &mut [f64
         out.old work.old result out.new work.new }
 {
     let prices = &series[..request.bars];
-    match request.rule {
-        Rule::Single => rules::single_sma_positions(prices, request.n, out, work),
-        Rule::Double => rules::double_sma_positions(prices, request.n, request.m, out),
-        Rule::Middle => rules::mid_positions(prices, request.n, out, work),
+    match Rule::of_number(request.rule) {
+        Some(Rule::Single) => rules::single_sma_positions(prices, request.n, out, work),
+        Some(Rule::Double) => rules::double_sma_positions(prices, request.n, request.m, out),
+        // any other number is answered as the middle rule, as the definition says
+        Some(Rule::Middle) | None => rules::mid_positions(prices, request.n, out, work),
     }
 }
 
@@ -68,14 +69,7 @@ fn refuse_desk(request: Request, counts: Counts, at: usize, text: &mut [u8], fil
         → Stepped (completed counts request prices) series at filled result text.old text.new)
         × (result.sheet.stage ≡ Stage.Waiting) × (result.filled ≡ filled + head_bytes) }
 {
-    sheet_lines::text::print_head(
-        text,
-        filled,
-        request.desk,
-        request.rule.number(),
-        NO_SUCH_DESK,
-        0,
-    );
+    sheet_lines::text::print_head(text, filled, request.desk, request.rule, NO_SUCH_DESK, 0);
     Place {
         sheet: Sheet {
             stage: Stage::Waiting,

@@ -4,7 +4,7 @@
 // holds what came, and that the bytes handed over are written, is assumed here, and
 // tested by tools/sheet_compare; what is done with the bytes in the buffers is proved.
 ghost use Rattle.std.specs.Prelude.{◌≡◌, ◌≤◌, ◌+◌, length, take};
-ghost use Rattle.sheet_run.specs.Run.{bytes_read};
+ghost use Rattle.sheet_run.specs.Run.{input_of, bytes_read};
 ghost use Rattle.sheet_run.specs.inner.Refills.{Refills};
 
 use crate::streams;
@@ -35,19 +35,32 @@ pub struct Refilled {
     pub input: Input,
 }
 
-// Reads once: with no byte the input has ended. The reason why a read failed goes to standard error.
+// What the answer of a read says: with no count it failed, and with no byte the input has ended.
+fn input_of(got: Option<usize>, room: &[u8]) -> Input
+    ensures { result ≡ input_of got (length room.now) }
+{
+    let Some(count) = got else {
+        return Input::Failed;
+    };
+    match count.min(room.len()) {
+        0 => Input::Ended,
+        count => Input::Bytes(count),
+    }
+}
+
+// Reads once. The reason why a read failed goes to standard error.
 fn read_some(streams: Streams, room: &mut [u8]) -> Input
     ensures { bytes_read result ≤ length room.old }
 {
     let mut input = streams.input;
-    match input.read(room) {
-        Ok(0) => Input::Ended,
-        Ok(count) => Input::Bytes(count),
+    let got = match input.read(room) {
+        Ok(count) => Some(count),
         Err(why) => {
             streams::tell(streams.errors, "reading", why);
-            Input::Failed
+            None
         }
-    }
+    };
+    input_of(got, room)
 }
 
 // Reads once behind the first `kept` bytes of the block, which stay.

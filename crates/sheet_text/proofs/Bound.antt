@@ -15,7 +15,6 @@ use Rattle.std.proofs.Common.{Result, Ok, Err}
 use Rattle.sheet_lines.specs.Print.{leading, print_field}
 use Rattle.sheet_lines.specs.declared.Request.{Request}
 use Rattle.sheet_lines.specs.Header.{header_bytes, price_bytes, read_header, read_price_line}
-use Rattle.sheet_lines.specs.Rule.{rule_number}
 use Rattle.sheet_lines.specs.Printed.{
   broken_line,
   no_such_desk,
@@ -152,20 +151,20 @@ with_prices_few c r prices = go (eqb (length prices) r.bars)
 
     text : List ℕ
     text =
-        head_line r.desk (rule_number r.rule) (refusal_of a) (count_of a)
+        head_line r.desk r.rule (refusal_of a) (count_of a)
         ++ position_lines (count_of a) (rule_line r prices)
 
     long : (t : Bool)
-        → length (cond t text (head_line r.desk (rule_number r.rule) no_such_desk 0)) ≤ 19 + 5 * length prices
+        → length (cond t text (head_line r.desk r.rule no_such_desk 0)) ≤ 19 + 5 * length prices
     long true =
         rw (
-          length-append (head_line r.desk (rule_number r.rule) (refusal_of a) (count_of a))
+          length-append (head_line r.desk r.rule (refusal_of a) (count_of a))
               (position_lines (count_of a) (rule_line r prices)),
           length_head,
           length_positions,
         )
         (omega (arith, rule_most r prices))
-    long false = omega (arith, length_head r.desk (rule_number r.rule) no_such_desk 0)
+    long false = omega (arith, length_head r.desk r.rule no_such_desk 0)
 
     go : (t : Bool) →
         let s : Step = cond t (completed c r prices) (quiet (collecting c r prices)) in

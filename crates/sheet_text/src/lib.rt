@@ -56,12 +56,15 @@ pub fn feed(
     }
 }
 
-// Copies the first `count` bytes of the text into the output, from `at` on.
+// Copies the first `count` bytes of the text into the output, from `at` on: a turn for each, since by `copy_from_slice`
+// the library for C asks for `memmove`.
 fn copy(text: &[u8], count: usize, out: &mut [u8], at: usize)
     requires { (count ≤ length text.now) × (at + count ≤ length out.old) }
     ensures { Copied text.now count at out.old out.new }
 {
-    out[at..at + count].copy_from_slice(&text[..count]);
+    for i in 0..count {
+        out[at + i] = text[i];
+    }
 }
 
 // Feeds the input from the place up to `end`, and writes what it prints behind what is written.

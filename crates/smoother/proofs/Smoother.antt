@@ -1,10 +1,10 @@
 -- The ultimate smoother of John Ehlers: what `ultimate_smoother` answers and writes. Assumes nothing.
-use Rattle.std.proofs.Common.{◌≡◌, ℕ, zero, suc, ◌-◌, ◌<◌, ◌≤◌, List, [], ◌∷◌, ◌++◌, length, take, drop, sym, ap, ◌∙◌, refl, arith}
+use Rattle.std.proofs.Common.{◌≡◌, ℕ, zero, suc, ◌-◌, ◌<◌, ◌≤◌, List, sym, refl, arith}
 use lib.Ieee.{Float, nan, neg, add, sub, mul, div}
 use Rattle.rounding.proofs.NotANumber.{nan_last, nan_factor}
-use Rattle.cells.specs.Line.{Line, line, Causal}
-use Rattle.cells.specs.Written.{Writing, written}
-use Rattle.cells.proofs.Written.{length_written, writing_same}
+use Rattle.cells.specs.Line.{Line, Causal}
+use Rattle.cells.specs.Written.{Writing}
+use Rattle.cells.proofs.Written.{writing_same}
 use Rattle.smoother_table.specs.declared.Coefficients.{Coefficients}
 use Rattle.smoother_table.specs.Coefficients.{a1_of, b1_of, of_pair, coefficients}
 use Rattle.smoother.specs.Smoother.{formula, smooth}
@@ -47,23 +47,10 @@ causal_smooth c f g (suc (suc (suc (suc i)))) s =
       causal_smooth c f g (suc (suc i)) (λ j l. s j (omega arith)),
     )
 
--- the first n cells of s in place of those of `old`
-part_written : (n : ℕ) (s old : List Float) → n ≤ length s → n ≤ length old
-    → take n s ++ drop n old ≡ written n (line s) old
-part_written zero s old h l = refl
-part_written (suc n) [] old h l = absurd (omega arith)
-part_written (suc n) (x ∷ s) [] h l = absurd (omega arith)
-part_written (suc n) (x ∷ s) (y ∷ old) h l =
-    ap (λ (t : List Float). x ∷ t) (part_written n s old (omega arith) (omega arith))
-
 -- the first cells, copied
-pub copied : (c : Coefficients) (n : ℕ) (s old : List Float) {part : List Float} → part ≡ take n s
-    → (n ≤ 4) × (n ≤ length s) × (n ≤ length old) → Writing n (smooth c (line s)) old (part ++ drop n old)
-copied c n s old e (h, l, r) =
-    let same = part_written n s old l r in
-    let first : Writing n (line s) old (take n s ++ drop n old) =
-    record { is = same; long = ap length same ∙ length_written n (line s) old } in
-    rw e (writing_same first (λ i l. smooth_first c (line s) i (omega arith)))
+pub copied : {n : ℕ} {f : Line} {old now : List Float} (c : Coefficients) → Writing n f old now → n ≤ 4
+    → Writing n (smooth c f) old now
+copied {f = f} c w h = writing_same w (λ i l. smooth_first c f i (omega arith))
 
 -- ---- NaN
 

@@ -2,6 +2,8 @@
 #![tactic(auto)]
 
 ghost use Rattle.std.specs.Prelude.{◌≡◌, ◌≤◌, length};
+ghost use Rattle.cells.specs.Line.{line};
+ghost use Rattle.cells.specs.Written.{Writing};
 ghost use Rattle.smoother.specs.Smoother.{formula, UltimateSmootherCall};
 ghost use Rattle.smoother_table.specs.Coefficients.{coefficients};
 ghost use Rattle.smoother.specs.inner.Stages.{FirstFour, Smoothed};
@@ -15,6 +17,16 @@ pub fn step(c: Coefficients, p0: f64, p1: f64, p2: f64, us1: f64, us2: f64) -> f
     ensures { result ≡ formula c p0 p1 p2 us1 us2 }
 {
     (1.0 - c.c1) * p0 + (2.0 * c.c1 - c.c2) * p1 - (c.c1 + c.c3) * p2 + c.c2 * us1 + c.c3 * us2
+}
+
+// Copies the first n cells: a turn for each, since by `copy_from_slice` the library for C asks for `memmove`.
+fn copy(from: &[f64], n: usize, to: &mut [f64])
+    requires { (n ≤ length from.now) × (n ≤ length to.old) }
+    ensures { Writing n (line from.now) to.old to.new }
+{
+    for i in 0..n {
+        to[i] = from[i];
+    }
 }
 
 // Writes the cells from bar 4 on, where the first four stand.
@@ -39,8 +51,7 @@ pub fn write_smooth(price: &[f64], period: usize, out: &mut [f64])
     requires { (period ≤ longest_period) × (length price.now ≤ length out.old) }
     ensures { Smoothed (coefficients period) price.now out.old out.new }
 {
-    let first = price.len().min(4);
-    out[..first].copy_from_slice(&price[..first]);
+    copy(price, price.len().min(4), out);
     if price.len() > 4 {
         write_steps(price, Coefficients::of_period(period), out);
     }

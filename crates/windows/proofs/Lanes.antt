@@ -8,10 +8,10 @@ use lib.Ieee.{Float, nan, binary64, add}
 use Rattle.std.proofs.lemmas.List.{get_or-map, get_or-replicate, length-map, length-replicate}
 use Rattle.cells.specs.Line.{Line, line, minus_zero}
 use Rattle.cells.specs.Written.{Writing, written}
-use Rattle.cells.proofs.Written.{read_back, getd_untouched}
+use Rattle.cells.proofs.Written.{read_back, getd_untouched, length_written, ends}
 use Rattle.windows.specs.Window.{window_sum}
 use Rattle.windows.specs.inner.Sums.{Summing}
-use Rattle.windows.specs.inner.Lanes.{LanesOf}
+use Rattle.windows.specs.inner.Lanes.{each_plus, LanesOf}
 use Rattle.windows.proofs.Window.{none_summed, added_at, window_sum_lem}
 
 -- ---- lanes that a loop writes
@@ -76,6 +76,14 @@ more_in_lanes {a = a} {k} s w = record {
       let l = s.long in
       rw (read_back j nan w (omega arith)) (added_at (a + k + j) (s.lane j m) (omega arith));
 }
+
+-- the cells of a line's next bars in each
+pub plus_in_lanes : {N : ℕ} {f : Line} {a k : ℕ} {old now : List Float} → SummingLanes N (λ j. f) a k old
+    → now ≡ each_plus f (a + k) old → SummingLanes N (λ j. f) a (k + 1) now
+plus_in_lanes {f = f} {a} {k} {old} {now} s e =
+    let w : Writing (length old) (λ j. add binary64 (line old j) (f (a + k + j))) old now =
+    record { is = e; long = rw e (length_written (length old) _ old) } in
+    more_in_lanes s (ends w s.long)
 
 -- the windows' sums at the bars from i on, the first of which starts at bar a
 pub sums_of_lanes : {N : ℕ} {f : Line} {a k : ℕ} {lanes : List Float} (n i : ℕ) → SummingLanes N (λ j. f) a k lanes

@@ -8,7 +8,7 @@ ghost use Rattle.std.specs.Prelude.{◌≡◌, ◌+◌, ◌≤◌, length, map};
 ghost use Rattle.cells.specs.Line.{line};
 ghost use Rattle.windows.specs.Window.{sum_from, window_sum, over, mean};
 ghost use Rattle.windows.specs.inner.Windows.{Windows, WindowRoom};
-ghost use Rattle.windows.specs.inner.Lanes.{LanesOf};
+ghost use Rattle.windows.specs.inner.Lanes.{each_plus, LanesOf};
 ghost use Rattle.limits.specs.Limits.{longest_window};
 ghost use Rattle.cells.specs.Written.{Writing};
 ghost use Rattle.windows.specs.inner.RunningSums.{Opening, running_sums};
@@ -33,6 +33,17 @@ pub fn sum_at(series: &[f64], n: usize, i: usize) -> f64
     sum_more(-0.0, series, i + 1 - n, n)
 }
 
+// Each lane with one more price: the N prices from `at` on.
+pub fn added<const N: usize>(mut sums: [f64; N], series: &[f64], at: usize) -> [f64; N]
+    requires { at + N ≤ length series.now }
+    ensures { result ≡ each_plus (line series.now) at sums.entry }
+{
+    for lane in 0..N {
+        sums[lane] += series[at + lane];
+    }
+    sums
+}
+
 // The sums of the n prices up to each of the N bars from i on, each in a lane of its own.
 pub fn sums_side_by_side<const N: usize>(series: &[f64], n: usize, i: usize) -> [f64; N]
     requires { Windows n i N (length series.now) }
@@ -41,9 +52,7 @@ pub fn sums_side_by_side<const N: usize>(series: &[f64], n: usize, i: usize) -> 
     let at = i + 1 - n;
     let mut sums = [-0.0; N];
     for k in 0..n {
-        for lane in 0..N {
-            sums[lane] += series[at + k + lane];
-        }
+        sums = added(sums, series, at + k);
     }
     sums
 }

@@ -42,13 +42,13 @@ returns-then-not-accepted_from c =
     let inside = (fits from).inside in
     rw (fits_answered accepted s c.args.n (length c.args.out.now) (told from))
     (values_fail s
-    (all_passing s (both_passing (length s) c.in-Some.ensures.accept c.accepted_from.ensures (omega arith)) refl)
+    (all_passing s (both_passing (length s) c.in-Ok.ensures.accept c.accepted_from.ensures (omega arith)) refl)
     c.if-not-accepted_from.true)
 
 pub write_means-requires : goal.write_means-requires
 write_means-requires c =
     let h = fits (goal.at.write_means-requires c).Else-not-window_fits in
-    record { window = h.window; inside = h.inside; room = h.room; is = c.in-Some.ensures.sum }
+    record { window = h.window; inside = h.inside; room = h.room; is = c.in-Ok.ensures.sum }
 
 pub returns : goal.returns
 returns c =
@@ -57,6 +57,6 @@ returns c =
     let inside = (fits from).inside in
     rw (fits_answered accepted s c.args.n (length c.args.out.now) (told from))
     (values_pass s
-    (all_passing s (both_passing (length s) c.in-Some.ensures.accept c.accepted_from.ensures (omega arith)) refl)
+    (all_passing s (both_passing (length s) c.in-Ok.ensures.accept c.accepted_from.ensures (omega arith)) refl)
     c.if-not-accepted_from.false
     c.write_means.ensures)

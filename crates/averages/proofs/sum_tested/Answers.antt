@@ -1,5 +1,5 @@
 -- `sum_tested` meets its contract: the loop sums and tests eight prices a turn, and then the rest. Assumes nothing.
-use native.Mathlib.Omega.{arith}
+use Rattle.std.proofs.Common.{sym, ◌∙◌, arith}
 use lib.Ieee.{of_bits, neg}
 use Rattle.values.proofs.Part.{none_passing, both_passing, told}
 use Rattle.windows.proofs.Window.{none_summed, more_added, window_sum_lem}
@@ -15,20 +15,13 @@ loop-k-preserved c =
       more_added _ 8 _ inv.1 c.sum_more-sum.ensures (omega arith),
     )
 
-pub returns-then-accept-range_accepted : goal.returns-then-accept-range_accepted
-returns-then-accept-range_accepted c =
+pub returns : goal.returns
+returns c =
     let inv = c.loop-k.invariant in
     let n = c.args.n in
     record {
-      sum = window_sum_lem n _ (more_added _ _ n inv.1 c.sum_more.ensures (omega arith)) (omega arith);
-      accept = told c.if-accept-range_accepted.true (both_passing n inv.0 c.range_accepted.ensures (omega arith));
-    }
-
-pub returns-else-accept-range_accepted : goal.returns-else-accept-range_accepted
-returns-else-accept-range_accepted c =
-    let inv = c.loop-k.invariant in
-    let n = c.args.n in
-    record {
-      sum = tt;
-      accept = told c.if-accept-range_accepted.false (both_passing n inv.0 c.range_accepted.ensures (omega arith));
+      sum = c.tested.ensures.0
+          ∙ window_sum_lem n _ (more_added _ _ n inv.1 c.sum_more.ensures (omega arith)) (omega arith);
+      accept = told (sym c.tested.ensures.1)
+          (both_passing n inv.0 c.range_accepted-accept-2.ensures (omega arith));
     }

@@ -1,10 +1,17 @@
 -- The means and the variances of a few bars, as far as they are written to two small slices. Assumes nothing.
 use Rattle.std.specs.Prelude.{◌≡◌, List, ℕ, ◌+◌, ◌<◌, ◌≤◌, length, Float}
+use Rattle.std.specs.Float.{binary64}
+use Rattle.std.specs.Float.Ieee.{add, sub}
 use Rattle.cells.specs.Line.{Line, line, minus_zero}
-use Rattle.cells.specs.Written.{Writing}
+use Rattle.cells.specs.Written.{Writing, written}
 use Rattle.limits.specs.Limits.{Window, longest_window}
 use Rattle.windows.specs.Window.{mean}
-use Rattle.deviations.specs.Deviation.{squares_about, variance}
+use Rattle.deviations.specs.Deviation.{square, squares_about, variance}
+
+-- each lane with the square of a distance added: of the lane's cell, of those from a on, from its middle
+abbrev pub each_plus_square : Line → ℕ → List Float → List Float → List Float
+each_plus_square f a middles lanes =
+    written (length lanes) (λ k. add binary64 (line lanes k) (square (sub binary64 (f (a + k)) (line middles k)))) lanes
 
 -- for each of the N bars from i on, the squares of its last n cells about its own middle
 pub record About (N n : ℕ) (f : Line) (i : ℕ) (middles squares : List Float) : Type 0 where

@@ -118,6 +118,7 @@ pub record PricesRead (block : List ℕ) (at : ℕ) (r : Request) (got : ℕ) (o
   pub pace : run.at ≡ at + price_bytes * (run.got - got)
   pub some : got ≤ run.got
   pub forth : run.broken ≡ None → got < run.got
+  pub there : (reason : Reason) → run.broken ≡ Some reason → run.at + price_bytes ≤ length block
   pub most : run.got ≤ r.bars
   pub within : run.at ≤ length block
   pub long : length now ≡ length old

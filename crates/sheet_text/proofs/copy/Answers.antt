@@ -1,57 +1,37 @@
--- `copy` meets its contract: the bytes are written behind those before them. Assumes nothing.
-use mathlib.Core.Path.{◌≡◌, refl, ap, ◌∙◌}
-use mathlib.Core.List.{List, [], ◌∷◌, ◌++◌}
-use Prim.Native.Nat.{ℕ, zero, suc, ◌+◌, ◌-◌, ◌<◌, ◌≤◌}
-use native.Mathlib.Nat.{zero-add}
+-- `copy` meets its contract: each byte is written behind those before it. Assumes nothing.
+use mathlib.Core.Path.{◌≡◌, refl}
+use mathlib.Core.List.{List}
+use Prim.Native.Nat.{ℕ, ◌+◌, ◌<◌}
+use native.Mathlib.Nat.{add-zero}
 use native.Mathlib.Omega.{arith}
-use borrow.Rule.Slice.PartMut.{mid_of, put_mid, same_len_mid}
-use lib.ListN.{length, take, drop, get_or}
-use lib.Seq.{length-take-le, get_or-take}
-use Rattle.cells.specs.Written.{written}
+use lib.ListN.{length, get_or, set, length-set}
+use Rattle.cells.proofs.Written.{step}
 use Rattle.sheet_text.specs.inner.Standing.{Copied}
 use Rattle.sheet_text.proofs.copy.Goals as goal
 
--- bytes over the first ones
-over_first : (bytes : List ℕ) (f : ℕ → ℕ) (old : List ℕ) → length bytes ≤ length old
-    → ((i : ℕ) → i < length bytes → get_or bytes i 0 ≡ f i)
-    → bytes ++ drop (length bytes) old ≡ written (length bytes) f old
-over_first [] f old h e = refl
-over_first (b ∷ bytes) f [] h e = absurd (omega arith)
-over_first (b ∷ bytes) f (x ∷ old) h e =
-    rw (e 0 (omega arith))
-    (ap (λ (t : List ℕ). f 0 ∷ t)
-    (over_first bytes (λ i. f (suc i)) old (omega arith) (λ i l. e (suc i) (omega arith))))
+module _ {text : List ℕ} {at : ℕ} {old : List ℕ} where
+  none-copied : Copied text 0 at old old
+  none-copied = record { is = λ f first w h. rw add-zero w }
 
--- bytes behind the first `at`
-behind : (at : ℕ) (bytes : List ℕ) (f : ℕ → ℕ) (old : List ℕ) → at + length bytes ≤ length old
-    → ((i : ℕ) → i < length bytes → get_or bytes i 0 ≡ f (at + i))
-    → take at (written at f old) ++ (bytes ++ drop (length bytes) (drop at (written at f old)))
-    ≡ written (at + length bytes) f old
-behind zero bytes f old h e =
-    rw zero-add (over_first bytes f old (omega arith) (λ i l. rw zero-add at (e i l)))
-behind (suc at) bytes f [] h e = absurd (omega arith)
-behind (suc at) bytes f (x ∷ old) h e =
-    let more : suc at + length bytes ≡ suc (at + length bytes) = omega arith in
-    rw more
-    (ap (λ (t : List ℕ). f 0 ∷ t) (behind at bytes (λ i. f (suc i)) old (omega arith)
-    (λ i l. let next : suc at + i ≡ suc (at + i) = omega arith in rw next at (e i l))))
+  one-copied : {i : ℕ} {now : List ℕ} → Copied text i at old now → at + i < length old
+      → Copied text (i + 1) at old (set now (at + i) (get_or text i 0))
+  one-copied {i} c l =
+      record {
+        is = λ f first w h.
+            step (at + i) (at + (i + 1)) (c.is f first w (λ j k. h j (omega arith))) (h i (omega arith))
+            (omega (arith, w.long));
+      }
 
-copied : (text : List ℕ) (count at k : ℕ) (old now : List ℕ) → now ≡ take count text
-    → length now ≡ length (mid_of at k old) → (k ≡ count) × (count ≤ length text) × (at + count ≤ length old)
-    → Copied text count at old (put_mid at k old now)
-copied text count at k old now e m (p, q, r) =
-    let bytes = take count text in
-    let long : length bytes ≡ count = length-take-le count text q in
-    record {
-      is = λ f first w h.
-          let all = behind at bytes f first (omega (arith, w.long))
-          (λ i l. get_or-take count text i 0 (omega arith) ∙ h i (omega arith)) in
-          record { is = rw (e, p, w.is) (rw long at all); long = same_len_mid at k old now m ∙ w.long };
-    }
+pub loop-i-init : goal.loop-i-init
+loop-i-init c = (refl, none-copied)
+
+pub loop-i-preserved : goal.loop-i-preserved
+loop-i-preserved c =
+    let (long, copied) = c.loop-i.invariant in
+    (simp length-set long, one-copied copied (omega arith))
 
 pub returns : goal.returns
 returns c =
-    let a = c.args in
-    let copy = c.copy_from_slice in
-    copied a.text.now a.count a.at (a.at + a.count - a.at) a.out.now copy.new.self copy.ensures.after copy.ensures.len
-    (omega arith)
+    let (long, copied) = c.loop-i.invariant in
+    let all : c.loop-i.i ≡ c.args.count = omega arith in
+    rw (← all) copied

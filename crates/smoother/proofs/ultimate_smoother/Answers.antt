@@ -1,10 +1,9 @@
 -- `ultimate_smoother` meets its contract: each answer is a line of the table, and the cells are those of the period's
 -- line. Assumes nothing.
-use Rattle.std.proofs.Common.{◌≡◌, true, Err, sym, refl, ◌∙◌, arith, rules}
+use Rattle.std.proofs.Common.{◌≡◌, Err, sym, refl, ◌∙◌, arith, rules}
 use Rattle.calls.proofs.Room.{checked_room}
 use Rattle.calls.proofs.Call.{refused, counted}
 use Rattle.checks.proofs.Steps.{stopped, went_on, refused_there, let_pass}
-use Rattle.smoother_table.specs.Period.{is_period}
 use Rattle.smoother_table.proofs.Period.{Cut, cut_period}
 use Rattle.smoother.specs.Smoother.{smoother_answer}
 use Rattle.smoother.proofs.ultimate_smoother.Goals as goal

@@ -7,12 +7,8 @@ use Rattle.smoother.proofs.write_smooth.Goals as goal
 
 pub write_steps-requires : goal.write_steps-requires
 write_steps-requires c =
-    let a = c.args in
-    let first = copied c.of_period.result c.min-first.result a.price.now a.out.now c.copy_from_slice.ensures.after
-    (omega arith) in
+    let first = copied c.of_period.result c.copy.ensures (omega arith) in
     record { some = omega arith; room = omega (arith, first.long); first = stands (ends first (omega arith)) }
 
 pub returns-else-price-gt4 : goal.returns-else-price-gt4
-returns-else-price-gt4 c =
-    let a = c.args in
-    ends (copied _ c.min-first.result a.price.now a.out.now c.copy_from_slice.ensures.after (omega arith)) (omega arith)
+returns-else-price-gt4 c = ends (copied _ c.copy.ensures (omega arith)) (omega arith)

@@ -25,7 +25,7 @@ returns c =
     let all : count ≤ length cells = omega (arith, c.requires.0, c.count_of-count.ensures) in
     let long = length-take-le count cells all in
     let printed = rw (first_positions count cells all, long) at c.print_positions.ensures in (
-      rw (← c.number.ensures, ← c.count_of-count.ensures, ← c.refusal_of.ensures)
+      rw (← c.count_of-count.ensures, ← c.refusal_of.ensures)
           (add_more c.print_head.ensures printed refl),
       ap (λ (k : ℕ). c.args.at + head_bytes + position_bytes * k) c.count_of-count.ensures,
     )

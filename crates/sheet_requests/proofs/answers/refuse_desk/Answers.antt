@@ -6,7 +6,7 @@ pub returns : goal.returns
 returns c = (
   λ series prices.
       rw c.requires.0
-      (record { state = refl; text = rw (← c.number.ensures) c.print_head.ensures; place = refl }),
+      (record { state = refl; text = c.print_head.ensures; place = refl }),
   refl,
   refl,
 )

@@ -20,6 +20,7 @@ returns-in-Err c =
       pace = inv.3.pace;
       some = omega arith;
       forth = λ e. let z : ◌≡◌ {A = ℕ} 0 1 = cc in absurd (omega arith);
+      there = λ reason e. omega (arith, inv.3.pace);
       most = omega arith;
       within = omega (arith, inv.3.pace);
       long = inv.3.long;

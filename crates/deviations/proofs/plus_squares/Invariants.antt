@@ -1,0 +1,14 @@
+-- `plus_squares` meets its contract: each turn adds a square to its lane. Assumes nothing.
+use Rattle.std.proofs.Common.{◌≡◌, ◌+◌, length}
+use lib.Ieee.{binary64, add}
+use Rattle.cells.specs.Line.{line}
+use Rattle.cells.specs.Written.{Writing}
+use Rattle.deviations.proofs.Squares.{from_middle}
+use Rattle.deviations.proofs.plus_squares.Given as goal
+
+abbrev pub invariant-loop-lane : goal.invariant-loop-lane
+invariant-loop-lane g l =
+    (l.lane-end ≡ g.row.N) × (length l.sums ≡ g.row.N)
+    × Writing l.lane
+    (λ j. add binary64 (line l.initial.sums j) (from_middle (line l.middles j) (line l.cells) (l.at + j)))
+    l.initial.sums l.sums
